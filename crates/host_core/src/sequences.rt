@@ -6,7 +6,7 @@ use std::alloc::Global;
 use std::marker::Model;
 
 /// A list. Contracts see it as the list of its items, whatever memory it has.
-#[derive(Drop)]
+#[derive(Debug, Drop)]
 pub struct Sequence<X> {
     items: Vec<X>,
 }

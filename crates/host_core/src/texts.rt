@@ -6,7 +6,7 @@ use std::alloc::Global;
 use std::marker::Model;
 
 /// A text. Contracts see it as the list of its bytes, which are valid UTF-8.
-#[derive(Drop)]
+#[derive(Debug, Drop)]
 pub struct Txt {
     text: String,
 }
