@@ -1,0 +1,12 @@
+pub mod Coding
+pub mod Configuration
+pub mod Document
+pub mod Falls
+pub mod Pairs
+pub mod Places
+pub mod Pointer
+pub mod Reading
+pub mod Shapes
+pub mod Shaping
+pub mod Texts
+pub mod Trees

@@ -1,0 +1,74 @@
+-- The document of a JSON text, or the way to what is no text, list or map.
+use Rattle.std.specs.Prelude.{ℕ, ◌+◌, List, [], ◌∷◌, if◌then◌else◌, Option, Some, None, Result, Ok, Err, decimal}
+use Rattle.std.specs.Str.{is_utf8}
+use Rattle.serde_json.specs.Data as values
+use Rattle.serde_json.specs.Read.{read}
+use Rattle.conf_doc.specs.Document.{Document, text, list, object, Items, no_items, item, Members, no_members, member}
+use Rattle.conf_doc.specs.Pointer.{pointer}
+use Rattle.conf_doc.specs.declared.reading.ReadError.{ReadError}
+use Rattle.conf_doc.specs.declared.reading.ReadError.TheVariants.{BadJson, BadKind, Memory}
+
+-- the tokens that lead from the root to a node
+abbrev pub Way : Type 0
+Way = List (List ℕ)
+
+-- what f makes of the value
+abbrev pub mapped : {A B F : Type 0} → (A → B) → Result A F → Result B F
+mapped f (Ok a) = Ok (f a)
+mapped f (Err e) = Err e
+
+-- the fault lies below this token
+abbrev pub below : {A : Type 0} → List ℕ → Result A Way → Result A Way
+below token (Ok a) = Ok a
+below token (Err way) = Err (token ∷ way)
+
+-- of two, the first fault
+abbrev pub both : {A B C F : Type 0} → (A → B → C) → Result A F → Result B F → Result C F
+both f (Ok a) (Ok b) = Ok (f a b)
+both f (Ok a) (Err e) = Err e
+both f (Err e) second = Err e
+
+-- The JSON value of bytes (RFC 8259) as serde_json reads it. Bytes that aren't UTF-8 have none.
+abbrev pub json : List ℕ → Option values.Data
+json bytes = if is_utf8 bytes then read bytes else None
+
+-- the document that the value is, or the way to its first number, true, false or null
+abbrev mutual
+  pub document_of : values.Data → Result Document Way
+  document_of values.null = Err []
+  document_of (values.boolean b) = Err []
+  document_of (values.number n) = Err []
+  document_of (values.string s) = Ok (text s)
+  document_of (values.array ds) = mapped list (items_from 0 ds)
+  document_of (values.object ms) = mapped object (members_from ms)
+
+  -- items are counted from 0
+  pub items_from : ℕ → values.Items → Result Items Way
+  items_from i values.no_items = Ok no_items
+  items_from i (values.item d ds) = both item (below (decimal i) (document_of d)) (items_from (i + 1) ds)
+
+  pub members_from : values.Members → Result Members Way
+  members_from values.no_members = Ok no_members
+  members_from (values.member k d ms) = both (member k) (below k (document_of d)) (members_from ms)
+
+abbrev kind_checked : Result Document Way → Result Document ReadError
+kind_checked (Ok d) = Ok d
+kind_checked (Err way) = Err (BadKind (pointer way))
+
+-- what a value is read as
+abbrev pub valued : values.Data → Result Document ReadError
+valued d = kind_checked (document_of d)
+
+abbrev json_checked : Option values.Data → Result Document ReadError
+json_checked None = Err BadJson
+json_checked (Some d) = valued d
+
+-- what bytes are read as
+abbrev pub reading : List ℕ → Result Document ReadError
+reading bytes = json_checked (json bytes)
+
+-- the fault that an error tells, or none for want of memory
+abbrev pub read_fault : ReadError → Option ReadError
+read_fault BadJson = Some BadJson
+read_fault (BadKind place) = Some (BadKind place)
+read_fault Memory = None

@@ -1,0 +1,36 @@
+-- The texts of documents and configurations, as serde_json writes them.
+use Rattle.std.specs.Prelude.{ℕ, List, [], ◌∷◌, ◌++◌}
+use Rattle.json.specs.Layout.{pretty}
+use Rattle.json.specs.Tree.{json_tokens}
+use Rattle.serde_json.specs.Data as values
+use Rattle.serde_json.specs.Written.{outline, compact_text}
+use Rattle.conf_doc.specs.Document.{Document, text, list, object, Items, no_items, item, Members, no_members, member}
+use Rattle.conf_doc.specs.Configuration.{tree}
+use Rattle.conf_doc.specs.declared.configuration.Config.{Config}
+
+-- the JSON value that a document is
+abbrev mutual
+  pub value : Document → values.Data
+  value (text s) = values.string s
+  value (list ds) = values.array (item_values ds)
+  value (object ms) = values.object (member_values ms)
+
+  pub item_values : Items → values.Items
+  item_values no_items = values.no_items
+  item_values (item d ds) = values.item (value d) (item_values ds)
+
+  pub member_values : Members → values.Members
+  member_values no_members = values.no_members
+  member_values (member k d ms) = values.member k (value d) (member_values ms)
+
+-- with no space
+abbrev pub compact : Document → List ℕ
+compact d = compact_text (value d)
+
+-- a line for each item and member, two spaces deeper for each level
+abbrev pub pretty_text : Document → List ℕ
+pretty_text d = pretty (json_tokens (outline (value d)))
+
+-- the pretty text of the sorted tree, and a line feed
+abbrev pub file_text : Config → List ℕ
+file_text c = pretty_text (tree c) ++ 10 ∷ []

@@ -1,0 +1,15 @@
+//! Configurations and JSON documents as values: how they are read, shaped and written.
+#![tactic(auto)]
+
+mod configuration;
+mod pairs;
+mod reading;
+mod shaping;
+mod trees;
+mod writing;
+
+pub use configuration::{Config, Entry, Table, Value};
+pub use reading::{ReadError, read_tree, tree_of_value};
+pub use shaping::{ShapeError, config_of};
+pub use trees::{Items, Members, Tree};
+pub use writing::{file_bytes, tree_bytes, tree_of};
