@@ -1,2 +1,5 @@
+pub mod Escapes
 pub mod Lists
+pub mod Parsed
 pub mod Places
+pub mod Walks

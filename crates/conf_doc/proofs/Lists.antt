@@ -1,5 +1,5 @@
 -- How a function of each item goes with an edit of the list.
-use Rattle.std.proofs.Common.{◌≡◌, ℕ, zero, suc, ◌<◌, Bool, true, List, [], ◌∷◌, ◌++◌, map, length, take, drop, set, get_or, slice_get, insert, remove, Some, Result, is_ok, if◌then◌else◌, refl, ap, ◌∙◌, arith}
+use Rattle.std.proofs.Common.{◌≡◌, ℕ, zero, suc, ◌<◌, Bool, true, List, [], ◌∷◌, ◌++◌, map, length, take, drop, set, get_or, slice_get, insert, remove, Some, Result, is_ok, if◌then◌else◌, refl, sym, ap, ◌∙◌, append_assoc, arith}
 
 module _ {A B : Type 0} (f : A → B) where
   pub map-set : (xs : List A) (i : ℕ) (x : A) → map f (set xs i x) ≡ set (map f xs) i (f x)
@@ -27,6 +27,24 @@ module _ {A B : Type 0} (f : A → B) where
   pub length-map : (xs : List A) → length (map f xs) ≡ length xs
   length-map [] = refl
   length-map (x ∷ xs) = ap suc (length-map xs)
+
+pub map-append : {A B : Type 0} (f : A → B) (xs ys : List A) → map f (xs ++ ys) ≡ map f xs ++ map f ys
+map-append f [] ys = refl
+map-append f (x ∷ xs) ys = ap (λ zs. f x ∷ zs) (map-append f xs ys)
+
+-- one more pair, and one less to come
+pub names_more : {A K V : Type 0} (key : K → List ℕ) (done : List (List ℕ × A)) (now left : List (K × V)) (e : K × V) (a : A) (new : List (List ℕ × A)) (all : List (List ℕ))
+    → map (λ m. m.0) done ++ map key (map (λ m. m.0) now) ≡ all → now ≡ e ∷ left → new ≡ done ++ (key e.0, a) ∷ [] → map (λ m. m.0) new ++ map key (map (λ m. m.0) left) ≡ all
+names_more key done now left e a new all so_far is pushed =
+    ap (λ ms. map (λ m. m.0) ms ++ map key (map (λ m. m.0) left)) pushed
+    ∙ ap (λ ms. ms ++ map key (map (λ m. m.0) left)) (map-append (λ m. m.0) done ((key e.0, a) ∷ []))
+    ∙ append_assoc (map (λ m. m.0) done) (key e.0 ∷ []) (map key (map (λ m. m.0) left))
+    ∙ ap (λ es. map (λ m. m.0) done ++ map key (map (λ m. m.0) es)) (sym is)
+    ∙ so_far
+
+pub none_left : {A : Type 0} (xs : List A) (n : ℕ) → n ≡ length xs → n ≡ 0 → xs ≡ []
+none_left [] n e z = refl
+none_left (x ∷ xs) n e z = absurd (omega arith)
 
 pub map-map : {A B C : Type 0} (g : B → C) (f : A → B) (xs : List A) → map g (map f xs) ≡ map (λ x. g (f x)) xs
 map-map g f [] = refl

@@ -1,14 +1,16 @@
 -- Pairs whose names rise: what stands at a place, and what an edit there makes.
-use Rattle.std.proofs.Common.{◌≡◌, ℕ, zero, suc, ◌<◌, ◌≤◌, ◌≢◌, Bool, true, false, cond, not, ◌&&◌, T, List, [], ◌∷◌, ◌++◌, map, length, take, drop, set, get_or, slice_get, insert, remove, filter, option_map, Option, Some, None, IsTrue, Result, Ok, Err, is_ok, if◌then◌else◌, IfOk, IfErr, HoldsAt, Ordering, Less, Equal, Greater, is_lt, is_eq, refl, sym, ap, ◌∙◌, subst, arith}
+use Rattle.std.proofs.Common.{◌≡◌, ℕ, zero, suc, ◌<◌, ◌≤◌, ◌≢◌, Bool, true, false, cond, not, ◌&&◌, T, List, [], ◌∷◌, ◌++◌, map, length, take, drop, set, get_or, slice_get, insert, remove, filter, option_map, Option, Some, None, IsTrue, Result, Ok, Err, is_ok, if◌then◌else◌, IfOk, IfErr, HoldsAt, Ordering, Less, Equal, Greater, is_lt, is_eq, String, Global, string_bytes, refl, sym, ap, ◌∙◌, subst, arith}
 use Rattle.std.specs.FinMap as finite
 use Rattle.std.specs.FinMap.Entries.{by_order, below_all, is_sorted-put, is_sorted-where_key}
 use Rattle.std.specs.FinMap.{nat_cmp-IsAntisymmetric, slice_cmp-IsAntisymmetric}
-use Rattle.std.specs.List.{AllWithin}
-use Rattle.std.specs.List.Sorted.{IsSearchInRange, IsBinarySearchResult, IsNonDecreasingBy}
+use Rattle.std.specs.List.{AllWithin, AllByRecursion}
+use Rattle.std.specs.List.Sorted.{IsSearchInRange, IsBinarySearchResult, IsNonDecreasingBy, IsStrictlySortedBy}
+use Rattle.std.specs.Map.{keys_of}
+use Rattle.std.specs.String.{string_cmp}
 use Rattle.std.specs.Cmp.{IsTotalOrder}
 use Rattle.std.specs.Cmp.Lexicographic.{nat_list_cmp_total}
 use Rattle.std.specs.Ordering.{ordering_reverse, ordering_index, eq_by_cmp}
-use Rattle.std.proofs.lemmas.Bool.{and_parts}
+use Rattle.std.proofs.lemmas.Bool.{and_parts, and_from}
 use Rattle.std.proofs.lemmas.Cmp.{tied_itself}
 use Rattle.host_core.specs.Names.{name_cmp}
 use Rattle.conf_doc.proofs.Lists.{inserted, map-map, slice_get-map}
@@ -209,6 +211,25 @@ module _ {A : Type 0} where
   pub rising_inserted : {T E : Type 0} (r : Result T E) (ps items new : List (List ℕ × A)) (name : List ℕ) (a : A) (i : ℕ) → ps ≡ items → IsRising items → IsGap ps name i → new ≡ (if is_ok r then insert items i (name, a) else items) → IsRising new
   rising_inserted (Ok t) ps items new name a i same rising gap is = subst IsRising (sym (is ∙ put_inserted ps items name a i same gap)) (rising_put items name a rising)
   rising_inserted (Err e) ps items new name a i same rising gap is = subst IsRising (sym is) rising
+
+-- names that are the keys of a sorted map rise
+module _ {A V : Type 0} where
+  below_keys : (k : String Global) (x : List ℕ) (ps : List (List ℕ × A)) (es : List (String Global × V)) → x ≡ string_bytes k → map (λ p. p.0) ps ≡ map string_bytes (keys_of es) → AllByRecursion (λ y. string_cmp k y ≡ Less) (keys_of es) → below_all name_cmp x ps ≡ true
+  below_keys k x [] es is names above = refl
+  below_keys k x (p ∷ ps) [] is names above = cc
+  below_keys k x (p ∷ ps) (e ∷ es) is names above =
+      let first : p.0 ≡ string_bytes e.0 = cc in
+      let others : map (λ p. p.0) ps ≡ map string_bytes (keys_of es) = cc in
+      (λ i. is_lt (name_cmp (is i) (first i)) && below_all name_cmp x ps) ∙ ap (λ c. is_lt c && below_all name_cmp x ps) above.0 ∙ below_keys k x ps es is others above.1
+
+  pub rising_keys : (ps : List (List ℕ × A)) (es : List (String Global × V)) → map (λ p. p.0) ps ≡ map string_bytes (keys_of es) → IsStrictlySortedBy string_cmp (keys_of es) → IsRising ps
+  unfolding IsStrictlySortedBy
+  rising_keys [] es names sorted = refl
+  rising_keys (p ∷ ps) [] names sorted = cc
+  rising_keys (p ∷ ps) (e ∷ es) names sorted =
+      let first : p.0 ≡ string_bytes e.0 = cc in
+      let others : map (λ p. p.0) ps ≡ map string_bytes (keys_of es) = cc in
+      and_from _ _ (below_keys e.0 p.0 ps es first others sorted.0) (rising_keys ps es others sorted.1)
 
 -- what a list of the same names makes of these
 module _ {A B : Type 0} (f : A → B) where

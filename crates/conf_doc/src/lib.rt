@@ -6,6 +6,7 @@ mod pairs;
 mod reading;
 mod shaping;
 mod trees;
+mod ways;
 mod writing;
 
 pub use configuration::{Config, Entry, Table, Value};

@@ -163,6 +163,22 @@ impl Members {
         }
     }
 
+    /// The members of a list that is sorted already.
+    pub(crate) fn from_sorted(members: Vec<(Txt, Tree)>) -> Members
+        requires { IsRising members.items }
+        ensures { result ≡ map (λ m. (m.0, document m.1)) members.items }
+    {
+        Members { members }
+    }
+
+    /// The whole list.
+    pub(crate) fn members(&self) -> &[(Txt, Tree)]
+        ensures list { map (λ m. (m.0, document m.1)) result.now ≡ self.now }
+        ensures rising { IsRising result.now }
+    {
+        self.members.as_slice()
+    }
+
     /// How many members there are.
     pub fn len(&self) -> usize
         ensures { result ≡ length self.now }
