@@ -2,4 +2,5 @@ pub mod Escapes
 pub mod Lists
 pub mod Parsed
 pub mod Places
+pub mod Shapings
 pub mod Walks

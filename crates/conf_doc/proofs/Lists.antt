@@ -1,5 +1,5 @@
 -- How a function of each item goes with an edit of the list.
-use Rattle.std.proofs.Common.{◌≡◌, ℕ, zero, suc, ◌<◌, Bool, true, List, [], ◌∷◌, ◌++◌, map, length, take, drop, set, get_or, slice_get, insert, remove, Some, Result, is_ok, if◌then◌else◌, refl, sym, ap, ◌∙◌, append_assoc, arith}
+use Rattle.std.proofs.Common.{◌≡◌, ℕ, zero, suc, ◌+◌, ◌<◌, add-one, drop-cons, Bool, true, List, [], ◌∷◌, ◌++◌, map, length, take, drop, set, get_or, slice_get, insert, remove, Some, Result, is_ok, if◌then◌else◌, refl, sym, ap, ◌∙◌, append_assoc, arith}
 
 module _ {A B : Type 0} (f : A → B) where
   pub map-set : (xs : List A) (i : ℕ) (x : A) → map f (set xs i x) ≡ set (map f xs) i (f x)
@@ -31,6 +31,10 @@ module _ {A B : Type 0} (f : A → B) where
 pub map-append : {A B : Type 0} (f : A → B) (xs ys : List A) → map f (xs ++ ys) ≡ map f xs ++ map f ys
 map-append f [] ys = refl
 map-append f (x ∷ xs) ys = ap (λ zs. f x ∷ zs) (map-append f xs ys)
+
+-- what is left of a list at a place
+pub drop_step : {A : Type 0} (xs : List A) (i : ℕ) (x : A) → i < length xs → x ≡ get_or xs i x → drop i xs ≡ x ∷ drop (i + 1) xs
+drop_step xs i x within is = rw add-one (drop-cons xs i x within ∙ ap (λ y. y ∷ drop (suc i) xs) (sym is))
 
 -- one more pair, and one less to come
 pub names_more : {A K V : Type 0} (key : K → List ℕ) (done : List (List ℕ × A)) (now left : List (K × V)) (e : K × V) (a : A) (new : List (List ℕ × A)) (all : List (List ℕ))
