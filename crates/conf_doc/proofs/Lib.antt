@@ -4,3 +4,4 @@ pub mod Parsed
 pub mod Places
 pub mod Shapings
 pub mod Walks
+pub mod Written

@@ -6,6 +6,7 @@ mod pairs;
 mod reading;
 mod shaping;
 mod trees;
+mod values;
 mod ways;
 mod writing;
 
