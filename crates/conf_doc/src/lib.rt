@@ -2,7 +2,6 @@
 #![tactic(auto)]
 
 mod configuration;
-mod pairs;
 mod reading;
 mod shaping;
 mod trees;

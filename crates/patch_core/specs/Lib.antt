@@ -1,0 +1,5 @@
+pub mod Apply
+pub mod Operation
+pub mod Places
+pub mod Reading
+pub mod Same
