@@ -2,6 +2,8 @@
 #![tactic(auto)]
 
 mod applying;
+mod places;
+mod walking;
 mod operations;
 mod pointers;
 mod reading;
