@@ -1,2 +1,5 @@
 pub mod Indexes
+pub mod Nodes
+pub mod Openings
+pub mod Paths
 pub mod Prefixes

@@ -1,6 +1,9 @@
 pub mod Apply
+pub mod Edits
+pub mod Gaps
 pub mod Operation
 pub mod Places
 pub mod Reading
 pub mod Same
 pub mod Spots
+pub mod Stops

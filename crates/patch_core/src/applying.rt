@@ -1,10 +1,14 @@
 //! Patches applied to trees.
+ghost use Rattle.std.specs.Prelude.{map};
 ghost use Rattle.conf_doc.specs.Trees.{document};
 ghost use Rattle.host_core.specs.Answers.{Gives};
-ghost use Rattle.patch_core.specs.Apply.{applied, plain, apply_fault};
-ghost use Rattle.patch_core.specs.Operation.{operations};
+ghost use Rattle.patch_core.specs.Apply.{applied, apply_fault, in_order, operated, plain};
+ghost use Rattle.patch_core.specs.Operation.{operation_of, operations};
 
-use crate::Patch;
+use crate::operating::operated;
+use crate::standins::copy;
+use crate::stopping::Stop;
+use crate::{Op, Patch};
 use conf_doc::Tree;
 use std::alloc::Global;
 use thiserror::Error;
@@ -38,6 +42,20 @@ pub enum ApplyError {
     Memory,
 }
 
+fn operated_all(alloc: Global, ops: &[Op], tree: Tree) -> Result<Tree, ApplyError>
+    ensures { Gives document apply_fault result (in_order operated 0 (map operation_of ops.now) (document tree)) }
+{
+    let mut tree = tree;
+    for (index, op) in ops.iter().enumerate() {
+        tree = match operated(alloc, op, tree) {
+            Ok(tree) => tree,
+            Err(Stop::Memory) => return Err(ApplyError::Memory),
+            Err(Stop::Fails(why)) => return Err(ApplyError::Failed { index, why }),
+        };
+    }
+    Ok(tree)
+}
+
 /// The tree after all operations of a patch, in order. One that fails, or that makes the tree too large,
 /// fails the whole patch. The tree given stays as it is.
 pub fn apply(alloc: Global, patch: &Patch, tree: &Tree) -> Result<Tree, ApplyError>
@@ -50,5 +68,8 @@ pub fn apply(alloc: Global, patch: &Patch, tree: &Tree) -> Result<Tree, ApplyErr
 pub fn apply_plain(alloc: Global, patch: &Patch, tree: &Tree) -> Result<Tree, ApplyError>
     ensures { Gives document apply_fault result (plain (operations patch.now) (document tree.now)) }
 {
-    Err(ApplyError::Memory)
+    match copy(tree, alloc) {
+        Ok(tree) => operated_all(alloc, patch.ops.items(), tree),
+        Err(_) => Err(ApplyError::Memory),
+    }
 }

@@ -2,8 +2,14 @@
 #![tactic(auto)]
 
 mod applying;
+mod changing;
+mod edits;
+mod gaps;
+mod standins;
 mod places;
+mod stopping;
 mod walking;
+mod operating;
 mod operations;
 mod pointers;
 mod reading;

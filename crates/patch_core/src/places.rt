@@ -5,6 +5,8 @@ ghost use Rattle.std.specs.Char.{is_ascii_digit};
 ghost use Rattle.patch_core.specs.Places.{is_dash, is_index, number, place};
 ghost use Rattle.patch_core.specs.Spots.{Stands};
 
+use host_core::Txt;
+
 /// Where a token leads at a list of a given length.
 pub enum Spot {
     /// To an item.
@@ -61,10 +63,10 @@ fn number(digits: &[u8]) -> Option<usize>
 }
 
 /// Where a token leads. An index may have any number of digits.
-pub fn place_of(token: &str, len: usize) -> Spot
+pub fn place_of(token: &Txt, len: usize) -> Spot
     ensures { Stands len result (place token.now) }
 {
-    let bytes = token.as_bytes();
+    let bytes = token.as_str().as_bytes();
     if is_dash(bytes) {
         return Spot::Dash;
     }
