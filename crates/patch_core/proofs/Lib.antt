@@ -1,5 +1,9 @@
+pub mod Counted
 pub mod Indexes
+pub mod Measured
+pub mod Measures
 pub mod Nodes
 pub mod Openings
 pub mod Paths
 pub mod Prefixes
+pub mod Settled

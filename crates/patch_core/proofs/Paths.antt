@@ -1,5 +1,5 @@
 -- Edits of what paths lead to.
-use Rattle.std.specs.Prelude.{◌≡◌, ℕ, ◌≤◌, ◌-◌, List, [], ◌∷◌, length}
+use Rattle.std.specs.Prelude.{◌≡◌, ℕ, suc, ◌≤◌, ◌-◌, List, [], ◌∷◌, length}
 use Rattle.std.proofs.Common.{refl, ap, ◌∙◌, get_or, drop, take, arith}
 use Rattle.std.proofs.Math.Seq.{take-length}
 use Rattle.conf_doc.specs.Document.{Document}
@@ -20,3 +20,7 @@ pub changed_is_after : (edit : Edit) (path : List (List ℕ)) (token : List ℕ)
 changed_is_after edit [] token d some is = absurd (omega arith)
 changed_is_after edit (first ∷ rest) token d some is =
     ap (λ (t : List ℕ). changed (edited edit) t (take (length (first ∷ rest) - 1) rest) d) is ∙ ap (λ (ts : List (List ℕ)). changed (edited edit) first ts d) (all_but_first first rest) ∙ after_is_changed edit first rest d
+
+pub one_fewer : (ts : List (List ℕ)) → 1 ≤ length ts → suc (length ts) ≡ suc (suc (length (take (length ts - 1) (drop 1 ts))))
+one_fewer [] some = absurd (omega arith)
+one_fewer (first ∷ rest) some = omega (arith, ap length (all_but_first first rest))

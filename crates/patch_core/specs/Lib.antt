@@ -1,6 +1,8 @@
 pub mod Apply
 pub mod Edits
 pub mod Gaps
+pub mod Limits
+pub mod Measures
 pub mod Operation
 pub mod Places
 pub mod Reading

@@ -2,9 +2,10 @@
 ghost use Rattle.std.specs.Prelude.{map};
 ghost use Rattle.conf_doc.specs.Trees.{document};
 ghost use Rattle.host_core.specs.Answers.{Gives};
-ghost use Rattle.patch_core.specs.Apply.{applied, apply_fault, in_order, operated, plain};
+ghost use Rattle.patch_core.specs.Apply.{applied, apply_fault, in_order, limited, operated, plain};
 ghost use Rattle.patch_core.specs.Operation.{operation_of, operations};
 
+use crate::limiting::{Weighed, limited, limited_first};
 use crate::operating::operated;
 use crate::standins::copy;
 use crate::stopping::Stop;
@@ -56,12 +57,43 @@ fn operated_all(alloc: Global, ops: &[Op], tree: Tree) -> Result<Tree, ApplyErro
     Ok(tree)
 }
 
+fn limited_rest(alloc: Global, ops: &[Op], first: Weighed) -> Result<Tree, ApplyError>
+    ensures { Gives document apply_fault result (in_order limited 1 (map operation_of ops.now) (document first.tree)) }
+{
+    let mut before = first;
+    for (i, op) in ops.iter().enumerate() {
+        before = match limited(alloc, op, before) {
+            Ok(after) => after,
+            Err(Stop::Memory) => return Err(ApplyError::Memory),
+            Err(Stop::Fails(why)) => return Err(ApplyError::Failed { index: i + 1, why }),
+        };
+    }
+    let Weighed { tree, total: _ } = before;
+    Ok(tree)
+}
+
+fn limited_all(alloc: Global, ops: &[Op], tree: Tree) -> Result<Tree, ApplyError>
+    ensures { Gives document apply_fault result (in_order limited 0 (map operation_of ops.now) (document tree)) }
+{
+    match ops {
+        [] => Ok(tree),
+        [op, rest @ ..] => match limited_first(alloc, op, tree) {
+            Ok(first) => limited_rest(alloc, rest, first),
+            Err(Stop::Memory) => Err(ApplyError::Memory),
+            Err(Stop::Fails(why)) => Err(ApplyError::Failed { index: 0, why }),
+        },
+    }
+}
+
 /// The tree after all operations of a patch, in order. One that fails, or that makes the tree too large,
 /// fails the whole patch. The tree given stays as it is.
 pub fn apply(alloc: Global, patch: &Patch, tree: &Tree) -> Result<Tree, ApplyError>
     ensures { Gives document apply_fault result (applied (operations patch.now) (document tree.now)) }
 {
-    Err(ApplyError::Memory)
+    match copy(tree, alloc) {
+        Ok(tree) => limited_all(alloc, patch.ops.items(), tree),
+        Err(_) => Err(ApplyError::Memory),
+    }
 }
 
 /// The same with no limit on the size of the tree: `TooLarge` doesn't come.

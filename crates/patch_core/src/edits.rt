@@ -5,7 +5,9 @@ ghost use Rattle.conf_doc.specs.Trees.{document};
 ghost use Rattle.host_core.specs.Answers.{Gives};
 ghost use Rattle.patch_core.specs.Apply.{below, with_added};
 ghost use Rattle.patch_core.specs.Edits.{HandsOut, IsTaken, edited, removed, replaced};
+ghost use Rattle.patch_core.specs.Measures.{IsMeasured};
 ghost use Rattle.patch_core.specs.Stops.{stop_fault};
+ghost use Rattle.patch_core.specs.declared.edits.Edit.TheVariants.{Add, Remove, Replace};
 ghost use Rattle.patch_core.specs.declared.applying.FailWhy.TheVariants.{NoTarget};
 
 use crate::FailWhy;
@@ -30,32 +32,43 @@ pub struct Edited {
     pub tree: Tree,
     /// What was removed or replaced.
     pub gone: Option<Tree>,
-}
-
-fn with_items(items: Items) -> Edited
-    ensures { document result.tree ≡ list (items_of items) }
-{
-    Edited {
-        tree: Tree::List(items),
-        gone: None,
-    }
+    /// The bytes of the name that came with it.
+    pub named: usize,
+    /// The bytes of the name that went with it.
+    pub unnamed: usize,
 }
 
 fn added_item(token: &Txt, value: Tree, mut items: Items) -> Result<Edited, Stop>
-    ensures { Gives (λ e. document e.tree) stop_fault result (with_added token.now (document value) (list (items_of items))) }
+    ensures left { Gives (λ e. document e.tree) stop_fault result (with_added token.now (document value) (list (items_of items))) }
+    ensures measured { IfOk result (λ e. IsMeasured (Add value) e 1 (list (items_of items))) }
 {
     match place_of(token, items.len()) {
         Spot::At(i) => {
             items.insert(i, value)?;
-            Ok(with_items(items))
+            Ok(Edited {
+                tree: Tree::List(items),
+                gone: None,
+                named: 0,
+                unnamed: 0,
+            })
         }
         Spot::End => {
             items.push(value)?;
-            Ok(with_items(items))
+            Ok(Edited {
+                tree: Tree::List(items),
+                gone: None,
+                named: 0,
+                unnamed: 0,
+            })
         }
         Spot::Dash => {
             items.push(value)?;
-            Ok(with_items(items))
+            Ok(Edited {
+                tree: Tree::List(items),
+                gone: None,
+                named: 0,
+                unnamed: 0,
+            })
         }
         Spot::Past => Err(Stop::Fails(FailWhy::BadIndex)),
         Spot::NoPlace => Err(Stop::Fails(FailWhy::BadIndex)),
@@ -63,12 +76,15 @@ fn added_item(token: &Txt, value: Tree, mut items: Items) -> Result<Edited, Stop
 }
 
 fn added_member(alloc: Global, token: &Txt, value: Tree, mut members: Members) -> Result<Edited, Stop>
-    ensures { Gives (λ e. document e.tree) stop_fault result (with_added token.now (document value) (object (members_of members))) }
+    ensures left { Gives (λ e. document e.tree) stop_fault result (with_added token.now (document value) (object (members_of members))) }
+    ensures measured { IfOk result (λ e. IsMeasured (Add value) e 1 (object (members_of members))) }
 {
     match members.replace(token.as_str(), value) {
         Ok(gone) => Ok(Edited {
             tree: Tree::Map(members),
             gone: Some(gone),
+            named: 0,
+            unnamed: 0,
         }),
         Err(value) => {
             let name = Txt::new(alloc, token.as_str())?;
@@ -76,13 +92,16 @@ fn added_member(alloc: Global, token: &Txt, value: Tree, mut members: Members) -
             Ok(Edited {
                 tree: Tree::Map(members),
                 gone: None,
+                named: token.as_str().len(),
+                unnamed: 0,
             })
         }
     }
 }
 
 fn added(alloc: Global, token: &Txt, value: Tree, tree: Tree) -> Result<Edited, Stop>
-    ensures { Gives (λ e. document e.tree) stop_fault result (with_added token.now (document value) (document tree)) }
+    ensures left { Gives (λ e. document e.tree) stop_fault result (with_added token.now (document value) (document tree)) }
+    ensures measured { IfOk result (λ e. IsMeasured (Add value) e 1 (document tree)) }
 {
     match tree {
         Tree::Text(_) => Err(Stop::Fails(FailWhy::NoParent)),
@@ -94,23 +113,29 @@ fn added(alloc: Global, token: &Txt, value: Tree, tree: Tree) -> Result<Edited, 
 fn removed_item(token: &Txt, mut items: Items) -> Result<Edited, FailWhy>
     ensures left { Gives (λ e. document e.tree) Some result (removed token.now (list (items_of items))) }
     ensures taken { IfOk result (λ e. IsTaken e.gone (below NoTarget token.now (list (items_of items)))) }
+    ensures measured { IfOk result (λ e. IsMeasured Remove e 1 (list (items_of items))) }
 {
     let i = item_place(FailWhy::NoTarget, token, &items)?;
     let gone = items.remove(i);
     Ok(Edited {
         tree: Tree::List(items),
         gone: Some(gone),
+        named: 0,
+        unnamed: 0,
     })
 }
 
 fn removed_member(token: &Txt, mut members: Members) -> Result<Edited, FailWhy>
     ensures left { Gives (λ e. document e.tree) Some result (removed token.now (object (members_of members))) }
     ensures taken { IfOk result (λ e. IsTaken e.gone (below NoTarget token.now (object (members_of members)))) }
+    ensures measured { IfOk result (λ e. IsMeasured Remove e 1 (object (members_of members))) }
 {
     match members.take(token.as_str()) {
         Some(gone) => Ok(Edited {
             tree: Tree::Map(members),
             gone: Some(gone),
+            named: 0,
+            unnamed: token.as_str().len(),
         }),
         None => Err(FailWhy::NoTarget),
     }
@@ -119,6 +144,7 @@ fn removed_member(token: &Txt, mut members: Members) -> Result<Edited, FailWhy>
 fn removed(token: &Txt, tree: Tree) -> Result<Edited, FailWhy>
     ensures left { Gives (λ e. document e.tree) Some result (removed token.now (document tree)) }
     ensures taken { IfOk result (λ e. IsTaken e.gone (below NoTarget token.now (document tree))) }
+    ensures measured { IfOk result (λ e. IsMeasured Remove e 1 (document tree)) }
 {
     match tree {
         Tree::Text(_) => Err(FailWhy::NoParent),
@@ -130,23 +156,29 @@ fn removed(token: &Txt, tree: Tree) -> Result<Edited, FailWhy>
 fn replaced_item(token: &Txt, value: Tree, mut items: Items) -> Result<Edited, FailWhy>
     ensures left { Gives (λ e. document e.tree) Some result (replaced token.now (document value) (list (items_of items))) }
     ensures taken { IfOk result (λ e. IsTaken e.gone (below NoTarget token.now (list (items_of items)))) }
+    ensures measured { IfOk result (λ e. IsMeasured (Replace value) e 1 (list (items_of items))) }
 {
     let i = item_place(FailWhy::NoTarget, token, &items)?;
     let gone = items.replace(i, value);
     Ok(Edited {
         tree: Tree::List(items),
         gone: Some(gone),
+        named: 0,
+        unnamed: 0,
     })
 }
 
 fn replaced_member(token: &Txt, value: Tree, mut members: Members) -> Result<Edited, FailWhy>
     ensures left { Gives (λ e. document e.tree) Some result (replaced token.now (document value) (object (members_of members))) }
     ensures taken { IfOk result (λ e. IsTaken e.gone (below NoTarget token.now (object (members_of members)))) }
+    ensures measured { IfOk result (λ e. IsMeasured (Replace value) e 1 (object (members_of members))) }
 {
     match members.replace(token.as_str(), value) {
         Ok(gone) => Ok(Edited {
             tree: Tree::Map(members),
             gone: Some(gone),
+            named: 0,
+            unnamed: 0,
         }),
         Err(_) => Err(FailWhy::NoTarget),
     }
@@ -155,6 +187,7 @@ fn replaced_member(token: &Txt, value: Tree, mut members: Members) -> Result<Edi
 fn replaced(token: &Txt, value: Tree, tree: Tree) -> Result<Edited, FailWhy>
     ensures left { Gives (λ e. document e.tree) Some result (replaced token.now (document value) (document tree)) }
     ensures taken { IfOk result (λ e. IsTaken e.gone (below NoTarget token.now (document tree))) }
+    ensures measured { IfOk result (λ e. IsMeasured (Replace value) e 1 (document tree)) }
 {
     match tree {
         Tree::Text(_) => Err(FailWhy::NoParent),
@@ -167,6 +200,7 @@ fn replaced(token: &Txt, value: Tree, tree: Tree) -> Result<Edited, FailWhy>
 pub fn edit_child(alloc: Global, token: &Txt, edit: Edit, tree: Tree) -> Result<Edited, Stop>
     ensures left { Gives (λ e. document e.tree) stop_fault result (edited edit token.now (document tree)) }
     ensures taken { IfOk result (λ e. HandsOut edit e.gone (below NoTarget token.now (document tree))) }
+    ensures measured { IfOk result (λ e. IsMeasured edit e 1 (document tree)) }
 {
     match edit {
         Edit::Add(value) => added(alloc, token, value, tree),

@@ -28,7 +28,7 @@ fn hole(alloc: Global) -> Tree {
 /// Takes out the child that a token names.
 pub fn opened(alloc: Global, token: &Txt, tree: Tree) -> Result<(Gap, Tree), FailWhy>
     ensures child { Gives (λ x. document x.1) Some result (below NoParent token.now (document tree)) }
-    ensures gap { IfOk result (λ x. IsGap x.0 token.now (document tree)) }
+    ensures gap { IfOk result (λ x. IsGap x.0 token.now (document tree) (document x.1)) }
 {
     match tree {
         Tree::Text(_) => Err(FailWhy::NoParent),
@@ -39,7 +39,7 @@ pub fn opened(alloc: Global, token: &Txt, tree: Tree) -> Result<(Gap, Tree), Fai
 
 fn opened_list(alloc: Global, token: &Txt, mut items: Items) -> Result<(Gap, Tree), FailWhy>
     ensures child { Gives (λ x. document x.1) Some result (below NoParent token.now (list (items_of items))) }
-    ensures gap { IfOk result (λ x. IsGap x.0 token.now (list (items_of items))) }
+    ensures gap { IfOk result (λ x. IsGap x.0 token.now (list (items_of items)) (document x.1)) }
 {
     let i = item_place(FailWhy::NoParent, token, &items)?;
     let child = items.replace(i, hole(alloc));
@@ -48,7 +48,7 @@ fn opened_list(alloc: Global, token: &Txt, mut items: Items) -> Result<(Gap, Tre
 
 fn opened_map(alloc: Global, token: &Txt, mut members: Members) -> Result<(Gap, Tree), FailWhy>
     ensures child { Gives (λ x. document x.1) Some result (below NoParent token.now (object (members_of members))) }
-    ensures gap { IfOk result (λ x. IsGap x.0 token.now (object (members_of members))) }
+    ensures gap { IfOk result (λ x. IsGap x.0 token.now (object (members_of members)) (document x.1)) }
 {
     match members.replace(token.as_str(), hole(alloc)) {
         Ok(child) => Ok((Gap::Member(members), child)),

@@ -9,6 +9,8 @@ mod standins;
 mod places;
 mod stopping;
 mod walking;
+mod weighing;
+mod limiting;
 mod operating;
 mod operations;
 mod pointers;

@@ -19,7 +19,7 @@ use std::alloc::Global;
 fn add(alloc: Global, path: &[Txt], value: Tree, tree: Tree) -> Result<Tree, Stop>
     ensures { Gives document stop_fault result (after_add path.now (document value) (document tree)) }
 {
-    let Edited { tree, gone: _ } = edit_at(alloc, path, Edit::Add(value), tree)?;
+    let Edited { tree, .. } = edit_at(alloc, path, Edit::Add(value), tree)?;
     Ok(tree)
 }
 
@@ -28,7 +28,7 @@ fn remove(alloc: Global, path: &[Txt], tree: Tree) -> Result<(Tree, Tree), Stop>
     ensures left { Gives (λ x. document x.0) stop_fault result (after_remove path.now (document tree)) }
     ensures taken { IfOk result (λ x. target path.now (document tree) ≡ Ok (document x.1)) }
 {
-    let Edited { tree, gone } = edit_at(alloc, path, Edit::Remove, tree)?;
+    let Edited { tree, gone, .. } = edit_at(alloc, path, Edit::Remove, tree)?;
     match gone {
         Some(gone) => Ok((tree, gone)),
         None => unreachable!(),
@@ -38,7 +38,7 @@ fn remove(alloc: Global, path: &[Txt], tree: Tree) -> Result<(Tree, Tree), Stop>
 fn replace(alloc: Global, path: &[Txt], value: Tree, tree: Tree) -> Result<Tree, Stop>
     ensures { Gives document stop_fault result (after_replace path.now (document value) (document tree)) }
 {
-    let Edited { tree, gone: _ } = edit_at(alloc, path, Edit::Replace(value), tree)?;
+    let Edited { tree, .. } = edit_at(alloc, path, Edit::Replace(value), tree)?;
     Ok(tree)
 }
 
