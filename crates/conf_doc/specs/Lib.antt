@@ -10,3 +10,4 @@ pub mod Shapes
 pub mod Shaping
 pub mod Texts
 pub mod Trees
+pub mod Ways

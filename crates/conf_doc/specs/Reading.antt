@@ -51,7 +51,7 @@ abbrev mutual
   members_from values.no_members = Ok no_members
   members_from (values.member k d ms) = both (member k) (below k (document_of d)) (members_from ms)
 
-abbrev kind_checked : Result Document Way → Result Document ReadError
+abbrev pub kind_checked : Result Document Way → Result Document ReadError
 kind_checked (Ok d) = Ok d
 kind_checked (Err way) = Err (BadKind (pointer way))
 
@@ -59,7 +59,7 @@ kind_checked (Err way) = Err (BadKind (pointer way))
 abbrev pub valued : values.Data → Result Document ReadError
 valued d = kind_checked (document_of d)
 
-abbrev json_checked : Option values.Data → Result Document ReadError
+abbrev pub json_checked : Option values.Data → Result Document ReadError
 json_checked None = Err BadJson
 json_checked (Some d) = valued d
 

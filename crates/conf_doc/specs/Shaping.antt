@@ -12,7 +12,7 @@ use Rattle.conf_doc.specs.declared.shaping.ShapeError.{ShapeError}
 use Rattle.conf_doc.specs.declared.shaping.ShapeError.TheVariants.{Shape, Memory}
 
 -- a node's own name is looked at before what stands below it
-abbrev named : {A : Type 0} → List ℕ → Result A Way → Result A Way
+abbrev pub named : {A : Type 0} → List ℕ → Result A Way → Result A Way
 named [] part = Err []
 named (b ∷ bs) part = part
 
@@ -26,7 +26,7 @@ mapping_of f (text s) = Err []
 mapping_of f (list ds) = Err []
 mapping_of f (object ms) = parts f ms
 
-abbrev text_of : Document → Result (List ℕ) Way
+abbrev pub text_of : Document → Result (List ℕ) Way
 text_of (text s) = Ok s
 text_of (list ds) = Err []
 text_of (object ms) = Err []
@@ -50,7 +50,7 @@ table_of = mapping_of entry_of
 abbrev pub configuration : Document → Result Config Way
 configuration = mapping_of table_of
 
-abbrev shape_checked : Result Config Way → Result Config ShapeError
+abbrev pub shape_checked : Result Config Way → Result Config ShapeError
 shape_checked (Ok c) = Ok c
 shape_checked (Err way) = Err (Shape (pointer way))
 

@@ -2,6 +2,7 @@
 ghost use Rattle.std.specs.Prelude.{◌≡◌, ◌<◌, [], length, map, option_map, slice_get, Some};
 ghost use Rattle.conf_doc.specs.Pairs.{find};
 
+use crate::pairs::place_of;
 use host_core::{Names, Txt};
 use std::marker::Model;
 
@@ -70,6 +71,16 @@ impl Model for Config {
 }
 
 impl Config {
+    /// The table of a name, or None where there is no such table.
+    pub fn table(&self, name: &str) -> Option<&Table>
+        ensures { option_map (λ v. v.now) result ≡ find name.now self.now }
+    {
+        match place_of(&self.tables, name) {
+            Ok(i) => Some(&self.tables[i].1),
+            Err(_) => None,
+        }
+    }
+
     /// How many tables there are.
     pub fn len(&self) -> usize
         ensures { result ≡ length self.now }
@@ -95,6 +106,16 @@ impl Config {
 }
 
 impl Table {
+    /// The entry of a key, or None where there is no such entry.
+    pub fn entry(&self, key: &str) -> Option<&Entry>
+        ensures { option_map (λ v. v.now) result ≡ find key.now self.now }
+    {
+        match place_of(&self.entries, key) {
+            Ok(i) => Some(&self.entries[i].1),
+            Err(_) => None,
+        }
+    }
+
     /// How many entries there are.
     pub fn len(&self) -> usize
         ensures { result ≡ length self.now }
@@ -120,6 +141,16 @@ impl Table {
 }
 
 impl Entry {
+    /// The value of a field, or None where there is no such field.
+    pub fn field(&self, name: &str) -> Option<&Value>
+        ensures { option_map (λ v. v.now) result ≡ find name.now self.now }
+    {
+        match place_of(&self.fields, name) {
+            Ok(i) => Some(&self.fields[i].1),
+            Err(_) => None,
+        }
+    }
+
     /// How many fields there are.
     pub fn len(&self) -> usize
         ensures { result ≡ length self.now }

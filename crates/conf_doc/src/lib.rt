@@ -2,9 +2,12 @@
 #![tactic(auto)]
 
 mod configuration;
+mod pairs;
 mod reading;
 mod shaping;
 mod trees;
+mod values;
+mod ways;
 mod writing;
 
 pub use configuration::{Config, Entry, Table, Value};

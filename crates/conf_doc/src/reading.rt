@@ -1,13 +1,16 @@
 //! JSON texts as trees.
-ghost use Rattle.std.specs.Prelude.{◌≡◌};
+ghost use Rattle.std.specs.Prelude.{◌≡◌, decimal};
 ghost use Rattle.host_core.specs.Answers.{Gives};
-ghost use Rattle.serde_json.specs.View.{view};
-ghost use Rattle.conf_doc.specs.Reading.{reading, valued, read_fault};
+ghost use Rattle.serde_json.specs.View.{view, items_view, members_view};
+ghost use Rattle.conf_doc.specs.Document.{items_of, members_of};
+ghost use Rattle.conf_doc.specs.Reading.{reading, valued, document_of, items_from, members_from, below, read_fault};
 ghost use Rattle.conf_doc.specs.Trees.{document};
+ghost use Rattle.conf_doc.specs.Ways.{located, stop_place};
 
-use crate::Tree;
+use crate::ways::Stop;
+use crate::{Items, Members, Tree};
 use host_core::Txt;
-use serde_json::Value;
+use serde_json::{Map, Value};
 use std::alloc::Global;
 use thiserror::Error;
 
@@ -29,12 +32,81 @@ pub enum ReadError {
 pub fn read_tree(alloc: Global, bytes: &[u8]) -> Result<Tree, ReadError>
     ensures { Gives document read_fault result (reading bytes.now) }
 {
-    Err(ReadError::Memory)
+    match Value::from_slice(alloc, bytes) {
+        Ok(value) => tree_of_value(alloc, value),
+        Err(error) => {
+            if error.is_memory() {
+                Err(ReadError::Memory)
+            } else {
+                Err(ReadError::BadJson)
+            }
+        }
+    }
 }
 
 /// The tree of a JSON value, whose texts are taken over and not copied. `BadJson` doesn't come.
 pub fn tree_of_value(alloc: Global, value: Value) -> Result<Tree, ReadError>
     ensures { Gives document read_fault result (valued (view value)) }
 {
-    Err(ReadError::Memory)
+    match read_value(alloc, value) {
+        Ok(tree) => Ok(tree),
+        Err(Stop::At(place)) => Err(ReadError::BadKind { place }),
+        Err(Stop::Memory) => Err(ReadError::Memory),
+    }
+}
+
+#[cycle(reading)]
+fn read_value(alloc: Global, value: Value) -> Result<Tree, Stop>
+    ensures { Gives document stop_place result (located (document_of (view value))) }
+{
+    match value {
+        Value::String(text) => Ok(Tree::Text(Txt::from(text))),
+        Value::Array(values) => Ok(Tree::List(read_items(alloc, values)?)),
+        Value::Object(values) => Ok(Tree::Map(read_members(alloc, values)?)),
+        Value::Null | Value::Bool(_) | Value::Number(_) => Err(Stop::here(alloc)),
+    }
+}
+
+#[cycle(reading)]
+fn read_items(alloc: Global, values: Vec<Value>) -> Result<Items, Stop>
+    ensures { Gives items_of stop_place result (located (items_from 0 (items_view values.items))) }
+{
+    let mut items = Items::new(alloc);
+    for value in values {
+        let tree = read_item(alloc, items.len(), value)?;
+        items.push(tree)?;
+    }
+    Ok(items)
+}
+
+#[cycle(reading)]
+fn read_item(alloc: Global, i: usize, value: Value) -> Result<Tree, Stop>
+    ensures { Gives document stop_place result (located (below (decimal i) (document_of (view value)))) }
+{
+    match read_value(alloc, value) {
+        Ok(tree) => Ok(tree),
+        Err(stop) => Err(stop.below_item(alloc, i)),
+    }
+}
+
+#[cycle(reading)]
+fn read_members(alloc: Global, values: Map<String, Value>) -> Result<Members, Stop>
+    ensures { Gives members_of stop_place result (located (members_from (members_view values.entries))) }
+{
+    let mut members = Vec::new(alloc);
+    for (name, value) in values {
+        let tree = read_member(alloc, name.as_str(), value)?;
+        members.push((Txt::from(name), tree))?;
+    }
+    Ok(Members::from_sorted(members))
+}
+
+#[cycle(reading)]
+fn read_member(alloc: Global, name: &str, value: Value) -> Result<Tree, Stop>
+    ensures { Gives document stop_place result (located (below name.now (document_of (view value)))) }
+{
+    match read_value(alloc, value) {
+        Ok(tree) => Ok(tree),
+        Err(stop) => Err(stop.below(alloc, name)),
+    }
 }

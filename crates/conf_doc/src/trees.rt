@@ -4,9 +4,11 @@ ghost use Rattle.conf_doc.specs.Document.{Document};
 ghost use Rattle.conf_doc.specs.Pairs.{find, put, without, IsRising};
 ghost use Rattle.conf_doc.specs.Trees.{document};
 
+use crate::pairs::place_of;
 use host_core::{Memory, Txt};
 use std::alloc::Global;
 use std::marker::Model;
+use std::mem;
 
 /// A JSON document (RFC 8259) whose leaves are texts. Contracts see it as its `document`.
 #[derive(Drop)]
@@ -120,6 +122,35 @@ impl Items {
         }
     }
 
+    /// Adds an item at a place up to the length. Without memory the list stays as it was.
+    pub fn insert(&mut self, i: usize, tree: Tree) -> Result<(), Memory>
+        requires { i ≤ length self.old }
+        ensures ok { OnOk result (self.new ≡ insert self.old i (document tree)) }
+        ensures err { OnErr result (self.new ≡ self.old) }
+    {
+        match self.items.insert(i, tree) {
+            Ok(()) => Ok(()),
+            Err(_) => Err(Memory),
+        }
+    }
+
+    /// Takes an item out, and closes up.
+    pub fn remove(&mut self, i: usize) -> Tree
+        requires { i < length self.old }
+        ensures taken { slice_get self.old i ≡ Some (document result) }
+        ensures rest { self.new ≡ remove self.old i }
+    {
+        self.items.remove(i)
+    }
+
+    /// Puts another item in the place of one, which is handed out.
+    pub fn replace(&mut self, i: usize, tree: Tree) -> Tree
+        requires { i < length self.old }
+        ensures taken { slice_get self.old i ≡ Some (document result) }
+        ensures put { self.new ≡ slice_set self.old i (document tree) }
+    {
+        mem::replace(&mut self.items[i], tree)
+    }
 }
 
 impl Members {
@@ -132,6 +163,22 @@ impl Members {
         }
     }
 
+    /// The members of a list that is sorted already.
+    pub(crate) fn from_sorted(members: Vec<(Txt, Tree)>) -> Members
+        requires { IsRising members.items }
+        ensures { result ≡ map (λ m. (m.0, document m.1)) members.items }
+    {
+        Members { members }
+    }
+
+    /// The whole list.
+    pub(crate) fn members(&self) -> &[(Txt, Tree)]
+        ensures list { map (λ m. (m.0, document m.1)) result.now ≡ self.now }
+        ensures rising { IsRising result.now }
+    {
+        self.members.as_slice()
+    }
+
     /// How many members there are.
     pub fn len(&self) -> usize
         ensures { result ≡ length self.now }
@@ -139,4 +186,69 @@ impl Members {
         self.members.len()
     }
 
+    /// The name at a place, counted from 0 in the order of the names.
+    pub fn name_at(&self, i: usize) -> &str
+        requires { i < length self.now }
+        ensures { slice_get (map (λ m. m.0) self.now) i ≡ Some result.now }
+    {
+        self.members[i].0.as_str()
+    }
+
+    /// What the name at a place names.
+    pub fn at(&self, i: usize) -> &Tree
+        requires { i < length self.now }
+        ensures { slice_get (map (λ m. m.1) self.now) i ≡ Some (document result.now) }
+    {
+        &self.members[i].1
+    }
+
+    /// What a name names, or None where there is no such member.
+    pub fn find(&self, name: &str) -> Option<&Tree>
+        ensures { option_map (λ t. document t.now) result ≡ find name.now self.now }
+    {
+        match place_of(&self.members, name) {
+            Ok(i) => Some(&self.members[i].1),
+            Err(_) => None,
+        }
+    }
+
+    /// Sets a member, in the place of one of that name. Without memory the members stay as they were.
+    pub fn set(&mut self, name: Txt, tree: Tree) -> Result<(), Memory>
+        ensures ok { OnOk result (self.new ≡ put name (document tree) self.old) }
+        ensures err { OnErr result (self.new ≡ self.old) }
+    {
+        match place_of(&self.members, name.as_str()) {
+            Ok(i) => {
+                drop(mem::replace(&mut self.members[i].1, tree));
+                Ok(())
+            }
+            Err(i) => match self.members.insert(i, (name, tree)) {
+                Ok(()) => Ok(()),
+                Err(_) => Err(Memory),
+            },
+        }
+    }
+
+    /// Takes the member of that name out, or answers None where there is none.
+    pub fn take(&mut self, name: &str) -> Option<Tree>
+        ensures taken { option_map document result ≡ find name.now self.old }
+        ensures rest { self.new ≡ without name.now self.old }
+    {
+        match place_of(&self.members, name) {
+            Ok(i) => Some(self.members.remove(i).1),
+            Err(_) => None,
+        }
+    }
+
+    /// Puts another document in the place of the one that a name names, which is handed out. Where there
+    /// is no such member, the document comes back.
+    pub fn replace(&mut self, name: &str, tree: Tree) -> Result<Tree, Tree>
+        ensures taken { IfOk result (λ t. (find name.now self.old ≡ Some (document t)) × (self.new ≡ put name.now (document tree) self.old)) }
+        ensures absent { IfErr result (λ t. (t ≡ tree) × (find name.now self.old ≡ None) × (self.new ≡ self.old)) }
+    {
+        match place_of(&self.members, name) {
+            Ok(i) => Ok(mem::replace(&mut self.members[i].1, tree)),
+            Err(_) => Err(tree),
+        }
+    }
 }

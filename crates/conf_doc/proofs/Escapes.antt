@@ -1,0 +1,31 @@
+-- Escaped text, a character at a time.
+use Rattle.std.proofs.Common.{◌≡◌, ◌≢◌, ℕ, ◌+◌, ◌/◌, ◌%◌, ◌<◌, ◌≤◌, Bool, true, false, cond, ltb, List, [], ◌∷◌, refl, ap, arith}
+use lib.Utf8.{encode, next}
+use Rattle.std.proofs.lemmas.Bool.Decides.{nat_tests}
+use Rattle.std.proofs.lemmas.Str.{encode_ascii}
+use Rattle.conf_doc.specs.Pointer.{escaped}
+
+keeps : (x : ℕ) (xs : List ℕ) → x ≢ 126 → x ≢ 47 → escaped xs ≡ xs → escaped (x ∷ xs) ≡ x ∷ xs
+keeps x xs a b rest = grind (arith, nat_tests)
+
+cond_keeps : (b : Bool) (xs ys : List ℕ) → escaped xs ≡ xs → escaped ys ≡ ys → escaped (cond b xs ys) ≡ cond b xs ys
+cond_keeps true xs ys p q = p
+cond_keeps false xs ys p q = q
+
+high : (x : ℕ) (xs : List ℕ) → 128 ≤ x → escaped xs ≡ xs → escaped (x ∷ xs) ≡ x ∷ xs
+high x xs large rest = keeps x xs (λ e. omega arith) (λ e. omega arith) rest
+
+-- other characters stay
+pub escaped-other : (c : ℕ) → c ≢ 126 → c ≢ 47 → escaped (encode c) ≡ encode c
+unfolding encode
+escaped-other c a b =
+    cond_keeps (ltb c 128) _ _ (keeps c [] a b refl)
+    (cond_keeps (ltb c 2048) _ _ (high (192 + c / 64) _ (omega arith) (high (next c) [] (omega arith) refl))
+    (cond_keeps (ltb c 65536) _ _ (high (224 + c / 4096) _ (omega arith) (high (next (c / 64)) _ (omega arith) (high (next c) [] (omega arith) refl)))
+    (high (240 + c / 262144) _ (omega arith) (high (next (c / 4096)) _ (omega arith) (high (next (c / 64)) _ (omega arith) (high (next c) [] (omega arith) refl))))))
+
+pub escaped-tilde : escaped (encode 126) ≡ 126 ∷ 48 ∷ []
+escaped-tilde = ap escaped (encode_ascii 126 (omega arith))
+
+pub escaped-slash : escaped (encode 47) ≡ 126 ∷ 49 ∷ []
+escaped-slash = ap escaped (encode_ascii 47 (omega arith))

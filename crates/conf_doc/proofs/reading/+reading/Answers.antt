@@ -1,0 +1,46 @@
+use Rattle.std.proofs.Common.{◌≡◌, [], ◌∷◌, ◌++◌, List, ℕ, map, length, string_bytes, sym, ap, ◌∙◌, append-nil, arith, rules}
+use Rattle.std.proofs.lemmas.Result.{err_from_is_err_and}
+use Rattle.std.specs.Map.{keys_of}
+use Rattle.serde_json.specs.View.{view, items_view, members_view}
+use Rattle.conf_doc.specs.Trees.{document}
+use Rattle.conf_doc.proofs.Lists.{map-append, names_more, none_left}
+use Rattle.conf_doc.proofs.Places.{rising_keys}
+use Rattle.conf_doc.proofs.Walks.{item_fails, item_found, items_end, member_fails, member_found, members_end}
+use Rattle.conf_doc.proofs.reading.+reading.Goals as goal
+
+pub read_items-returns-in_err-tree : goal.read_items-returns-in_err-tree
+read_items-returns-in_err-tree t c =
+    let p = err_from_is_err_and c.from_residual.result c.from_residual.ensures.1 in
+    rw (p.1, p.2) (item_fails _ _ _ _ _ _ c.loop-value.invariant _ (ap items_view c.in-Some.ensures.steps.0) c.len.ensures c.in_err-tree.ensures)
+
+pub read_items-loop-value-preserved : goal.read_items-loop-value-preserved
+read_items-loop-value-preserved t c = item_found _ _ _ _ _ _ c.loop-value.invariant _ _ (ap items_view c.in-Some.ensures.steps.0) c.len.ensures c.in_ok-tree.ensures c.in_ok-push.ensures.ok
+
+pub read_items-returns : goal.read_items-returns
+read_items-returns t c = items_end _ _ _ c.loop-value.invariant (ap items_view (none_left _ _ c.loop-value.value-iterator.rest.ok.0 c.in-None.ensures.steps.0))
+
+pub read_members-returns-in_err-tree : goal.read_members-returns-in_err-tree
+read_members-returns-in_err-tree t c =
+    let p = err_from_is_err_and c.from_residual.result c.from_residual.ensures.1 in
+    let stops = rw c.as_str.ensures.value at c.in_err-tree.ensures in
+    rw (p.1, p.2) (member_fails _ _ _ _ _ _ c.loop-name.invariant.walk _ (ap members_view c.in-Some.ensures.steps) stops)
+
+pub read_members-loop-name-preserved : goal.read_members-loop-name-preserved
+read_members-loop-name-preserved t c =
+    let l = c.loop-name in
+    let is = c.in-Some.ensures.steps in
+    let pushed = rw c.from.ensures at c.in_ok-push.ensures.items in
+    let finds = rw c.as_str.ensures.value at c.in_ok-tree.ensures in
+    let seen = ap (map (λ m. (m.0, document m.1))) pushed ∙ map-append (λ m. (m.0, document m.1)) l.members.items ((string_bytes c.in-Some.name, c.in_ok-tree.tree) ∷ []) in record {
+      walk = member_found _ _ _ _ _ _ l.invariant.walk _ _ (ap members_view is) finds seen;
+      names = names_more string_bytes _ _ _ (c.in-Some.name, c.in-Some.value) _ _ _ l.invariant.names is pushed;
+    }
+
+pub read_members-from_sorted-requires : goal.read_members-from_sorted-requires
+read_members-from_sorted-requires t c =
+    let l = c.loop-name in
+    let names = sym (append-nil _) ∙ ap (λ es. map (λ m. m.0) l.members.items ++ map string_bytes (keys_of es)) (sym c.in-None.ensures.steps.0) ∙ l.invariant.names in
+    rising_keys _ _ names c.into_iter-name-iterator.ensures.into_iter_gives.5
+
+pub read_members-returns : goal.read_members-returns
+read_members-returns t c = rw c.from_sorted.ensures (members_end _ _ _ c.loop-name.invariant.walk (ap members_view c.in-None.ensures.steps.0))

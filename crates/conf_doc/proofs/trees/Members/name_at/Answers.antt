@@ -1,0 +1,7 @@
+use Rattle.conf_doc.proofs.Lists.{length-map}
+use Rattle.conf_doc.proofs.Places.{name_at-map}
+use Rattle.conf_doc.specs.Trees.{document}
+use Rattle.conf_doc.proofs.trees.Members.name_at.Goals as goal
+
+pub returns : goal.returns
+returns c = rw (← c.self.view_is, c.as_str.ensures) (name_at-map document _ _ c.index.result.now (rw (← c.self.view_is, length-map) at c.requires) c.index.ensures)
