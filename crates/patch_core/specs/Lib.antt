@@ -3,3 +3,4 @@ pub mod Operation
 pub mod Places
 pub mod Reading
 pub mod Same
+pub mod Tokens

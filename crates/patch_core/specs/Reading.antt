@@ -7,35 +7,11 @@ use Rattle.conf_doc.specs.Document.{Document}
 use Rattle.conf_doc.specs.Reading.{Way, json, document_of, mapped, both}
 use Rattle.patch_core.specs.Apply.{◌>>=◌}
 use Rattle.patch_core.specs.Operation.{Tokens, Operation, add, remove, replace, move_to, copy_to, test}
+use Rattle.patch_core.specs.Tokens.{tokens}
 use Rattle.patch_core.specs.declared.reading.PatchWhy.{PatchWhy}
 use Rattle.patch_core.specs.declared.reading.PatchWhy.TheVariants.{NotArray, NotObject, NoOp, UnknownOp, NoPath, BadPath, NoValue, BadValue, NoFrom, BadFrom}
 use Rattle.patch_core.specs.declared.reading.PatchError.{PatchError}
 use Rattle.patch_core.specs.declared.reading.PatchError.TheVariants.{BadJson, BadPatch, Memory}
-
--- ---- pointers, from text to tokens; that it undoes `pointer` is a clause of `read_pointer`
-
--- a byte in front of the first token
-abbrev on_first : ℕ → Option Tokens → Option Tokens
-on_first b None = None
-on_first b (Some []) = None
-on_first b (Some (token ∷ rest)) = Some ((b ∷ token) ∷ rest)
-
-abbrev new_token : Option Tokens → Option Tokens
-new_token None = None
-new_token (Some tokens) = Some ([] ∷ tokens)
-
--- the rest of a token, and the tokens behind it
-abbrev pub tokens_from : List ℕ → Option Tokens
-tokens_from [] = Some ([] ∷ [])
-tokens_from (b ∷ []) = if b == 47 then Some ([] ∷ [] ∷ []) else (if b == 126 then None else Some ((b ∷ []) ∷ []))
-tokens_from (b ∷ c ∷ bs) =
-    if b == 47 then new_token (tokens_from (c ∷ bs))
-    else (if b == 126 then (if c == 48 then on_first 126 (tokens_from bs) else (if c == 49 then on_first 47 (tokens_from bs) else None))
-    else on_first b (tokens_from (c ∷ bs)))
-
-abbrev pub tokens : List ℕ → Option Tokens
-tokens [] = Some []
-tokens (b ∷ bs) = if b == 47 then tokens_from bs else None
 
 -- ---- the members of an operation
 
