@@ -2,6 +2,7 @@
 #![tactic(auto)]
 
 mod applying;
+mod elements;
 mod operations;
 mod pointers;
 mod reading;

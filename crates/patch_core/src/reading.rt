@@ -1,9 +1,17 @@
 //! JSON texts as patches.
 ghost use Rattle.host_core.specs.Answers.{Gives};
-ghost use Rattle.patch_core.specs.Operation.{operations};
-ghost use Rattle.patch_core.specs.Reading.{patch, patch_fault};
+ghost use Rattle.std.specs.Prelude.{◌≡◌, map};
+ghost use Rattle.conf_doc.specs.Reading.{json};
+ghost use Rattle.serde_json.specs.View.{view, items_view};
+ghost use Rattle.patch_core.specs.Apply.{◌>>=◌};
+ghost use Rattle.patch_core.specs.Operation.{operation_of, operations};
+ghost use Rattle.patch_core.specs.Reading.{patch, patch_fault, json_of, elements_of, operations_from, operation, at};
+ghost use Rattle.patch_core.specs.declared.reading.PatchError.TheVariants.{Memory as PatchMemory};
 
-use crate::Patch;
+use crate::elements::{ElementError, operation};
+use crate::{Op, Patch};
+use host_core::{Memory, Sequence};
+use serde_json::Value;
 use std::alloc::Global;
 use thiserror::Error;
 
@@ -44,9 +52,62 @@ pub enum PatchError {
     Memory,
 }
 
+impl From<Memory> for PatchError {
+    ghost from_gives = { λ _ e. e ≡ PatchMemory };
+
+    fn from(_error: Memory) -> PatchError {
+        PatchError::Memory
+    }
+}
+
 /// Reads a patch document (RFC 6902, section 3). Members that an operation doesn't define are ignored.
 pub fn read_patch(alloc: Global, bytes: &[u8]) -> Result<Patch, PatchError>
     ensures { Gives operations patch_fault result (patch bytes.now) }
 {
-    Err(PatchError::Memory)
+    let elements = elements_of(alloc, bytes)?;
+    let ops = operations_of(alloc, elements)?;
+    Ok(Patch { ops })
+}
+
+/// The elements of the array that the bytes hold.
+fn elements_of(alloc: Global, bytes: &[u8]) -> Result<Vec<Value>, PatchError>
+    ensures { Gives (λ v. items_view v.items) patch_fault result (json_of (json bytes.now) >>= elements_of) }
+{
+    match Value::from_slice(alloc, bytes) {
+        Ok(Value::Array(elements)) => Ok(elements),
+        Ok(_) => Err(PatchError::BadPatch {
+            index: 0,
+            why: PatchWhy::NotArray,
+        }),
+        Err(error) => {
+            if error.is_memory() {
+                Err(PatchError::Memory)
+            } else {
+                Err(PatchError::BadJson)
+            }
+        }
+    }
+}
+
+/// The operations of the elements, in order.
+fn operations_of(alloc: Global, elements: Vec<Value>) -> Result<Sequence<Op>, PatchError>
+    ensures { Gives (map operation_of) patch_fault result (operations_from 0 (items_view elements.items)) }
+{
+    let mut ops = Sequence::new(alloc);
+    for (index, element) in elements.into_iter().enumerate() {
+        let op = operation_at(alloc, index, element)?;
+        ops.push(op)?;
+    }
+    Ok(ops)
+}
+
+/// The operation of the element at a place.
+fn operation_at(alloc: Global, index: usize, element: Value) -> Result<Op, PatchError>
+    ensures { Gives operation_of patch_fault result (at index (operation (view element))) }
+{
+    match operation(alloc, element) {
+        Ok(op) => Ok(op),
+        Err(ElementError::Malformed(why)) => Err(PatchError::BadPatch { index, why }),
+        Err(ElementError::Memory) => Err(PatchError::Memory),
+    }
 }
