@@ -1,3 +1,4 @@
 pub mod Escapes
+pub mod InOrder
 pub mod Members
 pub mod RoundTrip

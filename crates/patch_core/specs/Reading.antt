@@ -83,13 +83,16 @@ operations_from i (values.item d ds) = both (λ op ops. op ∷ ops) (at i (opera
 abbrev pub elements_of : values.Data → Result values.Items PatchError
 elements_of d = at 0 (present NotArray (as_array d))
 
-abbrev pub json_of : Option values.Data → Result values.Data PatchError
-json_of None = Err BadJson
-json_of (Some d) = Ok d
+abbrev pub json_or_fault : Option values.Data → Result values.Data PatchError
+json_or_fault None = Err BadJson
+json_or_fault (Some d) = Ok d
+
+abbrev pub json_in : List ℕ → Result values.Data PatchError
+json_in bytes = json_or_fault (json bytes)
 
 -- the operations that bytes hold, or the first fault
 abbrev pub patch : List ℕ → Result (List Operation) PatchError
-patch bytes = json_of (json bytes) >>= elements_of >>= operations_from 0
+patch bytes = json_in bytes >>= elements_of >>= operations_from 0
 
 -- the fault that an error tells, or none for want of memory
 abbrev pub patch_fault : PatchError → Option PatchError

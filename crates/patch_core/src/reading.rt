@@ -1,11 +1,9 @@
 //! JSON texts as patches.
 ghost use Rattle.host_core.specs.Answers.{Gives};
 ghost use Rattle.std.specs.Prelude.{◌≡◌, map};
-ghost use Rattle.conf_doc.specs.Reading.{json};
 ghost use Rattle.serde_json.specs.View.{view, items_view};
-ghost use Rattle.patch_core.specs.Apply.{◌>>=◌};
 ghost use Rattle.patch_core.specs.Operation.{operation_of, operations};
-ghost use Rattle.patch_core.specs.Reading.{patch, patch_fault, json_of, elements_of, operations_from, operation, at};
+ghost use Rattle.patch_core.specs.Reading.{patch, patch_fault, json_in, elements_of, operations_from, operation, at};
 ghost use Rattle.patch_core.specs.declared.reading.PatchError.TheVariants.{Memory as PatchMemory};
 
 use crate::elements::{ElementError, operation};
@@ -64,21 +62,18 @@ impl From<Memory> for PatchError {
 pub fn read_patch(alloc: Global, bytes: &[u8]) -> Result<Patch, PatchError>
     ensures { Gives operations patch_fault result (patch bytes.now) }
 {
-    let elements = elements_of(alloc, bytes)?;
+    let value = json_in(alloc, bytes)?;
+    let elements = elements_of(value)?;
     let ops = operations_of(alloc, elements)?;
     Ok(Patch { ops })
 }
 
-/// The elements of the array that the bytes hold.
-fn elements_of(alloc: Global, bytes: &[u8]) -> Result<Vec<Value>, PatchError>
-    ensures { Gives (λ v. items_view v.items) patch_fault result (json_of (json bytes.now) >>= elements_of) }
+/// The JSON value of the bytes.
+fn json_in(alloc: Global, bytes: &[u8]) -> Result<Value, PatchError>
+    ensures { Gives view patch_fault result (json_in bytes.now) }
 {
     match Value::from_slice(alloc, bytes) {
-        Ok(Value::Array(elements)) => Ok(elements),
-        Ok(_) => Err(PatchError::BadPatch {
-            index: 0,
-            why: PatchWhy::NotArray,
-        }),
+        Ok(value) => Ok(value),
         Err(error) => {
             if error.is_memory() {
                 Err(PatchError::Memory)
@@ -86,6 +81,19 @@ fn elements_of(alloc: Global, bytes: &[u8]) -> Result<Vec<Value>, PatchError>
                 Err(PatchError::BadJson)
             }
         }
+    }
+}
+
+/// The elements of an array.
+fn elements_of(value: Value) -> Result<Vec<Value>, PatchError>
+    ensures { Gives (λ v. items_view v.items) patch_fault result (elements_of (view value)) }
+{
+    match value {
+        Value::Array(elements) => Ok(elements),
+        _ => Err(PatchError::BadPatch {
+            index: 0,
+            why: PatchWhy::NotArray,
+        }),
     }
 }
 
