@@ -61,9 +61,9 @@ pub IsReadUpTo-next : (part front rest plain tail code after : List ℕ) → IsR
     → unescaped (126 ∷ tail) ≡ option_map (λ ds. code ++ ds) (unescaped after) → IsReadUpTo part ((front ++ plain) ++ code) after
 IsReadUpTo-next part front rest plain tail code after so_far is lacks next = record {
   reads =
-    so_far.reads ∙ ap (λ r. option_map (λ ds. front ++ ds) (unescaped r)) is
-    ∙ ap (option_map (λ ds. front ++ ds)) (plain_front plain (126 ∷ tail) lacks ∙ ap (option_map (λ ds. plain ++ ds)) next)
-    ∙ option_map-append front plain _ ∙ option_map-append (front ++ plain) code _;
+      so_far.reads ∙ ap (λ r. option_map (λ ds. front ++ ds) (unescaped r)) is
+      ∙ ap (option_map (λ ds. front ++ ds)) (plain_front plain (126 ∷ tail) lacks ∙ ap (option_map (λ ds. plain ++ ds)) next)
+      ∙ option_map-append front plain _ ∙ option_map-append (front ++ plain) code _;
 }
 
 pub IsReadUpTo-none : (part front rest plain tail : List ℕ) → IsReadUpTo part front rest → rest ≡ plain ++ (126 ∷ tail) → Lacks 126 plain → unescaped (126 ∷ tail) ≡ None → unescaped part ≡ None

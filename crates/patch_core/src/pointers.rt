@@ -101,3 +101,46 @@ fn push_escaped<'a>(token: &mut String, behind: &'a str) -> Result<&'a str, Poin
         Err(PointerError::Malformed)
     }
 }
+
+#[cfg(test)]
+mod tests {
+    use super::*;
+    use std::test::Fail;
+
+    #[test]
+    fn texts_have_their_tokens(rt: HostRuntime) -> Result<(), Fail> {
+        let rows: [(&str, &[&str]); 15] = [
+            ("", &[]),
+            ("/foo", &["foo"]),
+            ("/foo/0", &["foo", "0"]),
+            ("/", &[""]),
+            ("/a~1b", &["a/b"]),
+            ("/c%d", &["c%d"]),
+            ("/e^f", &["e^f"]),
+            ("/g|h", &["g|h"]),
+            ("/i\\j", &["i\\j"]),
+            ("/k\"l", &["k\"l"]),
+            ("/ ", &[" "]),
+            ("/m~0n", &["m~n"]),
+            ("/a~01", &["a~1"]),
+            ("//", &["", ""]),
+            ("/PORT/Ethernet0~1é~0", &["PORT", "Ethernet0/é~"]),
+        ];
+        for (text, tokens) in rows {
+            let pointer = read_pointer(rt.alloc(), text)?;
+            assert_eq!(rt; pointer.tokens.len(), tokens.len(), "{text}");
+            for (found, token) in pointer.tokens.items().iter().zip(tokens) {
+                assert_eq!(rt; found.as_str(), *token, "{text}");
+            }
+        }
+        Ok(())
+    }
+
+    #[test]
+    fn malformed_texts_are_refused(rt: HostRuntime) {
+        for text in ["a", "/~", "/~2", "/a~", "~0", "/a/~/b", "a/"] {
+            let error = read_pointer(rt.alloc(), text).err();
+            assert_eq!(rt; error, Some(PointerError::Malformed), "{text}");
+        }
+    }
+}

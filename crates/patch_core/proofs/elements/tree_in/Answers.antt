@@ -5,4 +5,3 @@ use Rattle.patch_core.proofs.elements.tree_in.Goals as goal
 
 pub returns-in-Ok : goal.returns-in-Ok
 returns-in-Ok c = read_as (document_of (view c.args.value)) _ c.in-Ok.ensures
-

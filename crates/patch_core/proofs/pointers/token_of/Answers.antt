@@ -11,10 +11,12 @@ loop-plain-init c = (c.utf8.part, rw c.new-token.ensures.bytes (IsReadUpTo-start
 pub loop-plain-preserved : goal.loop-plain-preserved
 loop-plain-preserved c =
     let parts = split_parts 126 c.loop-plain.rest.now (Some (c.in-Some.plain, c.in-Some.behind)) c.in-Some.ensures.cases (lit< tt) in
-    let escape = c.in_ok-rest.ensures.ok in
-    (search rules, rw (escape.1, c.in_ok-push_str.ensures.bytes)
-        (IsReadUpTo-next c.args.part.now (string_bytes c.loop-plain.token) c.loop-plain.rest.now c.in-Some.plain.now c.in-Some.behind.now escape.0 c.in_ok-rest.rest.now
-        c.loop-plain.invariant.1 parts.0 parts.1 escape.2))
+    let escape = c.in_ok-rest.ensures.ok in (
+      search rules,
+      rw (escape.1, c.in_ok-push_str.ensures.bytes)
+          (IsReadUpTo-next c.args.part.now (string_bytes c.loop-plain.token) c.loop-plain.rest.now c.in-Some.plain.now c.in-Some.behind.now escape.0 c.in_ok-rest.rest.now
+          c.loop-plain.invariant.1 parts.0 parts.1 escape.2),
+    )
 
 pub returns : goal.returns
 returns c =

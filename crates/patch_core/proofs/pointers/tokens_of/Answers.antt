@@ -17,11 +17,11 @@ returns-in_err-token c =
 
 pub loop-part-preserved : goal.loop-part-preserved
 loop-part-preserved c = (
-      tt,
-      tt,
-      rw (map-append (λ part. part.now) c.loop-part.yielded (c.in-Some.part ∷ []), c.in_ok-push.ensures.ok)
-        (all_unescaped-push (map (λ part. part.now) c.loop-part.yielded) c.in-Some.part.now c.loop-part.tokens c.in_ok-token.token c.loop-part.invariant.2 (or_malformed_ok _ _ c.in_ok-token.ensures)),
-    )
+  tt,
+  tt,
+  rw (map-append (λ part. part.now) c.loop-part.yielded (c.in-Some.part ∷ []), c.in_ok-push.ensures.ok)
+      (all_unescaped-push (map (λ part. part.now) c.loop-part.yielded) c.in-Some.part.now c.loop-part.tokens c.in_ok-token.token c.loop-part.invariant.2 (or_malformed_ok _ _ c.in_ok-token.ensures)),
+)
 
 pub returns : goal.returns
 returns c =

@@ -23,11 +23,11 @@ returns-in_err-op c =
 
 pub loop-index-preserved : goal.loop-index-preserved
 loop-index-preserved c = (
-      search rules,
-      search rules,
-      all_read-push c.loop-index.yielded (c.in-Some.index, c.in-Some.element) (map operation_of c.loop-index.ops) (operation_of c.in_ok-op.op) c.loop-index.invariant.2 c.in_ok-op.ensures
+  search rules,
+  search rules,
+  all_read-push c.loop-index.yielded (c.in-Some.index, c.in-Some.element) (map operation_of c.loop-index.ops) (operation_of c.in_ok-op.op) c.loop-index.invariant.2 c.in_ok-op.ensures
       ∙ ap Ok (sym (map-append operation_of c.loop-index.ops (c.in_ok-op.op ∷ []))) ∙ ap (λ ops. Ok (map operation_of ops)) (sym c.in_ok-push.ensures.ok),
-    )
+)
 
 pub returns : goal.returns
 returns c =
