@@ -1,5 +1,5 @@
 -- The elements of a patch, read in order.
-use Rattle.std.proofs.Common.{◌≡◌, ◌∷◌, ◌++◌, ℕ, zero, suc, ◌+◌, ◌<◌, List, [], length, get_or, take, map, Result, Ok, Err, Option, Some, None, Bool, true, false, cond, refl, sym, ap, ◌∙◌, arith}
+use Rattle.std.proofs.Common.{◌≡◌, ◌∷◌, ◌++◌, ℕ, zero, suc, ◌+◌, ◌<◌, List, [], length, get_or, take, map, Result, Ok, Err, Some, None, Bool, true, false, cond, refl, sym, ap, ◌∙◌, arith}
 use Rattle.std.specs.List.{enumerate_from}
 use Rattle.std.specs.Str.{IsUtf8, is_utf8}
 use Rattle.std.proofs.lemmas.Str.{is_utf8-from_IsUtf8, IsUtf8-from_is_utf8}
@@ -10,7 +10,7 @@ use Rattle.serde_json.specs.View.{view, items_view}
 use Rattle.serde_json.specs.declared.value.Value.{Value}
 use Rattle.conf_doc.specs.Reading.{both, json}
 use Rattle.patch_core.specs.Operation.{Operation}
-use Rattle.patch_core.specs.Reading.{at, operation, operations_from, patch_fault, json_in}
+use Rattle.patch_core.specs.Reading.{at, operation, operations_from, patch_fault}
 use Rattle.patch_core.specs.declared.reading.PatchError.{PatchError}
 use Rattle.patch_core.specs.declared.reading.PatchError.TheVariants.{BadJson, BadPatch, Memory}
 

@@ -1,4 +1,3 @@
 pub mod Escapes
 pub mod InOrder
-pub mod Members
 pub mod RoundTrip

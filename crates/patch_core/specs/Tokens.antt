@@ -1,6 +1,6 @@
 -- JSON Pointer (RFC 6901, sections 3 and 4): from text to tokens. That it undoes `pointer` is a clause of
 -- `read_pointer`.
-use Rattle.std.specs.Prelude.{◌≡◌, ◌++◌, ℕ, List, [], ◌∷◌, map, ◌==◌, if◌then◌else◌, Option, Some, None, option_map, option_and_then, Result, Ok, Err}
+use Rattle.std.specs.Prelude.{◌≡◌, ◌++◌, ℕ, List, [], ◌∷◌, ◌==◌, if◌then◌else◌, Option, Some, None, option_map, option_and_then, Result, Ok, Err}
 use Rattle.std.specs.List.{slice_split}
 use Rattle.patch_core.specs.Operation.{Tokens}
 use Rattle.patch_core.specs.declared.pointers.PointerError.{PointerError}

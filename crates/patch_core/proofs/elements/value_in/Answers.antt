@@ -1,6 +1,5 @@
-use Rattle.std.proofs.Common.{◌≡◌, None, Some, ap, sym, ◌∙◌, option_map, codes}
-use Rattle.serde_json.specs.Find.{get_member}
-use Rattle.serde_json.specs.View.{view, members_view}
+use Rattle.std.proofs.Common.{ap, ◌∙◌, option_map, codes}
+use Rattle.serde_json.specs.View.{view}
 use Rattle.serde_json.proofs.Views.{view-lookup}
 use Rattle.patch_core.proofs.elements.value_in.Goals as goal
 

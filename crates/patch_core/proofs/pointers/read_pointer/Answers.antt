@@ -1,8 +1,8 @@
-use Rattle.std.proofs.Common.{◌≡◌, Some, None, Err, ap, sym, ◌∙◌, lit<}
+use Rattle.std.proofs.Common.{◌≡◌, Some, None, ap, sym, ◌∙◌, lit<}
 use Rattle.std.proofs.lemmas.Bool.{eqb-false}
 use Rattle.std.proofs.lemmas.Str.Pattern.{strip_prefix_char}
 use Rattle.std.proofs.lemmas.Result.{err_from_is_err_and}
-use Rattle.patch_core.specs.Tokens.{tokens, or_malformed}
+use Rattle.patch_core.specs.Tokens.{or_malformed}
 use Rattle.patch_core.specs.declared.pointers.PointerError.TheVariants.{Malformed}
 use Rattle.patch_core.proofs.Escapes.{or_malformed_ok}
 use Rattle.patch_core.proofs.RoundTrip.{pointer-tokens, tokens-none, pointer-none, tokens-slash, malformed_below}

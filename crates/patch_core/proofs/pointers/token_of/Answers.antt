@@ -1,4 +1,4 @@
-use Rattle.std.proofs.Common.{rules, [], string_bytes, sym, lit<, ap, ◌∙◌, Some, None, Err}
+use Rattle.std.proofs.Common.{rules, string_bytes, lit<, ap, ◌∙◌, Some, None, Err}
 use Rattle.std.proofs.lemmas.Str.Pattern.{split_parts}
 use Rattle.std.proofs.lemmas.Result.{err_from_is_err_and}
 use Rattle.patch_core.specs.Tokens.{or_malformed}

@@ -3,7 +3,7 @@ use Rattle.std.proofs.lemmas.Iterator.Consumers.{YieldsList-at, YieldsList-turn,
 use Rattle.std.proofs.lemmas.Iterator.Splits.{YieldsList-from_str_split}
 use Rattle.std.proofs.lemmas.List.{map-append}
 use Rattle.std.proofs.lemmas.Result.{err_from_is_err_and}
-use Rattle.patch_core.specs.Tokens.{or_malformed, all_unescaped, parts_of}
+use Rattle.patch_core.specs.Tokens.{or_malformed, parts_of}
 use Rattle.patch_core.proofs.Escapes.{all_unescaped-push, fails_with, or_malformed_ok}
 use Rattle.patch_core.proofs.pointers.tokens_of.Goals as goal
 
