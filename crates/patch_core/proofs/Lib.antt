@@ -1,4 +1,6 @@
 pub mod Counted
+pub mod Escapes
+pub mod InOrder
 pub mod Indexes
 pub mod Measured
 pub mod Measures
@@ -6,4 +8,5 @@ pub mod Nodes
 pub mod Openings
 pub mod Paths
 pub mod Prefixes
+pub mod RoundTrip
 pub mod Settled

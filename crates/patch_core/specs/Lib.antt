@@ -9,3 +9,4 @@ pub mod Reading
 pub mod Same
 pub mod Spots
 pub mod Stops
+pub mod Tokens

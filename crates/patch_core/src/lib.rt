@@ -4,17 +4,18 @@
 mod applying;
 mod changing;
 mod edits;
+mod elements;
 mod gaps;
-mod standins;
-mod places;
-mod stopping;
-mod walking;
-mod weighing;
 mod limiting;
 mod operating;
 mod operations;
+mod places;
 mod pointers;
 mod reading;
+mod standins;
+mod stopping;
+mod walking;
+mod weighing;
 
 pub use applying::{ApplyError, FailWhy, apply, apply_plain};
 pub use operations::{Op, Patch};
