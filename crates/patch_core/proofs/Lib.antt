@@ -1,0 +1,12 @@
+pub mod Counted
+pub mod Escapes
+pub mod InOrder
+pub mod Indexes
+pub mod Measured
+pub mod Measures
+pub mod Nodes
+pub mod Openings
+pub mod Paths
+pub mod Prefixes
+pub mod RoundTrip
+pub mod Settled

@@ -1,0 +1,33 @@
+-- Trees within the limit, and trees that are not.
+use Rattle.std.specs.Prelude.{◌≡◌, ℕ, suc, ◌+◌, ◌<◌, ◌≤◌, Bool, true, false, ◌&&◌, nat_le, Result, Ok, Err, if◌then◌else◌}
+use Rattle.std.proofs.Common.{refl, sym, ap, ◌∙◌, arith}
+use Rattle.std.proofs.lemmas.Bool.{le-leb, lt-leb}
+use Rattle.conf_doc.specs.Document.{Document, text, list, object, Items, no_items, item, Members, no_members, member, weight, items_weight, members_weight, depth, items_depth, members_depth}
+use Rattle.patch_core.specs.Apply.{◌>>=◌, fits}
+use Rattle.patch_core.specs.Limits.{limit}
+use Rattle.patch_core.specs.declared.applying.FailWhy.{FailWhy}
+use Rattle.patch_core.specs.declared.applying.FailWhy.TheVariants.{TooLarge}
+
+-- each level has a node
+mutual
+  pub depth_weighs : (d : Document) → depth d ≤ weight d
+  depth_weighs (text s) = omega arith
+  depth_weighs (list ds) = omega (arith, items_depth_weighs ds)
+  depth_weighs (object ms) = omega (arith, members_depth_weighs ms)
+
+  items_depth_weighs : (ds : Items) → items_depth ds ≤ items_weight ds
+  items_depth_weighs no_items = omega arith
+  items_depth_weighs (item d ds) = omega (arith, depth_weighs d, items_depth_weighs ds)
+
+  members_depth_weighs : (ms : Members) → members_depth ms ≤ members_weight ms
+  members_depth_weighs no_members = omega arith
+  members_depth_weighs (member k d ms) = omega (arith, depth_weighs d, members_depth_weighs ms)
+
+and_false : (b : Bool) → (b && false) ≡ false
+and_false true = refl
+and_false false = refl
+
+pub too_heavy : (r : Result Document FailWhy) (d : Document) → r ≡ Ok d → 8388608 < weight d → (r >>= limit) ≡ Err TooLarge
+too_heavy r d is heavy =
+    let no : fits d ≡ false = ap (λ (b : Bool). nat_le (depth d) 127 && b) (lt-leb (weight d) 8388608 heavy) ∙ and_false (nat_le (depth d) 127) in
+    rw (is, no) refl

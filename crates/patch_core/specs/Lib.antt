@@ -1,0 +1,12 @@
+pub mod Apply
+pub mod Edits
+pub mod Gaps
+pub mod Limits
+pub mod Measures
+pub mod Operation
+pub mod Places
+pub mod Reading
+pub mod Same
+pub mod Spots
+pub mod Stops
+pub mod Tokens
