@@ -4,5 +4,6 @@ pub mod Parsed
 pub mod Places
 pub mod Sameness
 pub mod Shapings
+pub mod Rising
 pub mod Walks
 pub mod Written
