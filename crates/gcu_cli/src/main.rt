@@ -3,6 +3,8 @@
 
 mod reading;
 mod real_host;
+#[cfg(test)]
+mod tests;
 mod words;
 
 use real_host::RealHost;
