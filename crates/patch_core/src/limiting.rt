@@ -11,8 +11,8 @@ ghost use Rattle.patch_core.specs.Stops.{stop_fault};
 
 use crate::changing::edit_at;
 use crate::edits::{Edit, Edited};
-use crate::operating::operated;
-use crate::standins::{copy, same};
+use crate::operating::{operated, same};
+use crate::standins::copy;
 use crate::stopping::Stop;
 use crate::walking::{leads_into, target};
 use crate::weighing::left_after;

@@ -4,17 +4,26 @@ ghost use Rattle.conf_doc.specs.Trees.{document};
 ghost use Rattle.host_core.specs.Answers.{Gives};
 ghost use Rattle.patch_core.specs.Apply.{after_add, after_remove, after_replace, operated, target};
 ghost use Rattle.patch_core.specs.Operation.{copy_to, move_to, operation_of, test};
+ghost use Rattle.patch_core.specs.Same.{same};
 ghost use Rattle.patch_core.specs.Stops.{stop_fault};
 
 use crate::changing::edit_at;
 use crate::edits::{Edit, Edited};
-use crate::standins::{copy, same};
+use crate::standins;
+use crate::standins::copy;
 use crate::stopping::Stop;
 use crate::walking::{leads_into, target};
 use crate::{FailWhy, Op};
 use conf_doc::Tree;
 use host_core::Txt;
 use std::alloc::Global;
+
+/// Whether two trees are the same document.
+pub fn same(value: &Tree, found: &Tree) -> bool
+    ensures { result ≡ same (document value.now) (document found.now) }
+{
+    standins::same(value, found)
+}
 
 fn add(alloc: Global, path: &[Txt], value: Tree, tree: Tree) -> Result<Tree, Stop>
     ensures { Gives document stop_fault result (after_add path.now (document value) (document tree)) }

