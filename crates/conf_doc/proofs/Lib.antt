@@ -2,6 +2,8 @@ pub mod Escapes
 pub mod Lists
 pub mod Parsed
 pub mod Places
+pub mod Sameness
 pub mod Shapings
+pub mod Rising
 pub mod Walks
 pub mod Written

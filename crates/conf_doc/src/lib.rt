@@ -2,6 +2,7 @@
 #![tactic(auto)]
 
 mod configuration;
+mod copies;
 mod pairs;
 mod reading;
 mod shaping;

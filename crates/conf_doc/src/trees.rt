@@ -233,6 +233,7 @@ impl Members {
     pub fn take(&mut self, name: &str) -> Option<Tree>
         ensures taken { option_map document result ≡ find name.now self.old }
         ensures rest { self.new ≡ without name.now self.old }
+        ensures rising { IsRising self.old }
     {
         match place_of(&self.members, name) {
             Ok(i) => Some(self.members.remove(i).1),
@@ -245,6 +246,7 @@ impl Members {
     pub fn replace(&mut self, name: &str, tree: Tree) -> Result<Tree, Tree>
         ensures taken { IfOk result (λ t. (find name.now self.old ≡ Some (document t)) × (self.new ≡ put name.now (document tree) self.old)) }
         ensures absent { IfErr result (λ t. (t ≡ tree) × (find name.now self.old ≡ None) × (self.new ≡ self.old)) }
+        ensures rising { IsRising self.old }
     {
         match place_of(&self.members, name) {
             Ok(i) => Ok(mem::replace(&mut self.members[i].1, tree)),

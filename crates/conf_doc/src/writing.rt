@@ -63,7 +63,7 @@ fn items_of_texts(alloc: Global, texts: &Names) -> Result<Items, Memory>
     Ok(items)
 }
 
-fn push_named(
+pub(crate) fn push_named(
     alloc: Global,
     members: &mut Vec<(Txt, Tree)>,
     name: &str,

@@ -1,0 +1,6 @@
+pub mod Answers
+pub mod Asked
+pub mod Form
+pub mod Forms
+pub mod Lines
+pub mod Printing

@@ -1,0 +1,16 @@
+//! What the program `gcu` does: its commands, their answers and what they print.
+#![tactic(auto)]
+
+mod answers;
+mod form;
+mod lines;
+mod outcomes;
+mod preview;
+mod printing;
+mod run_command;
+mod stored;
+#[cfg(test)]
+mod tests;
+
+pub use outcomes::{Outcome, StoredWhy};
+pub use run_command::run;

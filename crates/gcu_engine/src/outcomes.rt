@@ -1,0 +1,73 @@
+//! How a command ends.
+ghost use Rattle.std.specs.Prelude.{◌≡◌};
+ghost use Rattle.gcu_engine.specs.Lines.{number};
+
+use host_core::Txt;
+use patch_core::{FailWhy, PatchWhy};
+
+/// Why the folder stands for no configuration.
+#[derive(Clone, Copy, Debug, PartialEq, Eq)]
+pub enum StoredWhy {
+    /// There is no `config_db.json`.
+    NoFile,
+    /// It is no JSON text.
+    BadJson,
+    /// A number, true, false or null stands in it.
+    BadKind,
+    /// It isn't a map of tables of entries of fields.
+    BadShape,
+}
+
+/// How a command ended. Its number is the program's exit status, and its last line ends the output.
+#[derive(Debug, Drop)]
+pub enum Outcome {
+    /// The command did all it says.
+    Done,
+    /// There was no memory; nothing was done.
+    Memory,
+    /// The words are no command.
+    Usage,
+    /// The host counted an input fault.
+    InputFault,
+    /// The host counted a disk fault, after so many acknowledgements.
+    DiskFault { step: usize },
+    /// The host counted a print fault, after so many acknowledgements.
+    PrintFault { step: usize },
+    /// There is no such input.
+    NoInput { path: Txt },
+    /// The input has more bytes than the limit.
+    TooBig { path: Txt, limit: u64 },
+    /// The input is no JSON text.
+    BadJson { path: Txt },
+    /// An operation of the patch, counted from 0, is malformed.
+    BadPatch { index: usize, why: PatchWhy },
+    /// An operation of the patch, counted from 0, can't be applied.
+    PatchFailed { index: usize, why: FailWhy },
+    /// The patched configuration would have a wrong shape at this place, an RFC 6901 pointer.
+    TargetShape { place: Txt },
+    /// The folder stands for no configuration.
+    BadStored { why: StoredWhy },
+}
+
+impl Outcome {
+    /// The exit status.
+    pub fn status(&self) -> u8
+        ensures { result ≡ number self.now }
+    {
+        match self {
+            Outcome::Done => 0,
+            Outcome::Memory => 1,
+            Outcome::Usage => 2,
+            Outcome::InputFault => 3,
+            Outcome::DiskFault { .. } => 4,
+            Outcome::PrintFault { .. } => 5,
+            Outcome::NoInput { .. } => 7,
+            Outcome::TooBig { .. } => 8,
+            Outcome::BadJson { .. } => 9,
+            Outcome::BadPatch { .. } => 13,
+            Outcome::PatchFailed { .. } => 14,
+            Outcome::TargetShape { .. } => 15,
+            Outcome::BadStored { .. } => 25,
+        }
+    }
+}
