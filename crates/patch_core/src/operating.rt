@@ -9,8 +9,6 @@ ghost use Rattle.patch_core.specs.Stops.{stop_fault};
 
 use crate::changing::edit_at;
 use crate::edits::{Edit, Edited};
-use crate::standins;
-use crate::standins::copy;
 use crate::stopping::Stop;
 use crate::walking::{leads_into, target};
 use crate::{FailWhy, Op};
@@ -22,7 +20,7 @@ use std::alloc::Global;
 pub fn same(value: &Tree, found: &Tree) -> bool
     ensures { result ≡ same (document value.now) (document found.now) }
 {
-    standins::same(value, found)
+    value.same(found)
 }
 
 fn add(alloc: Global, path: &[Txt], value: Tree, tree: Tree) -> Result<Tree, Stop>
@@ -65,7 +63,7 @@ fn moved(alloc: Global, from: &[Txt], path: &[Txt], tree: Tree) -> Result<Tree, 
 fn copied(alloc: Global, from: &[Txt], path: &[Txt], tree: Tree) -> Result<Tree, Stop>
     ensures { Gives document stop_fault result (operated (copy_to from.now path.now) (document tree)) }
 {
-    let value = copy(target(from, &tree)?, alloc)?;
+    let value = target(from, &tree)?.copy(alloc)?;
     add(alloc, path, value, tree)
 }
 
@@ -85,7 +83,7 @@ pub fn operated(alloc: Global, op: &Op, tree: Tree) -> Result<Tree, Stop>
 {
     match op {
         Op::Add(path, value) => {
-            let value = copy(value, alloc)?;
+            let value = value.copy(alloc)?;
             add(alloc, path.tokens.items(), value, tree)
         }
         Op::Remove(path) => {
@@ -93,7 +91,7 @@ pub fn operated(alloc: Global, op: &Op, tree: Tree) -> Result<Tree, Stop>
             Ok(left)
         }
         Op::Replace(path, value) => {
-            let value = copy(value, alloc)?;
+            let value = value.copy(alloc)?;
             replace(alloc, path.tokens.items(), value, tree)
         }
         Op::Move { from, path } => moved(alloc, from.tokens.items(), path.tokens.items(), tree),
