@@ -9,4 +9,5 @@ pub mod Openings
 pub mod Paths
 pub mod Prefixes
 pub mod RoundTrip
+pub mod Sameness
 pub mod Settled

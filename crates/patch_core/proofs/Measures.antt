@@ -172,8 +172,8 @@ weight-without k c [] rising there = absurd cc
 weight-without k c (m ∷ ms) rising there =
     elim (eq_by_cmp name_cmp k m.0) as (λ b. eq_by_cmp name_cmp k m.0 ≡ b → cond b (Some m.1) (find k ms) ≡ Some c → weight_of (cond (not b) (m ∷ without k ms) (without k ms)) + weight c + length k ≡ weight_of (m ∷ ms)) [
       | true ↦ λ tie is.
-        let same : m.1 ≡ c = some_is m.1 c is in
-        omega (arith, ap weight same, ap length (tied k m.0 tie), ap weight_of (without_none k ms (once k m ms rising tie)))
+          let same : m.1 ≡ c = some_is m.1 c is in
+          omega (arith, ap weight same, ap length (tied k m.0 tie), ap weight_of (without_none k ms (once k m ms rising tie)))
       | false ↦ λ tie is. omega (arith, weight-without k c ms (rising_rest m ms rising) is)
     ] refl there
 

@@ -7,7 +7,6 @@ ghost use Rattle.patch_core.specs.Operation.{operation_of, operations};
 
 use crate::limiting::{Weighed, limited, limited_first};
 use crate::operating::operated;
-use crate::standins::copy;
 use crate::stopping::Stop;
 use crate::{Op, Patch};
 use conf_doc::Tree;
@@ -90,7 +89,7 @@ fn limited_all(alloc: Global, ops: &[Op], tree: Tree) -> Result<Tree, ApplyError
 pub fn apply(alloc: Global, patch: &Patch, tree: &Tree) -> Result<Tree, ApplyError>
     ensures { Gives document apply_fault result (applied (operations patch.now) (document tree.now)) }
 {
-    match copy(tree, alloc) {
+    match tree.copy(alloc) {
         Ok(tree) => limited_all(alloc, patch.ops.items(), tree),
         Err(_) => Err(ApplyError::Memory),
     }
@@ -100,7 +99,7 @@ pub fn apply(alloc: Global, patch: &Patch, tree: &Tree) -> Result<Tree, ApplyErr
 pub fn apply_plain(alloc: Global, patch: &Patch, tree: &Tree) -> Result<Tree, ApplyError>
     ensures { Gives document apply_fault result (plain (operations patch.now) (document tree.now)) }
 {
-    match copy(tree, alloc) {
+    match tree.copy(alloc) {
         Ok(tree) => operated_all(alloc, patch.ops.items(), tree),
         Err(_) => Err(ApplyError::Memory),
     }

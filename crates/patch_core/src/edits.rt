@@ -75,7 +75,12 @@ fn added_item(token: &Txt, value: Tree, mut items: Items) -> Result<Edited, Stop
     }
 }
 
-fn added_member(alloc: Global, token: &Txt, value: Tree, mut members: Members) -> Result<Edited, Stop>
+fn added_member(
+    alloc: Global,
+    token: &Txt,
+    value: Tree,
+    mut members: Members,
+) -> Result<Edited, Stop>
     ensures left { Gives (λ e. document e.tree) stop_fault result (with_added token.now (document value) (object (members_of members))) }
     ensures measured { IfOk result (λ e. IsMeasured (Add value) e 1 (object (members_of members))) }
 {

@@ -12,7 +12,6 @@ mod operations;
 mod places;
 mod pointers;
 mod reading;
-mod standins;
 mod stopping;
 mod walking;
 mod weighing;

@@ -11,8 +11,7 @@ ghost use Rattle.patch_core.specs.Stops.{stop_fault};
 
 use crate::changing::edit_at;
 use crate::edits::{Edit, Edited};
-use crate::operating::operated;
-use crate::standins::{copy, same};
+use crate::operating::{operated, same};
 use crate::stopping::Stop;
 use crate::walking::{leads_into, target};
 use crate::weighing::left_after;
@@ -157,7 +156,7 @@ fn move_weighed(alloc: Global, from: &[Txt], path: &[Txt], before: Weighed) -> R
 fn copy_weighed(alloc: Global, from: &[Txt], path: &[Txt], before: Weighed) -> Result<Weighed, Stop>
     ensures { Gives (λ w. document w.tree) stop_fault result (limited (copy_to from.now path.now) (document before.tree)) }
 {
-    let value = copy(target(from, &before.tree)?, alloc)?;
+    let value = target(from, &before.tree)?.copy(alloc)?;
     edit_weighed(alloc, path, Edit::Add(value), before)
 }
 
@@ -177,12 +176,12 @@ pub fn limited(alloc: Global, op: &Op, before: Weighed) -> Result<Weighed, Stop>
 {
     match op {
         Op::Add(path, value) => {
-            let value = copy(value, alloc)?;
+            let value = value.copy(alloc)?;
             edit_weighed(alloc, path.tokens.items(), Edit::Add(value), before)
         }
         Op::Remove(path) => edit_weighed(alloc, path.tokens.items(), Edit::Remove, before),
         Op::Replace(path, value) => {
-            let value = copy(value, alloc)?;
+            let value = value.copy(alloc)?;
             edit_weighed(alloc, path.tokens.items(), Edit::Replace(value), before)
         }
         Op::Move { from, path } => {

@@ -4,17 +4,24 @@ ghost use Rattle.conf_doc.specs.Trees.{document};
 ghost use Rattle.host_core.specs.Answers.{Gives};
 ghost use Rattle.patch_core.specs.Apply.{after_add, after_remove, after_replace, operated, target};
 ghost use Rattle.patch_core.specs.Operation.{copy_to, move_to, operation_of, test};
+ghost use Rattle.patch_core.specs.Same.{same};
 ghost use Rattle.patch_core.specs.Stops.{stop_fault};
 
 use crate::changing::edit_at;
 use crate::edits::{Edit, Edited};
-use crate::standins::{copy, same};
 use crate::stopping::Stop;
 use crate::walking::{leads_into, target};
 use crate::{FailWhy, Op};
 use conf_doc::Tree;
 use host_core::Txt;
 use std::alloc::Global;
+
+/// Whether two trees are the same document.
+pub fn same(value: &Tree, found: &Tree) -> bool
+    ensures { result ≡ same (document value.now) (document found.now) }
+{
+    value.same(found)
+}
 
 fn add(alloc: Global, path: &[Txt], value: Tree, tree: Tree) -> Result<Tree, Stop>
     ensures { Gives document stop_fault result (after_add path.now (document value) (document tree)) }
@@ -56,7 +63,7 @@ fn moved(alloc: Global, from: &[Txt], path: &[Txt], tree: Tree) -> Result<Tree, 
 fn copied(alloc: Global, from: &[Txt], path: &[Txt], tree: Tree) -> Result<Tree, Stop>
     ensures { Gives document stop_fault result (operated (copy_to from.now path.now) (document tree)) }
 {
-    let value = copy(target(from, &tree)?, alloc)?;
+    let value = target(from, &tree)?.copy(alloc)?;
     add(alloc, path, value, tree)
 }
 
@@ -76,7 +83,7 @@ pub fn operated(alloc: Global, op: &Op, tree: Tree) -> Result<Tree, Stop>
 {
     match op {
         Op::Add(path, value) => {
-            let value = copy(value, alloc)?;
+            let value = value.copy(alloc)?;
             add(alloc, path.tokens.items(), value, tree)
         }
         Op::Remove(path) => {
@@ -84,7 +91,7 @@ pub fn operated(alloc: Global, op: &Op, tree: Tree) -> Result<Tree, Stop>
             Ok(left)
         }
         Op::Replace(path, value) => {
-            let value = copy(value, alloc)?;
+            let value = value.copy(alloc)?;
             replace(alloc, path.tokens.items(), value, tree)
         }
         Op::Move { from, path } => moved(alloc, from.tokens.items(), path.tokens.items(), tree),

@@ -44,7 +44,11 @@ fn item_below<'a>(missing: FailWhy, token: &Txt, items: &'a Items) -> Result<&'a
     Ok(items.at(i))
 }
 
-fn member_below<'a>(missing: FailWhy, token: &Txt, members: &'a Members) -> Result<&'a Tree, FailWhy>
+fn member_below<'a>(
+    missing: FailWhy,
+    token: &Txt,
+    members: &'a Members,
+) -> Result<&'a Tree, FailWhy>
     ensures { Gives (λ t. document t.now) Some result (below missing token.now (object (members_of members.now))) }
 {
     match members.find(token.as_str()) {
