@@ -19,6 +19,7 @@ use Rattle.patch_core.specs.declared.reading.PatchError.TheVariants.{BadJson, Ba
 
 -- ---- the members of an operation
 
+-- what is there, or the fault that it is missing
 abbrev pub present : {A : Type 0} → PatchWhy → Option A → Result A PatchWhy
 present missing None = Err missing
 present missing (Some a) = Ok a
@@ -31,16 +32,20 @@ text_in missing name ms = present missing (option_and_then as_str (get_member na
 abbrev pub pointer_in : PatchWhy → PatchWhy → List ℕ → values.Members → Result Tokens PatchWhy
 pointer_in missing malformed name ms = text_in missing name ms >>= λ s. present malformed (tokens s)
 
+-- a number, true, false or null in a value is its fault
 abbrev pub document_in : Result Document Way → Result Document PatchWhy
 document_in (Ok d) = Ok d
 document_in (Err way) = Err BadValue
 
+-- the member `value`
 abbrev pub value_in : values.Members → Result Document PatchWhy
 value_in ms = present NoValue (get_member (codes "value") ms) >>= λ d. document_in (document_of d)
 
+-- the member `from`
 abbrev pub from_in : values.Members → Result Tokens PatchWhy
 from_in ms = pointer_in NoFrom BadFrom (codes "from") ms
 
+-- equal, byte by byte
 abbrev is : List ℕ → List ℕ → Bool
 is = pointwise nat_eq
 
@@ -70,6 +75,8 @@ operation_in ms =
 abbrev pub operation : values.Data → Result Operation PatchWhy
 operation d = present NotObject (as_object d) >>= operation_in
 
+-- ---- a patch
+
 -- the fault of the element i
 abbrev pub at : {A : Type 0} → ℕ → Result A PatchWhy → Result A PatchError
 at i (Ok a) = Ok a
@@ -80,13 +87,16 @@ abbrev pub operations_from : ℕ → values.Items → Result (List Operation) Pa
 operations_from i values.no_items = Ok []
 operations_from i (values.item d ds) = both (λ op ops. op ∷ ops) (at i (operation d)) (operations_from (i + 1) ds)
 
+-- the elements of an array
 abbrev pub elements_of : values.Data → Result values.Items PatchError
 elements_of d = at 0 (present NotArray (as_array d))
 
+-- bytes without a JSON value are at fault
 abbrev pub json_or_fault : Option values.Data → Result values.Data PatchError
 json_or_fault None = Err BadJson
 json_or_fault (Some d) = Ok d
 
+-- the JSON value of bytes
 abbrev pub json_in : List ℕ → Result values.Data PatchError
 json_in bytes = json_or_fault (json bytes)
 
@@ -100,7 +110,7 @@ patch_fault BadJson = Some BadJson
 patch_fault (BadPatch i why) = Some (BadPatch i why)
 patch_fault Memory = None
 
--- the same of an element
+-- the fault that an element's error tells, or none for want of memory
 abbrev pub element_fault : ElementError → Option PatchWhy
 element_fault (elements.Malformed why) = Some why
 element_fault elements.Memory = None

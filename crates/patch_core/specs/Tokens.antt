@@ -36,6 +36,7 @@ abbrev pub tokens : List ℕ → Option Tokens
 tokens [] = Some []
 tokens (b ∷ bs) = if b == 47 then all_unescaped (parts_of bs) else None
 
+-- a text without tokens is malformed
 abbrev pub or_malformed : {A : Type 0} → Option A → Result A PointerError
 or_malformed None = Err Malformed
 or_malformed (Some a) = Ok a

@@ -45,7 +45,8 @@ pub(crate) fn operation(alloc: Global, element: Value) -> Result<Op, ElementErro
 
 /// The operation that the members of an object tell.
 fn operation_in(alloc: Global, members: Map<String, Value>) -> Result<Op, ElementError>
-    ensures { Gives operation_of element_fault result (operation_in (members_view members.entries)) }
+    ensures { Gives operation_of element_fault result
+        (operation_in (members_view members.entries)) }
 {
     let name = text_in(&members, "op", PatchWhy::NoOp)?;
     let kind = kind_of(name)?;
@@ -60,7 +61,8 @@ fn completed(
     path: Pointer,
     members: Map<String, Value>,
 ) -> Result<Op, ElementError>
-    ensures { Gives operation_of element_fault result (completed kind path.tokens (members_view members.entries)) }
+    ensures { Gives operation_of element_fault result
+        (completed kind path.tokens (members_view members.entries)) }
 {
     match kind {
         Kind::Add => Ok(Op::Add(path, value_in(alloc, members)?)),
@@ -129,7 +131,8 @@ impl ElementError {
 
 /// The pointer in the member `from`.
 fn from_in(alloc: Global, members: &Map<String, Value>) -> Result<Pointer, ElementError>
-    ensures { Gives (λ p. p.tokens) element_fault result (from_in (members_view members.now.entries)) }
+    ensures { Gives (λ p. p.tokens) element_fault result
+        (from_in (members_view members.now.entries)) }
 {
     pointer_in(alloc, members, "from", PatchWhy::NoFrom, PatchWhy::BadFrom)
 }
@@ -142,7 +145,8 @@ fn pointer_in(
     missing: PatchWhy,
     malformed: PatchWhy,
 ) -> Result<Pointer, ElementError>
-    ensures { Gives (λ p. p.tokens) element_fault result (pointer_in missing malformed name.now (members_view members.now.entries)) }
+    ensures { Gives (λ p. p.tokens) element_fault result
+        (pointer_in missing malformed name.now (members_view members.now.entries)) }
 {
     let text = text_in(members, name, missing)?;
     match read_pointer(alloc, text) {
@@ -158,7 +162,8 @@ fn text_in<'m>(
     name: &str,
     missing: PatchWhy,
 ) -> Result<&'m str, ElementError>
-    ensures { Gives (λ s. s.now) element_fault result (text_in missing name.now (members_view members.now.entries)) }
+    ensures { Gives (λ s. s.now) element_fault result
+        (text_in missing name.now (members_view members.now.entries)) }
 {
     match member(members, name) {
         Some(Value::String(text)) => Ok(text.as_str()),
@@ -168,7 +173,8 @@ fn text_in<'m>(
 
 /// The value of a member.
 fn member<'m>(members: &'m Map<String, Value>, name: &str) -> Option<&'m Value>
-    ensures { option_map (λ v. view v.now) result ≡ get_member name.now (members_view members.now.entries) }
+    ensures { option_map (λ v. view v.now) result
+        ≡ get_member name.now (members_view members.now.entries) }
 {
     members.get(name)
 }

@@ -1,5 +1,5 @@
 //! JSON Pointer (RFC 6901).
-ghost use Rattle.std.specs.Prelude.{◌≡◌, ◌∷◌, ◌++◌, ℕ, List, [], encode_utf8, string_bytes, Option, Some, None, option_map, IfOk, IfSome, IfNone, IsErrOf, length, ◌<◌};
+ghost use Rattle.std.specs.Prelude.{◌≡◌, ◌∷◌, ◌<◌, ℕ, List, length, string_bytes, None, IfOk, IsErrOf};
 ghost use Rattle.conf_doc.specs.Pointer.{IsPointer};
 ghost use Rattle.host_core.specs.Answers.{Gives};
 ghost use Rattle.patch_core.specs.Tokens.{tokens, unescaped, Escapes, all_unescaped, parts_of, or_malformed, pointer_fault};
@@ -44,7 +44,8 @@ impl From<Memory> for PointerError {
 /// The tokens of a pointer's text (RFC 6901, sections 3 and 4).
 pub fn read_pointer(alloc: Global, text: &str) -> Result<Pointer, PointerError>
     ensures read { IfOk result (λ p. IsPointer text.now p.tokens) }
-    ensures malformed { IsErrOf result Malformed → (tokens : List (List ℕ)) → IsPointer text.now tokens → ⊥ }
+    ensures malformed { IsErrOf result Malformed
+        → (tokens : List (List ℕ)) → IsPointer text.now tokens → ⊥ }
     ensures decoded { Gives (λ p. p.tokens) pointer_fault result (or_malformed (tokens text.now)) }
 {
     if text.is_empty() {
@@ -61,7 +62,8 @@ pub fn read_pointer(alloc: Global, text: &str) -> Result<Pointer, PointerError>
 
 /// The tokens of a pointer's text behind its first `/`.
 fn tokens_of(alloc: Global, text: &str) -> Result<Names, PointerError>
-    ensures { Gives (λ ts. ts) pointer_fault result (or_malformed (all_unescaped (parts_of text.now))) }
+    ensures { Gives (λ ts. ts) pointer_fault result
+        (or_malformed (all_unescaped (parts_of text.now))) }
 {
     let mut tokens = Names::new(alloc);
     for part in text.split('/') {
@@ -87,7 +89,8 @@ fn token_of(alloc: Global, part: &str) -> Result<Txt, PointerError>
 
 /// Adds the character for which a `~` stands before a text, and gives what follows in that text.
 fn push_escaped<'a>(token: &mut String, behind: &'a str) -> Result<&'a str, PointerError>
-    ensures ok { IfOk result (λ after. Escapes behind.now after.now (string_bytes token.old) (string_bytes token.new)) }
+    ensures ok { IfOk result (λ after.
+        Escapes behind.now after.now (string_bytes token.old) (string_bytes token.new)) }
     ensures shorter { IfOk result (λ after. length after.now < length behind.now) }
     ensures malformed { IsErrOf result Malformed → unescaped (126 ∷ behind.now) ≡ None }
 {

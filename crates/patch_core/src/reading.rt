@@ -1,6 +1,6 @@
 //! JSON texts as patches.
-ghost use Rattle.host_core.specs.Answers.{Gives};
 ghost use Rattle.std.specs.Prelude.{◌≡◌, map};
+ghost use Rattle.host_core.specs.Answers.{Gives};
 ghost use Rattle.serde_json.specs.View.{view, items_view};
 ghost use Rattle.patch_core.specs.Operation.{operation_of, operations};
 ghost use Rattle.patch_core.specs.Reading.{patch, patch_fault, json_in, elements_of, operations_from, operation, at};
@@ -58,7 +58,8 @@ impl From<Memory> for PatchError {
     }
 }
 
-/// Reads a patch document (RFC 6902, section 3). Members that an operation doesn't define are ignored.
+/// Reads a patch document (RFC 6902, section 3). Members that an operation doesn't define are ignored,
+/// and of a member that stands twice the last counts.
 pub fn read_patch(alloc: Global, bytes: &[u8]) -> Result<Patch, PatchError>
     ensures { Gives operations patch_fault result (patch bytes.now) }
 {
@@ -99,7 +100,8 @@ fn elements_of(value: Value) -> Result<Vec<Value>, PatchError>
 
 /// The operations of the elements, in order.
 fn operations_of(alloc: Global, elements: Vec<Value>) -> Result<Sequence<Op>, PatchError>
-    ensures { Gives (map operation_of) patch_fault result (operations_from 0 (items_view elements.items)) }
+    ensures { Gives (map operation_of) patch_fault result
+        (operations_from 0 (items_view elements.items)) }
 {
     let mut ops = Sequence::new(alloc);
     for (index, element) in elements.into_iter().enumerate() {
