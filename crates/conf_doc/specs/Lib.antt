@@ -1,4 +1,5 @@
 pub mod Coding
+pub mod Configs
 pub mod Configuration
 pub mod Document
 pub mod Falls

@@ -3,6 +3,7 @@
 
 mod configuration;
 mod copies;
+mod laws;
 mod pairs;
 mod reading;
 mod shaping;
@@ -12,6 +13,7 @@ mod ways;
 mod writing;
 
 pub use configuration::{Config, Entry, Table, Value};
+pub use laws::shape_of_tree;
 pub use reading::{ReadError, read_tree, tree_of_value};
 pub use shaping::{ShapeError, config_of};
 pub use trees::{Items, Members, Tree};
