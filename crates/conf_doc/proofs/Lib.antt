@@ -2,6 +2,7 @@ pub mod Escapes
 pub mod Lists
 pub mod Parsed
 pub mod Places
+pub mod ReadBack
 pub mod RoundTrip
 pub mod Sameness
 pub mod Shapings

@@ -7,6 +7,8 @@ mod laws;
 mod pairs;
 mod reading;
 mod shaping;
+#[cfg(test)]
+mod tests;
 mod trees;
 mod values;
 mod ways;
