@@ -3,6 +3,7 @@ pub mod Lists
 pub mod Parsed
 pub mod Places
 pub mod ReadBack
+pub mod ReadTree
 pub mod RoundTrip
 pub mod Sameness
 pub mod Shapings
