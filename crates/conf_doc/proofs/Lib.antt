@@ -2,6 +2,8 @@ pub mod Escapes
 pub mod Lists
 pub mod Parsed
 pub mod Places
+pub mod ReadBack
+pub mod ReadTree
 pub mod RoundTrip
 pub mod Sameness
 pub mod Shapings

@@ -9,6 +9,7 @@ pub mod Pointer
 pub mod Reading
 pub mod Shapes
 pub mod Shaping
+pub mod Sound
 pub mod Texts
 pub mod Trees
 pub mod Ways

@@ -7,13 +7,15 @@ mod laws;
 mod pairs;
 mod reading;
 mod shaping;
+#[cfg(test)]
+mod tests;
 mod trees;
 mod values;
 mod ways;
 mod writing;
 
 pub use configuration::{Config, Entry, Table, Value};
-pub use laws::shape_of_tree;
+pub use laws::{compact_reads_back, file_reads_back, shape_of_tree};
 pub use reading::{ReadError, read_tree, tree_of_value};
 pub use shaping::{ShapeError, config_of};
 pub use trees::{Items, Members, Tree};
