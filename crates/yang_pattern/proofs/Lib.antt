@@ -1,0 +1,6 @@
+pub mod SetLemmas
+pub mod Languages
+pub mod Appending
+pub mod Joining
+pub mod Repeating
+pub mod Walking

@@ -1,0 +1,7 @@
+//! YANG patterns (RFC 7950, section 9.4.5, in a profile) and a matcher for them.
+#![tactic(auto)]
+
+mod fragments;
+mod sets;
+mod symbols;
+mod walks;
