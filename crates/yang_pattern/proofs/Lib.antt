@@ -4,3 +4,4 @@ pub mod Appending
 pub mod Joining
 pub mod Repeating
 pub mod Walking
+pub mod FrameLemmas

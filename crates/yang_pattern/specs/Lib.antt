@@ -1,3 +1,6 @@
 pub mod Symbols
 pub mod PlaceSets
 pub mod Machine
+pub mod Pattern
+pub mod Parts
+pub mod Reading

@@ -2,6 +2,8 @@
 #![tactic(auto)]
 
 mod fragments;
+mod frames;
+mod parts;
 mod sets;
 mod symbols;
 mod walks;
