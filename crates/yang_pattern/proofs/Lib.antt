@@ -5,3 +5,4 @@ pub mod Joining
 pub mod Repeating
 pub mod Walking
 pub mod FrameLemmas
+pub mod Parsing

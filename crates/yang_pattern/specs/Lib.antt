@@ -4,3 +4,4 @@ pub mod Machine
 pub mod Pattern
 pub mod Parts
 pub mod Reading
+pub mod Errors

@@ -1,9 +1,13 @@
 //! YANG patterns (RFC 7950, section 9.4.5, in a profile) and a matcher for them.
 #![tactic(auto)]
 
+mod errors;
 mod fragments;
 mod frames;
 mod parts;
+mod read_tokens;
 mod sets;
 mod symbols;
 mod walks;
+
+pub use errors::PatternError;
