@@ -6,3 +6,5 @@ pub mod Repeating
 pub mod Walking
 pub mod FrameLemmas
 pub mod Parsing
+pub mod Written
+pub mod LetterSteps

@@ -5,3 +5,5 @@ pub mod Pattern
 pub mod Parts
 pub mod Reading
 pub mod Errors
+pub mod Letters
+pub mod Classes

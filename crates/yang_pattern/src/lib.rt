@@ -1,9 +1,11 @@
 //! YANG patterns (RFC 7950, section 9.4.5, in a profile) and a matcher for them.
 #![tactic(auto)]
 
+mod classes;
 mod errors;
 mod fragments;
 mod frames;
+mod letters;
 mod parts;
 mod read_tokens;
 mod sets;

@@ -5,6 +5,7 @@ use Rattle.yang_pattern.specs.declared.frames.Reader.{Reader}
 use Rattle.yang_pattern.specs.declared.symbols.Token.{Token}
 use Rattle.yang_pattern.specs.Symbols.{reads_token, symbol_accepts}
 use Rattle.yang_pattern.specs.Reading.{start, run, read, Progress, IsReader}
+use Rattle.yang_pattern.proofs.Written.{run_sound}
 use Rattle.yang_pattern.proofs.Parsing.{run_complete, run_step, run_stop, element_at}
 use Rattle.yang_pattern.proofs.read_tokens.read_tokens.Goals as goal
 
