@@ -7,3 +7,5 @@ pub mod Reading
 pub mod Errors
 pub mod Letters
 pub mod Classes
+pub mod Counts
+pub mod Lexing

@@ -2,6 +2,7 @@
 #![tactic(auto)]
 
 mod classes;
+mod counts;
 mod errors;
 mod fragments;
 mod frames;
@@ -10,6 +11,7 @@ mod parts;
 mod read_tokens;
 mod sets;
 mod symbols;
+mod tokens;
 mod walks;
 
 pub use errors::PatternError;
