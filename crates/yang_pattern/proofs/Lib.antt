@@ -8,3 +8,4 @@ pub mod FrameLemmas
 pub mod Parsing
 pub mod Written
 pub mod LetterSteps
+pub mod LexSteps

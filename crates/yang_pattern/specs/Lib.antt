@@ -9,3 +9,5 @@ pub mod Letters
 pub mod Classes
 pub mod Counts
 pub mod Lexing
+pub mod Language
+pub mod Compiled

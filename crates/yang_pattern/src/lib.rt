@@ -8,6 +8,7 @@ mod fragments;
 mod frames;
 mod letters;
 mod parts;
+mod patterns;
 mod read_tokens;
 mod sets;
 mod symbols;
@@ -15,3 +16,4 @@ mod tokens;
 mod walks;
 
 pub use errors::PatternError;
+pub use patterns::Pattern;

@@ -155,3 +155,40 @@ fn advance(alloc: Global, mode: Mode, letter: Letter) -> Result<Option<Step>, Al
         Mode::Count(count) => Ok(in_count(count, letter)),
     }
 }
+
+/// One letter more.
+fn read_letter(tokens: &mut Vec<Token>, alloc: Global, mode: Mode, letter: Letter) -> Result<Mode, PatternError>
+    ensures ok { IfOk result (λ next. (ls : List Letter) → option_map (λ ts. tokens.new.items ++ ts) (lex next ls) ≡ option_map (λ ts. tokens.old.items ++ ts) (lex mode (letter ∷ ls))) }
+    ensures count { IfOk result (λ _. length tokens.new.items ≤ length tokens.old.items + 1) }
+    ensures bad { IfErr result (λ e. IfBad e ((ls : List Letter) → lex mode (letter ∷ ls) ≡ None)) }
+    ensures place { IfErr result (IsPlaceUpTo (length tokens.old.items)) }
+{
+    match advance(alloc, mode, letter)? {
+        None => Err(PatternError::Bad { at: tokens.len() }),
+        Some(step) => {
+            let Step { mode, token } = step;
+            if let Some(token) = token {
+                tokens.push(token)?;
+            }
+            Ok(mode)
+        }
+    }
+}
+
+/// The tokens of the letters.
+pub fn split_letters(alloc: Global, letters: &[Letter]) -> Result<Vec<Token>, PatternError>
+    ensures ok { IfOk result (λ tokens. lex Outside letters.now ≡ Some tokens.items) }
+    ensures count { IfOk result (λ tokens. length tokens.items ≤ length letters.now) }
+    ensures bad { IfErr result (λ e. IfBad e (lex Outside letters.now ≡ None)) }
+    ensures place { IfErr result (IsPlaceUpTo (length letters.now)) }
+{
+    let mut tokens = Vec::new(alloc);
+    let mut mode = Mode::Outside;
+    for letter in letters {
+        mode = read_letter(&mut tokens, alloc, mode, *letter)?;
+    }
+    match mode {
+        Mode::Outside => Ok(tokens),
+        _ => Err(PatternError::Bad { at: letters.len() }),
+    }
+}
