@@ -9,3 +9,4 @@ pub mod Parsing
 pub mod Written
 pub mod LetterSteps
 pub mod LexSteps
+pub mod Unique
