@@ -24,12 +24,12 @@ append_more old more new i x h so_far moved =
       behind = λ k l.
           let at : place_at (take (i + 1) more) k ≡ place_at more k = get_or-take (i + 1) more k nowhere (omega arith) in
           rw at (elim (cases_lt k i) [
-            inl below ↦
-              rw (get_or_append_left new (x ∷ []) nowhere (length old + k) (omega arith))
-              (subst (λ p. IsMoved (length old) p (place_at new (length old + k))) (get_or-take i more k nowhere below) (so_far.behind k (omega arith)))
-          | inr above ↦
-              let e : k ≡ i = omega arith in
-              rw (e, get_or_push new x nowhere (length old + i) count) moved
+            | inl below ↦
+                rw (get_or_append_left new (x ∷ []) nowhere (length old + k) (omega arith))
+                (subst (λ p. IsMoved (length old) p (place_at new (length old + k))) (get_or-take i more k nowhere below) (so_far.behind k (omega arith)))
+            | inr above ↦
+                let e : k ≡ i = omega arith in
+                rw (e, get_or_push new x nowhere (length old + i) count) moved
           ]);
     }
 

@@ -91,17 +91,16 @@ module _ (a b : List Place) (fits : length a + length b ≤ 1024) (fa fb : Place
 
       pub joined_within : IsWithin c fc
       joined_within =
-          let n = count_is a b fits linked same c appended in
-          (
+          let n = count_is a b fits linked same c appended in (
             λ q l h. first_is q l ∙ rw (wa.0 q l (omega arith), entered_past q l (omega arith), and_false) refl,
             λ p q h l m. elim (cases_lt p (length a)) [
-              inl x ↦ linked_past p q x l (omega arith)
-            | inr x ↦
-                let e : length a + (p - length a) ≡ p = omega arith in
-                let f : length a + (q - length a) ≡ q = omega arith in
-                subst (λ k. contains (place_at c k).follow q ≡ false) e
-                (subst (λ k. contains (place_at c (length a + (p - length a))).follow k ≡ false) f
-                (right_at a b fits linked same c appended (p - length a) (q - length a) (omega arith) (omega arith) ∙ wb.1 (p - length a) (q - length a) (omega arith) (omega arith) (omega arith)))
+              | inl x ↦ linked_past p q x l (omega arith)
+              | inr x ↦
+                  let e : length a + (p - length a) ≡ p = omega arith in
+                  let f : length a + (q - length a) ≡ q = omega arith in
+                  subst (λ k. contains (place_at c k).follow q ≡ false) e
+                  (subst (λ k. contains (place_at c (length a + (p - length a))).follow k ≡ false) f
+                  (right_at a b fits linked same c appended (p - length a) (q - length a) (omega arith) (omega arith) ∙ wb.1 (p - length a) (q - length a) (omega arith) (omega arith) (omega arith)))
             ],
           )
 
@@ -124,17 +123,16 @@ module _ (a b : List Place) (fits : length a + length b ≤ 1024) (fa fb : Place
 
     pub either_within : IsWithin c fc
     either_within =
-        let n = count_is a b fits a refl c appended in
-        (
+        let n = count_is a b fits a refl c appended in (
           λ q l h. first_is q l ∙ rw (wa.0 q l (omega arith), entered_past q l (omega arith)) refl,
           λ p q h l m. elim (cases_lt p (length a)) [
-            inl x ↦ ap (λ (y : Place). contains y.follow q) (left_is a b fits a refl c appended p x) ∙ wa.1 p q x l (omega arith)
-          | inr x ↦
-              let e : length a + (p - length a) ≡ p = omega arith in
-              let f : length a + (q - length a) ≡ q = omega arith in
-              subst (λ k. contains (place_at c k).follow q ≡ false) e
-              (subst (λ k. contains (place_at c (length a + (p - length a))).follow k ≡ false) f
-              (right_at a b fits a refl c appended (p - length a) (q - length a) (omega arith) (omega arith) ∙ wb.1 (p - length a) (q - length a) (omega arith) (omega arith) (omega arith)))
+            | inl x ↦ ap (λ (y : Place). contains y.follow q) (left_is a b fits a refl c appended p x) ∙ wa.1 p q x l (omega arith)
+            | inr x ↦
+                let e : length a + (p - length a) ≡ p = omega arith in
+                let f : length a + (q - length a) ≡ q = omega arith in
+                subst (λ k. contains (place_at c k).follow q ≡ false) e
+                (subst (λ k. contains (place_at c (length a + (p - length a))).follow k ≡ false) f
+                (right_at a b fits a refl c appended (p - length a) (q - length a) (omega arith) (omega arith) ∙ wb.1 (p - length a) (q - length a) (omega arith) (omega arith) (omega arith)))
           ],
         )
 

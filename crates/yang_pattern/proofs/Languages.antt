@@ -34,9 +34,9 @@ module _ (A B C : Machine) (j : IsJoined A B C) where
   right_to [] p l h = to_true (j.last_right p l) h
   right_to (c ∷ u) p l (q, within, follows, read, more) =
       elim (which A.count B.count q (subst (λ n. q < n) j.count within)) [
-        inl x ↦ absurd (false≢true (sym (j.back p q l x) ∙ follows))
-      | inr (k, k_within, e) ↦
-          (k, k_within, to_true (j.right p k l k_within) (subst (λ n. IsTrue (C.follow (A.count + p) n)) e follows), to_true (j.reads_right k c k_within) (subst (λ n. IsTrue (C.reads n c)) e read), right_to u k k_within (subst (λ n. After C n u) e more))
+        | inl x ↦ absurd (false≢true (sym (j.back p q l x) ∙ follows))
+        | inr (k, k_within, e) ↦
+            (k, k_within, to_true (j.right p k l k_within) (subst (λ n. IsTrue (C.follow (A.count + p) n)) e follows), to_true (j.reads_right k c k_within) (subst (λ n. IsTrue (C.reads n c)) e read), right_to u k k_within (subst (λ n. After C n u) e more))
       ]
 
   right_from : (u : List ℕ) (p : ℕ) → p < B.count → After B p u → After C (A.count + p) u
@@ -49,12 +49,12 @@ module _ (A B C : Machine) (j : IsJoined A B C) where
       let parts = and_parts (A.last p) B.empty (to_true (j.last_left p l) h) in ([], [], refl, parts.0, parts.1)
   left_to (c ∷ u) p l (q, within, follows, read, more) =
       elim (which A.count B.count q (subst (λ n. q < n) j.count within)) [
-        inl x ↦
-          let (y, z, e, in_left, in_right) = left_to u q x more in
-          (c ∷ y, z, ap (λ v. c ∷ v) e, (q, x, to_true (j.left p q l x) follows, to_true (j.reads_left q c x) read, in_left), in_right)
-      | inr (k, k_within, e) ↦
-          let parts = and_parts (A.last p) (B.first k) (to_true (j.across p k l k_within) (subst (λ n. IsTrue (C.follow p n)) e follows)) in
-          ([], c ∷ u, refl, parts.0, (k, k_within, parts.1, to_true (j.reads_right k c k_within) (subst (λ n. IsTrue (C.reads n c)) e read), right_to u k k_within (subst (λ n. After C n u) e more)))
+        | inl x ↦
+            let (y, z, e, in_left, in_right) = left_to u q x more in
+            (c ∷ y, z, ap (λ v. c ∷ v) e, (q, x, to_true (j.left p q l x) follows, to_true (j.reads_left q c x) read, in_left), in_right)
+        | inr (k, k_within, e) ↦
+            let parts = and_parts (A.last p) (B.first k) (to_true (j.across p k l k_within) (subst (λ n. IsTrue (C.follow p n)) e follows)) in
+            ([], c ∷ u, refl, parts.0, (k, k_within, parts.1, to_true (j.reads_right k c k_within) (subst (λ n. IsTrue (C.reads n c)) e read), right_to u k k_within (subst (λ n. After C n u) e more)))
       ]
 
   left_from : (x y : List ℕ) (p : ℕ) → p < A.count → After A p x → Takes B y → After C p (x ++ y)
@@ -68,12 +68,12 @@ module _ (A B C : Machine) (j : IsJoined A B C) where
   joined_to [] h = let parts = and_parts A.empty B.empty (to_true j.empty h) in ([], [], refl, parts.0, parts.1)
   joined_to (c ∷ u) (q, within, first, read, more) =
       elim (which A.count B.count q (subst (λ n. q < n) j.count within)) [
-        inl x ↦
-          let (y, z, e, in_left, in_right) = left_to u q x more in
-          (c ∷ y, z, ap (λ v. c ∷ v) e, (q, x, to_true (j.first_left q x) first, to_true (j.reads_left q c x) read, in_left), in_right)
-      | inr (k, k_within, e) ↦
-          let parts = and_parts A.empty (B.first k) (to_true (j.first_right k k_within) (subst (λ n. IsTrue (C.first n)) e first)) in
-          ([], c ∷ u, refl, parts.0, (k, k_within, parts.1, to_true (j.reads_right k c k_within) (subst (λ n. IsTrue (C.reads n c)) e read), right_to u k k_within (subst (λ n. After C n u) e more)))
+        | inl x ↦
+            let (y, z, e, in_left, in_right) = left_to u q x more in
+            (c ∷ y, z, ap (λ v. c ∷ v) e, (q, x, to_true (j.first_left q x) first, to_true (j.reads_left q c x) read, in_left), in_right)
+        | inr (k, k_within, e) ↦
+            let parts = and_parts A.empty (B.first k) (to_true (j.first_right k k_within) (subst (λ n. IsTrue (C.first n)) e first)) in
+            ([], c ∷ u, refl, parts.0, (k, k_within, parts.1, to_true (j.reads_right k c k_within) (subst (λ n. IsTrue (C.reads n c)) e read), right_to u k k_within (subst (λ n. After C n u) e more)))
       ]
 
   pub joined_from : (x y : List ℕ) → Takes A x → Takes B y → Takes C (x ++ y)
@@ -103,9 +103,9 @@ module _ (A B C : Machine) (j : IsEither A B C) where
   on_right_to [] p l h = to_true (j.last_right p l) h
   on_right_to (c ∷ u) p l (q, within, follows, read, more) =
       elim (which A.count B.count q (subst (λ n. q < n) j.count within)) [
-        inl x ↦ absurd (false≢true (sym (j.back p q l x) ∙ follows))
-      | inr (k, k_within, e) ↦
-          (k, k_within, to_true (j.right p k l k_within) (subst (λ n. IsTrue (C.follow (A.count + p) n)) e follows), to_true (j.reads_right k c k_within) (subst (λ n. IsTrue (C.reads n c)) e read), on_right_to u k k_within (subst (λ n. After C n u) e more))
+        | inl x ↦ absurd (false≢true (sym (j.back p q l x) ∙ follows))
+        | inr (k, k_within, e) ↦
+            (k, k_within, to_true (j.right p k l k_within) (subst (λ n. IsTrue (C.follow (A.count + p) n)) e follows), to_true (j.reads_right k c k_within) (subst (λ n. IsTrue (C.reads n c)) e read), on_right_to u k k_within (subst (λ n. After C n u) e more))
       ]
 
   on_right_from : (u : List ℕ) (p : ℕ) → p < B.count → After B p u → After C (A.count + p) u
@@ -117,8 +117,8 @@ module _ (A B C : Machine) (j : IsEither A B C) where
   on_left_to [] p l h = to_true (j.last_left p l) h
   on_left_to (c ∷ u) p l (q, within, follows, read, more) =
       elim (which A.count B.count q (subst (λ n. q < n) j.count within)) [
-        inl x ↦ (q, x, to_true (j.left p q l x) follows, to_true (j.reads_left q c x) read, on_left_to u q x more)
-      | inr (k, k_within, e) ↦ absurd (false≢true (sym (j.across p k l k_within) ∙ subst (λ n. IsTrue (C.follow p n)) e follows))
+        | inl x ↦ (q, x, to_true (j.left p q l x) follows, to_true (j.reads_left q c x) read, on_left_to u q x more)
+        | inr (k, k_within, e) ↦ absurd (false≢true (sym (j.across p k l k_within) ∙ subst (λ n. IsTrue (C.follow p n)) e follows))
       ]
 
   on_left_from : (u : List ℕ) (p : ℕ) → p < A.count → After A p u → After C p u
@@ -130,9 +130,9 @@ module _ (A B C : Machine) (j : IsEither A B C) where
   either_to [] h = or_cases A.empty B.empty (to_true j.empty h)
   either_to (c ∷ u) (q, within, first, read, more) =
       elim (which A.count B.count q (subst (λ n. q < n) j.count within)) [
-        inl x ↦ inl (q, x, to_true (j.first_left q x) first, to_true (j.reads_left q c x) read, on_left_to u q x more)
-      | inr (k, k_within, e) ↦
-          inr (k, k_within, to_true (j.first_right k k_within) (subst (λ n. IsTrue (C.first n)) e first), to_true (j.reads_right k c k_within) (subst (λ n. IsTrue (C.reads n c)) e read), on_right_to u k k_within (subst (λ n. After C n u) e more))
+        | inl x ↦ inl (q, x, to_true (j.first_left q x) first, to_true (j.reads_left q c x) read, on_left_to u q x more)
+        | inr (k, k_within, e) ↦
+            inr (k, k_within, to_true (j.first_right k k_within) (subst (λ n. IsTrue (C.first n)) e first), to_true (j.reads_right k c k_within) (subst (λ n. IsTrue (C.reads n c)) e read), on_right_to u k k_within (subst (λ n. After C n u) e more))
       ]
 
   pub either_left : (u : List ℕ) → Takes A u → Takes C u
@@ -173,10 +173,10 @@ module _ (A C : Machine) (j : IsAgain A C) where
       let (x, y, e, in_left, rest) = again_to u q in_a more in
       let read_a = to_true (j.reads q c in_a) read in
       elim (or_cases (A.follow p q) (A.last p && A.first q) (to_true (j.follow p q l in_a) follows)) [
-        inl f ↦ (c ∷ x, y, ap (λ v. c ∷ v) e, (q, in_a, f, read_a, in_left), rest)
-      | inr f ↦
-          let parts = and_parts (A.last p) (A.first q) f in
-          ([], c ∷ u, refl, parts.0, (suc rest.0, (c ∷ x, y, ap (λ v. c ∷ v) e, (q, in_a, parts.1, read_a, in_left), rest.1)))
+        | inl f ↦ (c ∷ x, y, ap (λ v. c ∷ v) e, (q, in_a, f, read_a, in_left), rest)
+        | inr f ↦
+            let parts = and_parts (A.last p) (A.first q) f in
+            ([], c ∷ u, refl, parts.0, (suc rest.0, (c ∷ x, y, ap (λ v. c ∷ v) e, (q, in_a, parts.1, read_a, in_left), rest.1)))
       ]
 
   again_from : (u x y : List ℕ) (p : ℕ) → u ≡ x ++ y → p < A.count → After A p x → Some_of (Takes A) y → After C p u

@@ -10,3 +10,4 @@ pub mod Written
 pub mod LetterSteps
 pub mod LexSteps
 pub mod Unique
+pub mod TextLetters

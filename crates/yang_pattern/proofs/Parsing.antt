@@ -48,8 +48,8 @@ mutual
       rw (append_assoc (tokens_of bs) (Bar ∷ branch_tokens b) rest)
       (read_branches bs (Bar ∷ (branch_tokens b ++ rest)) outer (omega arith)
       ∙ (let closes : closed (opened_branches bs) ≡ bs = opened_closed bs in
-        ap (λ cs. run (branch_tokens b ++ rest) (at (record { choices = Some cs; branch = none; last = None }) outer)) closes
-        ∙ read_branch b rest (Some bs) outer (omega arith)))
+      ap (λ cs. run (branch_tokens b ++ rest) (at (record { choices = Some cs; branch = none; last = None }) outer)) closes
+      ∙ read_branch b rest (Some bs) outer (omega arith)))
 
   read_branch : (b : Branch) (rest : List Token) (cs : Option Branches) (outer : List Opened) → branch_nesting b + length outer ≤ 32
       → run (branch_tokens b ++ rest) (at (record { choices = cs; branch = none; last = None }) outer) ≡ run rest (at (opened_branch cs b) outer)
@@ -58,12 +58,12 @@ mutual
       rw (append_assoc (branch_tokens b) (atom_tokens a) rest)
       (read_branch b (atom_tokens a ++ rest) cs outer (omega arith)
       ∙ (read_atom a rest (opened_branch cs b) outer (omega arith)
-        ∙ rw (opened_choices cs b, opened_settled cs b) refl))
+      ∙ rw (opened_choices cs b, opened_settled cs b) refl))
   read_branch (followed b (times a q)) rest cs outer h =
       rw (append_assoc (branch_tokens b) (atom_tokens a ++ Times q ∷ []) rest, append_assoc (atom_tokens a) (Times q ∷ []) rest)
       (read_branch b (atom_tokens a ++ Times q ∷ rest) cs outer (omega arith)
       ∙ (read_atom a (Times q ∷ rest) (opened_branch cs b) outer (omega arith)
-        ∙ rw (opened_choices cs b, opened_settled cs b) refl))
+      ∙ rw (opened_choices cs b, opened_settled cs b) refl))
 
   read_atom : (a : Atom) (rest : List Token) (o : Opened) (outer : List Opened) → atom_nesting a + length outer ≤ 32
       → run (atom_tokens a ++ rest) (at o outer) ≡ run rest (at (with_atom o a) outer)
@@ -72,7 +72,7 @@ mutual
       rw (append_assoc (tokens_of bs) (Close ∷ []) rest)
       (enter_room o outer (tokens_of bs ++ Close ∷ rest) (omega arith)
       ∙ (read_branches bs (Close ∷ rest) (o ∷ outer) (omega arith)
-        ∙ ap (λ cs. run rest (at (with_atom o (group cs)) outer)) (opened_closed bs)))
+      ∙ ap (λ cs. run rest (at (with_atom o (group cs)) outer)) (opened_closed bs)))
 
 -- what has these tokens, and isn't nested too deep, is read
 pub run_complete : (bs : Branches) → nesting bs ≤ 32 → run (tokens_of bs) start ≡ Some bs

@@ -37,8 +37,8 @@ module _ (P : List ℕ → Type 0) where
   some_there (suc n) u (x, y, e, here, more) =
       let (k, fits, row) = some_there n y more in
       elim here [
-        inl nothing ↦ (k, omega arith, subst (Repeated P k) (sym (e ∙ ap (λ v. v ++ y) nothing)) row)
-      | inr p ↦ (suc k, omega arith, (x, y, e, p, row))
+        | inl nothing ↦ (k, omega arith, subst (Repeated P k) (sym (e ∙ ap (λ v. v ++ y) nothing)) row)
+        | inr p ↦ (suc k, omega arith, (x, y, e, p, row))
       ]
 
   pub all_there : (n k : ℕ) (u : List ℕ) → k ≤ n → Repeated P k u → Repeated (λ v. (v ≡ []) ⊎ P v) n u
@@ -82,10 +82,10 @@ least_or_more N P W M O J least nothing front again optional joined u =
           let (x, y, e, w, o) = (joined u).0 j in
           let row = (front_is x).0 w in
           elim ((optional y).0 o) [
-            inl none ↦ (least, omega arith, subst (Repeated P least) (sym (e ∙ ap (λ v. x ++ v) none ∙ append-nil x)) row)
-          | inr m ↦
-              let (n, others) = (again y).0 m in
-              (least + suc n, omega arith, subst (Repeated P (least + suc n)) (sym e) (one_row P least (suc n) x y row others))
+            | inl none ↦ (least, omega arith, subst (Repeated P least) (sym (e ∙ ap (λ v. x ++ v) none ∙ append-nil x)) row)
+            | inr m ↦
+                let (n, others) = (again y).0 m in
+                (least + suc n, omega arith, subst (Repeated P (least + suc n)) (sym e) (one_row P least (suc n) x y row others))
           ],
       λ (n, h, row).
           let whole = subst (λ k. Repeated P k u) (let f : n ≡ least + (n - least) = omega arith in f) row in

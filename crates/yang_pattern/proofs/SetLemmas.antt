@@ -23,15 +23,15 @@ insert_bit ws p q n l =
     let within : p % 64 < bits w64 = omega arith in
     let new = bit_or (get_or ws (p / 64) 0) (1 * 2 ^ (p % 64) % 2 ^ bits w64) in
     elim (cases_eq (q / 64) (p / 64)) [
-      inl same ↦
-        elim (cases_eq (q % 64) (p % 64)) [
-          inl bit ↦
-            rw (eq-eqb q p (omega arith), or_true, same, bit, get_or-set_same ws (p / 64) new 0 word, bit_at_set_same w64 (get_or ws (p / 64) 0) (p % 64) within) refl
-        | inr bit ↦
-            rw (ne_eqb q p (λ e. bit (ap (λ x. x % 64) e)), or_false, same, get_or-set_same ws (p / 64) new 0 word, bit_at_set_other w64 (get_or ws (p / 64) 0) (p % 64) within (q % 64) bit) refl
-        ]
-    | inr other ↦
-        rw (ne_eqb q p (λ e. other (ap (λ x. x / 64) e)), or_false, get_or-set_other ws (p / 64) (q / 64) new 0 other) refl
+      | inl same ↦
+          elim (cases_eq (q % 64) (p % 64)) [
+            | inl bit ↦
+                rw (eq-eqb q p (omega arith), or_true, same, bit, get_or-set_same ws (p / 64) new 0 word, bit_at_set_same w64 (get_or ws (p / 64) 0) (p % 64) within) refl
+            | inr bit ↦
+                rw (ne_eqb q p (λ e. bit (ap (λ x. x % 64) e)), or_false, same, get_or-set_same ws (p / 64) new 0 word, bit_at_set_other w64 (get_or ws (p / 64) 0) (p % 64) within (q % 64) bit) refl
+          ]
+      | inr other ↦
+          rw (ne_eqb q p (λ e. other (ap (λ x. x / 64) e)), or_false, get_or-set_other ws (p / 64) (q / 64) new 0 other) refl
     ]
 
 -- a bit of two words joined
@@ -40,10 +40,10 @@ or_bit a b i =
     let small_a : bit_at a i < 2 = bit_at-lt a i in
     let small_b : bit_at b i < 2 = bit_at-lt b i in
     rw (bit_at_or a b i) (elim (cases_eq (bit_at a i) 1) [
-      inl x ↦ rw (x, eq-eqb (max 1 (bit_at b i)) 1 (omega arith)) refl
-    | inr x ↦
-        let zero_a : bit_at a i ≡ 0 = omega arith in
-        rw (zero_a, (let e : max 0 (bit_at b i) ≡ bit_at b i = omega arith in e)) refl
+      | inl x ↦ rw (x, eq-eqb (max 1 (bit_at b i)) 1 (omega arith)) refl
+      | inr x ↦
+          let zero_a : bit_at a i ≡ 0 = omega arith in
+          rw (zero_a, (let e : max 0 (bit_at b i) ≡ bit_at b i = omega arith in e)) refl
     ])
 
 -- the place i is in the set
@@ -51,18 +51,18 @@ pub moved_in : (S : ℕ → Bool) (by i q : ℕ) → S i ≡ true
     → ((leb by q && (ltb (q - by) i && S (q - by))) || eqb q (i + by)) ≡ (leb by q && (ltb (q - by) (i + 1) && S (q - by)))
 moved_in S by i q held =
     elim (cases_eq q (i + by)) [
-      inl e ↦
-        let back : q - by ≡ i = omega arith in
-        rw (eq-eqb q (i + by) e, or_true, back, held, le-leb by q (omega arith), lt-ltb i (i + 1) (omega arith)) refl
-    | inr e ↦
-        rw (ne_eqb q (i + by) e, or_false) (elim (cases_lt q by) [
-          inl below ↦ rw (lt-leb by q below) refl
-        | inr above ↦
-            elim (cases_lt (q - by) i) [
-              inl x ↦ rw (lt-ltb (q - by) i x, lt-ltb (q - by) (i + 1) (omega arith)) refl
-            | inr x ↦ rw (le-ltb (q - by) i x, le-ltb (q - by) (i + 1) (omega arith)) refl
-            ]
-        ])
+      | inl e ↦
+          let back : q - by ≡ i = omega arith in
+          rw (eq-eqb q (i + by) e, or_true, back, held, le-leb by q (omega arith), lt-ltb i (i + 1) (omega arith)) refl
+      | inr e ↦
+          rw (ne_eqb q (i + by) e, or_false) (elim (cases_lt q by) [
+            | inl below ↦ rw (lt-leb by q below) refl
+            | inr above ↦
+                elim (cases_lt (q - by) i) [
+                  | inl x ↦ rw (lt-ltb (q - by) i x, lt-ltb (q - by) (i + 1) (omega arith)) refl
+                  | inr x ↦ rw (le-ltb (q - by) i x, le-ltb (q - by) (i + 1) (omega arith)) refl
+                ]
+          ])
     ]
 
 -- the place i is not in the set
@@ -70,10 +70,10 @@ pub moved_out : (S : ℕ → Bool) (by i q : ℕ) → S i ≡ false
     → (leb by q && (ltb (q - by) i && S (q - by))) ≡ (leb by q && (ltb (q - by) (i + 1) && S (q - by)))
 moved_out S by i q held =
     elim (cases_eq (q - by) i) [
-      inl e ↦ rw (e, held, le-ltb i i (omega arith), lt-ltb i (i + 1) (omega arith)) refl
-    | inr e ↦
-        elim (cases_lt (q - by) i) [
-          inl x ↦ rw (lt-ltb (q - by) i x, lt-ltb (q - by) (i + 1) (omega arith)) refl
-        | inr x ↦ rw (le-ltb (q - by) i x, le-ltb (q - by) (i + 1) (omega arith)) refl
-        ]
+      | inl e ↦ rw (e, held, le-ltb i i (omega arith), lt-ltb i (i + 1) (omega arith)) refl
+      | inr e ↦
+          elim (cases_lt (q - by) i) [
+            | inl x ↦ rw (lt-ltb (q - by) i x, lt-ltb (q - by) (i + 1) (omega arith)) refl
+            | inr x ↦ rw (le-ltb (q - by) i x, le-ltb (q - by) (i + 1) (omega arith)) refl
+          ]
     ]

@@ -17,12 +17,12 @@ from_more m old new e p is [] = (
 from_more m old new e p is (c ∷ u) = (
   λ (q, within, here, read, more).
       elim (or_cases (old q) (m.follow p q) (sym (is q within) ∙ here)) [
-        inl x ↦ inl (q, within, x, read, more)
-      | inr x ↦ inr (q, within, x, read, more)
+        | inl x ↦ inl (q, within, x, read, more)
+        | inr x ↦ inr (q, within, x, read, more)
       ],
   λ h. elim h [
-    inl (q, within, here, read, more) ↦ (q, within, is q within ∙ or_left (old q) (m.follow p q) here, read, more)
-  | inr (q, within, follows, read, more) ↦ (q, within, is q within ∙ or_right (old q) (m.follow p q) follows, read, more)
+    | inl (q, within, here, read, more) ↦ (q, within, is q within ∙ or_left (old q) (m.follow p q) here, read, more)
+    | inr (q, within, follows, read, more) ↦ (q, within, is q within ∙ or_right (old q) (m.follow p q) follows, read, more)
   ],
 )
 
@@ -32,13 +32,13 @@ module _ (m : Machine) (next old : ℕ → Bool) (e : Bool) (c i : ℕ) (so_far 
       → (u : List ℕ) → From m new (e || m.last i) u ↔ Visited m next c (i + 1) u
   visited_in new is here read u = (
     λ h. elim ((from_more m old new e i is u).0 h) [
-      inl x ↦ let (p, low, there, reads, more) = (so_far u).0 x in (p, omega arith, there, reads, more)
-    | inr x ↦ (i, omega arith, here, read, x)
+      | inl x ↦ let (p, low, there, reads, more) = (so_far u).0 x in (p, omega arith, there, reads, more)
+      | inr x ↦ (i, omega arith, here, read, x)
     ],
     λ (p, low, there, reads, more).
         (from_more m old new e i is u).1 (elim (cases_lt p i) [
-          inl x ↦ inl ((so_far u).1 (p, x, there, reads, more))
-        | inr x ↦ let same : p ≡ i = omega arith in inr (subst (λ k. After m k u) same more)
+          | inl x ↦ inl ((so_far u).1 (p, x, there, reads, more))
+          | inr x ↦ let same : p ≡ i = omega arith in inr (subst (λ k. After m k u) same more)
         ]),
   )
 
@@ -48,10 +48,10 @@ module _ (m : Machine) (next old : ℕ → Bool) (e : Bool) (c i : ℕ) (so_far 
     λ h. let (p, low, there, reads, more) = (so_far u).0 h in (p, omega arith, there, reads, more),
     λ (p, low, there, reads, more).
         elim (cases_lt p i) [
-          inl x ↦ (so_far u).1 (p, x, there, reads, more)
-        | inr x ↦
-            let same : p ≡ i = omega arith in
-            absurd (not (subst (λ k. IsTrue (next k)) same there) (subst (λ k. IsTrue (m.reads k c)) same reads))
+          | inl x ↦ (so_far u).1 (p, x, there, reads, more)
+          | inr x ↦
+              let same : p ≡ i = omega arith in
+              absurd (not (subst (λ k. IsTrue (next k)) same there) (subst (λ k. IsTrue (m.reads k c)) same reads))
         ],
   )
 

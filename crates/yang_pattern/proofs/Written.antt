@@ -69,11 +69,11 @@ entered s n e =
     let parts = entered_by (ltb (length s.outer) 32) (record { current = fresh; outer = s.current ∷ s.outer }) n e in
     (ltb-true (length s.outer) 32 parts.0, parts.1)
 
-map_some : {A B : Type 0} (f : A → B) (o : Option A) (y : B) → option_map f o ≡ Some y → (x : A) × (o ≡ Some x) × (y ≡ f x)
+pub map_some : {A B : Type 0} (f : A → B) (o : Option A) (y : B) → option_map f o ≡ Some y → (x : A) × (o ≡ Some x) × (y ≡ f x)
 map_some f None y e = cc e
 map_some f (Some x) y e = (x, refl, cc e)
 
-then_some : {A B : Type 0} (f : A → Option B) (o : Option A) (y : B) → option_and_then f o ≡ Some y → (x : A) × (o ≡ Some x) × (f x ≡ Some y)
+pub then_some : {A B : Type 0} (f : A → Option B) (o : Option A) (y : B) → option_and_then f o ≡ Some y → (x : A) × (o ≡ Some x) × (f x ≡ Some y)
 then_some f None y e = cc e
 then_some f (Some x) y e = (x, refl, e)
 

@@ -6,6 +6,7 @@ pub mod Parts
 pub mod Reading
 pub mod Errors
 pub mod Letters
+pub mod Grammar
 pub mod Classes
 pub mod Counts
 pub mod Lexing

@@ -1,7 +1,6 @@
 //! Machines for parts of a pattern: which place may follow which.
 
 ghost use Rattle.std.specs.Prelude.{◌≡◌, ◌<◌, ◌≤◌, ◌+◌, ◌*◌, ℕ, IfOk, OnOk, vec_len, false, true, List, [], ◌∷◌, length, ◌↔◌, ◌⊎◌, Bool, IsTrue, suc};
-
 ghost use Rattle.yang_pattern.specs.PlaceSets.{IsWithin};
 
 use crate::sets::Places;

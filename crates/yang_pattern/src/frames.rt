@@ -40,7 +40,12 @@ fn settled(branch: Part, last: Option<Part>) -> Result<Part, AllocError>
 }
 
 /// The branch, with an atom as often as the quantifier allows.
-fn quantified(branch: Part, atom: Part, alloc: Global, quantifier: Quantifier) -> Result<Part, AllocError>
+fn quantified(
+    branch: Part,
+    atom: Part,
+    alloc: Global,
+    quantifier: Quantifier,
+) -> Result<Part, AllocError>
     ensures { IfOk result (λ part. (r : ℕ → ℕ → Bool) (b : Branch) (a : Atom) → IsBranchPart r branch b → IsAtomPart r atom a → IsBranchPart r part (followed b (times a quantifier))) }
 {
     let piece = atom.times(alloc, quantifier)?;
@@ -155,7 +160,12 @@ impl Reader {
     }
 
     /// One token more, which has this number. None where it can't stand here.
-    pub fn read(self, alloc: Global, number: usize, token: &Token) -> Result<Option<Reader>, AllocError>
+    pub fn read(
+        self,
+        alloc: Global,
+        number: usize,
+        token: &Token,
+    ) -> Result<Option<Reader>, AllocError>
         ensures { IfOk result (λ found. MatchOption found ((r : ℕ → ℕ → Bool) (s : Progress) → IsReader r self s → read token.now s ≡ None) (λ reader. (r : ℕ → ℕ → Bool) (s : Progress) → ((c : ℕ) → r number c ≡ symbol_accepts (Some token.now) c) → IsReader r self s → IsSomeAnd (read token.now s) (λ n. IsReader r reader n))) }
     {
         match token {
@@ -203,6 +213,10 @@ impl Reader {
         ensures { IfOk result (λ found. MatchOption found ((r : ℕ → ℕ → Bool) (s : Progress) → IsReader r self s → finish s.current s.outer ≡ None) (λ part. (r : ℕ → ℕ → Bool) (s : Progress) → IsReader r self s → IsSomeAnd (finish s.current s.outer) (λ bs. IsPatternPart r part bs))) }
     {
         let Reader { outer, current } = self;
-        if outer.is_empty() { Ok(Some(current.closed()?)) } else { Ok(None) }
+        if outer.is_empty() {
+            Ok(Some(current.closed()?))
+        } else {
+            Ok(None)
+        }
     }
 }

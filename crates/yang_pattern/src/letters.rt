@@ -36,7 +36,20 @@ ghost use Rattle.yang_pattern.specs.Letters.{is_escapable};
 fn is_escapable(name: char) -> bool
     ensures { result ≡ is_escapable name }
 {
-    name == '.' || name == '\\' || name == '?' || name == '*' || name == '+' || name == '{' || name == '}' || name == '(' || name == ')' || name == '[' || name == ']' || name == '|' || name == '-' || name == '^'
+    name == '.'
+        || name == '\\'
+        || name == '?'
+        || name == '*'
+        || name == '+'
+        || name == '{'
+        || name == '}'
+        || name == '('
+        || name == ')'
+        || name == '['
+        || name == ']'
+        || name == '|'
+        || name == '-'
+        || name == '^'
 }
 
 fn letter_of(after_backslash: bool, c: char) -> Option<Letter>
@@ -59,7 +72,11 @@ fn letter_of(after_backslash: bool, c: char) -> Option<Letter>
 }
 
 /// One character more of the text: whether the next one stands behind a backslash.
-fn read_character(letters: &mut Vec<Letter>, after_backslash: bool, c: char) -> Result<bool, PatternError>
+fn read_character(
+    letters: &mut Vec<Letter>,
+    after_backslash: bool,
+    c: char,
+) -> Result<bool, PatternError>
     ensures ok { IfOk result (λ after. (cs : List ℕ) → option_map (λ ls. letters.new.items ++ ls) (letters_from after cs) ≡ option_map (λ ls. letters.old.items ++ ls) (letters_from after_backslash (c ∷ cs))) }
     ensures count { IfOk result (λ _. length letters.new.items ≤ length letters.old.items + 1) }
     ensures bad { IfErr result (λ e. IfBad e ((cs : List ℕ) → letters_from after_backslash (c ∷ cs) ≡ None)) }

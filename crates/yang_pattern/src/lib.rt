@@ -1,4 +1,4 @@
-//! YANG patterns (RFC 7950, section 9.4.5, in a profile) and a matcher for them.
+//! YANG patterns (RFC 7950, section 9.4.5, in a profile), and a matcher that is their language.
 #![tactic(auto)]
 
 mod classes;
@@ -17,3 +17,6 @@ mod walks;
 
 pub use errors::PatternError;
 pub use patterns::Pattern;
+
+#[cfg(test)]
+mod tests;

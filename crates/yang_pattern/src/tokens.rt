@@ -157,7 +157,12 @@ fn advance(alloc: Global, mode: Mode, letter: Letter) -> Result<Option<Step>, Al
 }
 
 /// One letter more.
-fn read_letter(tokens: &mut Vec<Token>, alloc: Global, mode: Mode, letter: Letter) -> Result<Mode, PatternError>
+fn read_letter(
+    tokens: &mut Vec<Token>,
+    alloc: Global,
+    mode: Mode,
+    letter: Letter,
+) -> Result<Mode, PatternError>
     ensures ok { IfOk result (λ next. (ls : List Letter) → option_map (λ ts. tokens.new.items ++ ts) (lex next ls) ≡ option_map (λ ts. tokens.old.items ++ ts) (lex mode (letter ∷ ls))) }
     ensures count { IfOk result (λ _. length tokens.new.items ≤ length tokens.old.items + 1) }
     ensures bad { IfErr result (λ e. IfBad e ((ls : List Letter) → lex mode (letter ∷ ls) ≡ None)) }

@@ -8,4 +8,4 @@ use Rattle.yang_pattern.proofs.walks.takes.Given as goal
 abbrev pub invariant-loop-c : goal.invariant-loop-c
 invariant-loop-c l = IsUtf8 (chars_rest l.c-iterator)
     × (From (machine_of (reads_token l.tokens) l.fragment) (contains l.reached.next) l.reached.ended (chars (chars_rest l.c-iterator))
-      ↔ Takes (machine_of (reads_token l.tokens) l.fragment) (chars l.fn.text))
+    ↔ Takes (machine_of (reads_token l.tokens) l.fragment) (chars l.fn.text))

@@ -16,10 +16,10 @@ invariant_of-result c =
 pub returns-clause-language : goal.returns-clause-language
 returns-clause-language c =
     λ r u.
-        let s = c.args.self in
-        let l = c.link.ensures in
-        let j = again s.places.items s.first s.within c.link.new.places.items l.count s.small l.linked r s.empty in
-        let new = machine_from r c.link.new.places.items s.first s.empty in (
-          λ t. row_to (machine_of r s) new j u t,
-          λ (n, h). row_from (machine_of r s) new j u n h,
-        )
+    let s = c.args.self in
+    let l = c.link.ensures in
+    let j = again s.places.items s.first s.within c.link.new.places.items l.count s.small l.linked r s.empty in
+    let new = machine_from r c.link.new.places.items s.first s.empty in (
+      λ t. row_to (machine_of r s) new j u t,
+      λ (n, h). row_from (machine_of r s) new j u n h,
+    )

@@ -15,8 +15,8 @@ returns-clause-count c = IfOk-weaker c.followed_by-2.result
     (λ f. vec_len f.places ≡ vec_len c.in_ok-whole.whole.places + c.args.more * vec_len c.or_nothing.result.places)
     (λ f. vec_len f.places ≡ vec_len c.args.self.places * (c.args.least + c.args.more))
     (λ f h.
-        let same : c.args.more * vec_len c.or_nothing.result.places ≡ c.args.more * vec_len c.args.self.places = ap (λ n. c.args.more * n) c.or_nothing.ensures.count in
-        omega (arith, h, c.in_ok-whole.ensures.count, c.nothing.ensures.count, c.or_nothing.ensures.count))
+    let same : c.args.more * vec_len c.or_nothing.result.places ≡ c.args.more * vec_len c.args.self.places = ap (λ n. c.args.more * n) c.or_nothing.ensures.count in
+    omega (arith, h, c.in_ok-whole.ensures.count, c.nothing.ensures.count, c.or_nothing.ensures.count))
     c.followed_by-2.ensures.count
 
 pub returns-clause-language : goal.returns-clause-language
