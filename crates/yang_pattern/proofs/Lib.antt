@@ -11,3 +11,7 @@ pub mod LetterSteps
 pub mod LexSteps
 pub mod Unique
 pub mod TextLetters
+pub mod LexRuns
+pub mod CountLetters
+pub mod ClassLetters
+pub mod TokenLetters

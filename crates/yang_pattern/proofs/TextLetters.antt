@@ -2,7 +2,8 @@
 use Rattle.std.proofs.Common.{◌≡◌, ◌≢◌, ℕ, Bool, true, false, ◌&&◌, not, cond, eqb, List, [], ◌∷◌, ◌++◌, Option, Some, None, option_map, option_and_then, refl, sym, ap, ◌∙◌, subst, append_assoc, inl, inr, ◌⊎◌}
 use Rattle.std.proofs.lemmas.Bool.{eq-eqb, eqb-true, ne_eqb, cases_eq, true≢false}
 use Rattle.yang_pattern.specs.declared.letters.Letter.{Letter}
-use Rattle.yang_pattern.specs.Letters.{letters_from, letter_of, escaped_character}
+use Rattle.yang_pattern.specs.Letters.{letters_from, letter_of}
+use Rattle.yang_pattern.specs.Escapes.{escaped_character}
 use Rattle.yang_pattern.specs.Grammar.{IsLetter, IsText}
 use Rattle.yang_pattern.proofs.LetterSteps.{letters_backslash, letters_other}
 use Rattle.yang_pattern.proofs.Written.{map_some, then_some}

@@ -1,11 +1,11 @@
 -- How texts spell patterns (RFC 7950, section 9.4.5, and XML Schema part 2, appendix F, in a profile).
-use Rattle.std.specs.Prelude.{◌≡◌, ◌≢◌, ℕ, ◌+◌, ◌≤◌, ◌==◌, ◌||◌, not, ◌⊎◌, Bool, true, false, IsTrue, List, [], ◌∷◌, ◌++◌, map, Some, decimal}
+use Rattle.std.specs.Prelude.{◌≡◌, ◌≢◌, ℕ, ◌+◌, ◌≤◌, ◌==◌, ◌||◌, not, ◌⊎◌, Bool, true, false, IsTrue, List, [], ◌∷◌, ◌++◌, map, Some, ◌/◌, ◌%◌, nat_lt, if◌then◌else◌}
 use Rattle.yang_pattern.specs.declared.letters.Letter.{Letter}
 use Rattle.yang_pattern.specs.declared.symbols.Quantifier.{Quantifier}
 use Rattle.yang_pattern.specs.declared.symbols.Quantifier.TheVariants.{OneOrMore, AtLeast, Between}
 use Rattle.yang_pattern.specs.declared.symbols.Token.{Token}
 use Rattle.yang_pattern.specs.declared.symbols.Token.TheVariants.{Open, Close, Bar, Times, Symbol}
-use Rattle.yang_pattern.specs.Letters.{escaped_character}
+use Rattle.yang_pattern.specs.Escapes.{escaped_character}
 
 -- a letter's characters: one other than a backslash, or a backslash and what it escapes
 abbrev pub IsLetter : Bool → ℕ → List ℕ → Type 0
@@ -76,6 +76,10 @@ pub record IsClass (y : Bool × List (ℕ × ℕ)) (ls : List Letter) : Type 0 w
   pub ranges : y.1 ≡ dash_range front ++ (middle ++ dash_range back)
   pub some : y.1 ≢ []
   pub unnegated : y.0 ≡ false → BeginsWithCaret (dash front ++ items) → ⊥
+
+-- the decimal of a number below 1,000, without leading zeros
+abbrev pub decimal : ℕ → List ℕ
+decimal n = if nat_lt n 10 then (48 + n) ∷ [] else (if nat_lt n 100 then (48 + n / 10) ∷ (48 + n % 10) ∷ [] else (48 + n / 100) ∷ (48 + n / 10 % 10) ∷ (48 + n % 10) ∷ [])
 
 abbrev pub digits : ℕ → List Letter
 digits n = map plain (decimal n)

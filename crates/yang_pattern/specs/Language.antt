@@ -1,14 +1,12 @@
 -- What a pattern's text is, and which texts it matches.
-use Rattle.std.specs.Prelude.{◌≡◌, ℕ, ◌≤◌, false, List, Some, chars}
+use Rattle.std.specs.Prelude.{ℕ, ◌≤◌, List, chars}
 use Rattle.yang_pattern.specs.declared.letters.Letter.{Letter}
-use Rattle.yang_pattern.specs.declared.tokens.Mode.TheVariants.{Outside}
-use Rattle.yang_pattern.specs.Letters.{letters_from}
-use Rattle.yang_pattern.specs.Lexing.{lex}
+use Rattle.yang_pattern.specs.Grammar.{IsText, AreTokens}
 use Rattle.yang_pattern.specs.Pattern.{Branches, Matches, size, nesting, tokens_of}
 
--- the characters of a text spell a pattern
+-- the characters of a text spell a pattern: they are letters that are its tokens
 abbrev pub Spells : List ℕ → Branches → Type 0
-Spells cs bs = (ls : List Letter) × (letters_from false cs ≡ Some ls) × (lex Outside ls ≡ Some (tokens_of bs))
+Spells cs bs = (ls : List Letter) × IsText ls cs × AreTokens (tokens_of bs) ls
 
 -- they spell it, and it keeps within the limits
 pub record SpellsWithin (cs : List ℕ) (bs : Branches) : Type 0 where

@@ -5,6 +5,7 @@ pub mod Pattern
 pub mod Parts
 pub mod Reading
 pub mod Errors
+pub mod Escapes
 pub mod Letters
 pub mod Grammar
 pub mod Classes

@@ -1,7 +1,8 @@
 //! The letters of a pattern's text: characters, and escapes that stand for one.
 
 ghost use Rattle.std.specs.Prelude.{◌≡◌, ◌≤◌, ◌+◌, ◌∷◌, ◌++◌, ℕ, List, option_map, length, IfOk, IfErr, Some, None, false, chars};
-ghost use Rattle.yang_pattern.specs.Letters.{letters_from, letter_of, escaped_character};
+ghost use Rattle.yang_pattern.specs.Escapes.{is_escapable, escaped_character};
+ghost use Rattle.yang_pattern.specs.Letters.{letters_from, letter_of};
 ghost use Rattle.yang_pattern.specs.Errors.{IfBad, IsPlaceUpTo};
 
 use crate::errors::PatternError;
@@ -31,7 +32,7 @@ fn escaped_character(name: char) -> Option<char>
     }
 }
 
-ghost use Rattle.yang_pattern.specs.Letters.{is_escapable};
+
 
 fn is_escapable(name: char) -> bool
     ensures { result ≡ is_escapable name }

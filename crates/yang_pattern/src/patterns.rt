@@ -1,7 +1,8 @@
 //! YANG patterns.
 
-ghost use Rattle.std.specs.Prelude.{◌≡◌, ◌↔◌, length, IfOk, OnOk, IfErr, IsTrue};
-ghost use Rattle.yang_pattern.specs.Language.{IsPattern, MatchesText};
+ghost use Rattle.std.specs.Prelude.{◌≡◌, ◌↔◌, length, IfOk, OnOk, IfErr, IsTrue, chars};
+ghost use Rattle.yang_pattern.specs.Language.{IsPattern, MatchesText, SpellsWithin};
+ghost use Rattle.yang_pattern.specs.Pattern.{Branches};
 ghost use Rattle.yang_pattern.specs.Errors.{IfBad, IsPlaceUpTo};
 
 use crate::errors::PatternError;
@@ -62,7 +63,9 @@ impl Pattern {
     /// Whether the pattern matches the whole text. It takes no memory, and a time of at most the
     /// text's length times the pattern's size.
     pub fn matches(&self, text: &str) -> bool
-        ensures { IsTrue result ↔ MatchesText self.now text.now }
+        ensures language { IsTrue result ↔ MatchesText self.now text.now }
+        // the pattern's text spells no second pattern
+        ensures once { (a b : Branches) → SpellsWithin (chars self.now) a → SpellsWithin (chars self.now) b → a ≡ b }
     {
         takes(&self.tokens, &self.whole, text)
     }

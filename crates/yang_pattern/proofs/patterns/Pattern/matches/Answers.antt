@@ -7,8 +7,8 @@ use Rattle.yang_pattern.specs.Language.{SpellsWithin}
 use Rattle.yang_pattern.proofs.Unique.{same_pattern}
 use Rattle.yang_pattern.proofs.patterns.Pattern.matches.Goals as goal
 
-pub returns : goal.returns
-returns c =
+pub returns-clause-language : goal.returns-clause-language
+returns-clause-language c =
     let (bs, w, language) = c.self.invariant in
     let pattern = chars c.args.self.now in
     let u = chars c.args.text.now in
@@ -17,3 +17,6 @@ returns c =
       λ yes. (bs, spelled, (language u).0 (taken.0 yes)),
       λ (a, v, matched). taken.1 ((language u).1 (subst (λ (x : Branches). Matches x u) (same_pattern pattern a bs v spelled) matched)),
     )
+
+pub returns-clause-once : goal.returns-clause-once
+returns-clause-once c = λ a b w v. same_pattern (chars c.args.self.now) a b w v
