@@ -10,7 +10,7 @@ mkdir -p "$work/crates/pattern_bench/src"
 cp -r "$top/crates/yang_pattern" "$work/crates/yang_pattern"
 cp "$here/main.rt.txt" "$work/crates/pattern_bench/src/main.rt"
 printf 'yang_pattern: thiserror\npattern_bench: yang_pattern\n' > "$work/crates.txt"
-(cd "$work" && git init -q && cd crates/pattern_bench && rt run)
+(cd "$work" && git init -q && cd crates/pattern_bench && rt run 2>&1 | grep microseconds)
 
 text=$(printf '%10000s' '' | tr ' ' a)
 for pattern in '(a|aa)*b' '(a{0,30}){30}'; do

@@ -1,19 +1,18 @@
 -- Reading the letters of a class gives exactly its items.
-use Rattle.std.proofs.Common.{◌≡◌, ◌≢◌, ℕ, ◌≤◌, Bool, true, false, ◌&&◌, ◌||◌, not, cond, eqb, leb, List, [], ◌∷◌, ◌++◌, Option, Some, None, option_map, option_and_then, option_to_list, refl, sym, ap, ◌∙◌, subst, append_assoc, append-nil, inl, inr, ◌⊎◌, arith, IsTrue}
-use Rattle.std.proofs.lemmas.Bool.{eq-eqb, eqb-true, ne_eqb, eqb-false, cases_eq, cases_Bool, le-leb, leb-true, true≢false, false≢true, and_parts, not-true, or_parts, or_cases}
+use Rattle.std.proofs.Common.{◌≡◌, ◌≢◌, ℕ, ◌≤◌, Bool, true, false, ◌&&◌, ◌||◌, not, eqb, leb, List, [], ◌∷◌, ◌++◌, Some, None, option_map, option_to_list, refl, sym, ap, ◌∙◌, subst, append_assoc, append-nil, inl, inr, ◌⊎◌, arith, IsTrue}
+use Rattle.std.proofs.lemmas.Bool.{eq-eqb, eqb-true, ne_eqb, cases_eq, cases_Bool, le-leb, leb-true, true≢false, and_parts, not-true, or_parts}
 use Rattle.yang_pattern.specs.declared.letters.Letter.{Letter}
 use Rattle.yang_pattern.specs.declared.symbols.Token.{Token}
 use Rattle.yang_pattern.specs.declared.symbols.Token.TheVariants.{Symbol}
 use Rattle.yang_pattern.specs.declared.classes.Item.{Item}
 use Rattle.yang_pattern.specs.declared.classes.Item.TheVariants.{Start, Negated, Done, Bound, Range, Dash}
-use Rattle.yang_pattern.specs.declared.tokens.Mode.{Mode}
 use Rattle.yang_pattern.specs.declared.tokens.Mode.TheVariants.{Outside, Class}
 use Rattle.yang_pattern.specs.declared.tokens.Step.{Step}
-use Rattle.yang_pattern.specs.Classes.{dash_at, bound_at, caret_at, close_at, class_with, class_close}
-use Rattle.yang_pattern.specs.Lexing.{in_class, advance, lex}
+use Rattle.yang_pattern.specs.Classes.{dash_at, bound_at, caret_at, close_at, class_with}
+use Rattle.yang_pattern.specs.Lexing.{advance, lex}
 use Rattle.yang_pattern.specs.Grammar.{plain, IsBound, IsItem, AreItems, dash, dash_range, caret, BeginsWithCaret, IsClass}
 use Rattle.yang_pattern.proofs.LexRuns.{lex_quiet, lex_token, lex_first, letter_is}
-use Rattle.yang_pattern.proofs.Written.{map_some, then_some}
+use Rattle.yang_pattern.proofs.Written.{map_some}
 
 -- the item that an open bound would be
 abbrev settle : Item → List (ℕ × ℕ)
@@ -71,8 +70,8 @@ with_bound n rs s false c h k =
     let parts = or_parts (eqb c 45 || eqb c 91) (eqb c 93) none in
     let front = or_parts (eqb c 45) (eqb c 91) parts.0 in
     elim (cases_eq c 94) [
-      inl is ↦ rw (parts.1, front.0, front.1, eq-eqb c 94 is) (ap (λ o. option_map (λ k. record { mode = Class k; token = None }) o) (caret_later n rs s (λ z. k z refl is) ∙ ap (λ d. bound_at n rs s d) (sym is)))
-    | inr other ↦ rw (parts.1, front.0, front.1, ne_eqb c 94 other) refl
+      | inl is ↦ rw (parts.1, front.0, front.1, eq-eqb c 94 is) (ap (λ o. option_map (λ k. record { mode = Class k; token = None }) o) (caret_later n rs s (λ z. k z refl is) ∙ ap (λ d. bound_at n rs s d) (sym is)))
+      | inr other ↦ rw (parts.1, front.0, front.1, ne_eqb c 94 other) refl
     ]
 
 bound_step : (n : Bool) (rs : List (ℕ × ℕ)) (s : Item) (l : Letter) (k : Bool × List (ℕ × ℕ) × Item) (ls : List Letter) → IsBound l → (s ≡ Start → l ≡ plain 94 → ⊥) → bound_at n rs s l.character ≡ Some k
@@ -110,8 +109,8 @@ item_read n rs s range x rest ready caret (inr (a, b, e, left, right, order, is)
       same = append-nil (rs' ++ (a.character, b.character) ∷ []) ∙ ap (λ v. rs' ++ v ∷ []) (sym is);
       reads = ap (λ v. lex (Class (n, rs, s)) (v ++ rest)) e
           ∙ (bound_step n rs s a (n, rs', Bound a.character) (plain 45 ∷ b ∷ rest) left (λ z f. caret z (subst BeginsWithCaret (sym e) f)) (bound_ready n rs s a.character ready)
-            ∙ (lex_quiet (Class (n, rs', Bound a.character)) (Class (n, rs', Range a.character)) (plain 45) (b ∷ rest) refl
-              ∙ bound_step n rs' (Range a.character) b (n, rs' ++ (a.character, b.character) ∷ [], Done) rest right (λ z f. cc z) (rw (le-leb a.character b.character order) refl)));
+          ∙ (lex_quiet (Class (n, rs', Bound a.character)) (Class (n, rs', Range a.character)) (plain 45) (b ∷ rest) refl
+          ∙ bound_step n rs' (Range a.character) b (n, rs' ++ (a.character, b.character) ∷ [], Done) rest right (λ z f. cc z) (rw (le-leb a.character b.character order) refl)));
     }
 
 not_start : (s : Item) → IsLater s → s ≡ Start → ⊥
@@ -195,8 +194,8 @@ items_end true n middle back items rest ts are some caret h =
     let all = items_read middle n ((45, 45) ∷ []) Done items (dash back ++ plain 93 ∷ rest) tt tt are in
     front_run n (items ++ (dash back ++ plain 93 ∷ rest))
     ∙ (all.reads
-      ∙ (class_ends n all.ranges all.item back rest ts all.ready all.later h
-        ∙ ap (λ v. Some (Symbol (n, v ++ dash_range back) ∷ ts)) all.same))
+    ∙ (class_ends n all.ranges all.item back rest ts all.ready all.later h
+    ∙ ap (λ v. Some (Symbol (n, v ++ dash_range back) ∷ ts)) all.same))
 items_end false n [] true items rest ts are some caret h =
     ap (λ v. lex (Class (n, [], begins n)) (v ++ (plain 45 ∷ plain 93 ∷ rest))) are
     ∙ (front_run n (plain 93 ∷ rest) ∙ lex_token (Class (n, (45, 45) ∷ [], Done)) Outside (Symbol (n, (45, 45) ∷ [])) (plain 93) rest ts refl h)
@@ -208,26 +207,26 @@ items_end false n (range ∷ ranges) back items rest ts (x, y, e, item, more) so
     let same : all.ranges ++ settle all.item ≡ range ∷ ranges = all.same ∙ ap (λ v. v ++ ranges) (one.same ∙ ap (λ v. v ++ range ∷ []) (begins_settled n)) in
     ap (λ v. lex (Class (n, [], begins n)) (v ++ end)) e
     ∙ (ap (λ v. lex (Class (n, [], begins n)) v) (append_assoc x y end)
-      ∙ (one.reads
-        ∙ (all.reads
-          ∙ (class_ends n all.ranges all.item back rest ts all.ready all.later h
-            ∙ ap (λ v. Some (Symbol (n, v ++ dash_range back) ∷ ts)) same))))
+    ∙ (one.reads
+    ∙ (all.reads
+    ∙ (class_ends n all.ranges all.item back rest ts all.ready all.later h
+    ∙ ap (λ v. Some (Symbol (n, v ++ dash_range back) ∷ ts)) same))))
 
 -- the letters of a class are read as its token
 pub class_complete : (y : Bool × List (ℕ × ℕ)) (x rest : List Letter) (ts : List Token) → IsClass y x → lex Outside rest ≡ Some ts → lex Outside (x ++ rest) ≡ Some (Symbol y ∷ ts)
 class_complete y x rest ts k h =
     let end = λ (v : List Letter). k.items ++ (dash k.back ++ v) in
     let moved : plain 91 ∷ (caret y.0 ++ (dash k.front ++ (k.items ++ (dash k.back ++ plain 93 ∷ [])))) ++ rest ≡ plain 91 ∷ (caret y.0 ++ (dash k.front ++ (k.items ++ (dash k.back ++ plain 93 ∷ rest)))) =
-        ap (λ v. plain 91 ∷ v)
-        (append_assoc (caret y.0) (dash k.front ++ (k.items ++ (dash k.back ++ plain 93 ∷ []))) rest
-        ∙ ap (λ v. caret y.0 ++ v)
-        (append_assoc (dash k.front) (k.items ++ (dash k.back ++ plain 93 ∷ [])) rest
-        ∙ ap (λ v. dash k.front ++ v) (append_assoc k.items (dash k.back ++ plain 93 ∷ []) rest ∙ ap (λ v. k.items ++ v) (append_assoc (dash k.back) (plain 93 ∷ []) rest)))) in
+    ap (λ v. plain 91 ∷ v)
+    (append_assoc (caret y.0) (dash k.front ++ (k.items ++ (dash k.back ++ plain 93 ∷ []))) rest
+    ∙ ap (λ v. caret y.0 ++ v)
+    (append_assoc (dash k.front) (k.items ++ (dash k.back ++ plain 93 ∷ [])) rest
+    ∙ ap (λ v. dash k.front ++ v) (append_assoc k.items (dash k.back ++ plain 93 ∷ []) rest ∙ ap (λ v. k.items ++ v) (append_assoc (dash k.back) (plain 93 ∷ []) rest)))) in
     ap (λ v. lex Outside (v ++ rest)) k.letters
     ∙ (ap (λ v. lex Outside v) moved
-      ∙ (begin_run y.0 (dash k.front ++ (k.items ++ (dash k.back ++ plain 93 ∷ rest)))
-        ∙ (items_end k.front y.0 k.middle k.back k.items rest ts k.are_items (λ z. k.some (k.ranges ∙ z)) k.unnegated h
-          ∙ ap (λ v. Some (Symbol (y.0, v) ∷ ts)) (sym k.ranges))))
+    ∙ (begin_run y.0 (dash k.front ++ (k.items ++ (dash k.back ++ plain 93 ∷ rest)))
+    ∙ (items_end k.front y.0 k.middle k.back k.items rest ts k.are_items (λ z. k.some (k.ranges ∙ z)) k.unnegated h
+    ∙ ap (λ v. Some (Symbol (y.0, v) ∷ ts)) (sym k.ranges))))
 
 -- what is left of a class where no item is open
 pub record IsTail (rs : List (ℕ × ℕ)) (x : List Letter) (r : List (ℕ × ℕ)) : Type 0 where
@@ -298,28 +297,28 @@ caret_cases n rs Dash k e = inr (λ z. cc z, e)
 with_plain : (n : Bool) (rs : List (ℕ × ℕ)) (s : Item) (c : ℕ) (k : Bool × List (ℕ × ℕ) × Item) → c ≢ 93 → class_with (n, rs, s) (plain c) ≡ Some k → With n rs s (plain c) k
 with_plain n rs s c k inside e =
     elim (cases_eq c 45) [
-      inl d ↦
-        let at : dash_at n rs s ≡ Some k = sym (rw (eq-eqb c 45 d) refl) ∙ e in
-        inl (ap plain d, at)
-    | inr no_dash ↦
-        elim (cases_eq c 91) [
-          inl d ↦
-            let at : None ≡ Some k = sym (rw (ne_eqb c 45 no_dash, eq-eqb c 91 d) refl) ∙ e in
-            cc at
-        | inr no_bracket ↦
-            let bound : IsBound (plain c) = rw (ne_eqb c 45 no_dash, ne_eqb c 91 no_bracket, ne_eqb c 93 inside) refl in
-            elim (cases_eq c 94) [
-              inl d ↦
-                let at : caret_at n rs s ≡ Some k = sym (rw (ne_eqb c 45 no_dash, ne_eqb c 91 no_bracket, eq-eqb c 94 d) refl) ∙ e in
-                elim (caret_cases n rs s k at) [
-                  inl (start, is) ↦ inr (inr (ap plain d, start, is))
-                | inr (later, is) ↦ inr (inl (bound, ap (λ x. bound_at n rs s x) d ∙ is, λ z f. later z))
+      | inl d ↦
+          let at : dash_at n rs s ≡ Some k = sym (rw (eq-eqb c 45 d) refl) ∙ e in
+          inl (ap plain d, at)
+      | inr no_dash ↦
+          elim (cases_eq c 91) [
+            | inl d ↦
+                let at : None ≡ Some k = sym (rw (ne_eqb c 45 no_dash, eq-eqb c 91 d) refl) ∙ e in
+                cc at
+            | inr no_bracket ↦
+                let bound : IsBound (plain c) = rw (ne_eqb c 45 no_dash, ne_eqb c 91 no_bracket, ne_eqb c 93 inside) refl in
+                elim (cases_eq c 94) [
+                  | inl d ↦
+                      let at : caret_at n rs s ≡ Some k = sym (rw (ne_eqb c 45 no_dash, ne_eqb c 91 no_bracket, eq-eqb c 94 d) refl) ∙ e in
+                      elim (caret_cases n rs s k at) [
+                        | inl (start, is) ↦ inr (inr (ap plain d, start, is))
+                        | inr (later, is) ↦ inr (inl (bound, ap (λ x. bound_at n rs s x) d ∙ is, λ z f. later z))
+                      ]
+                  | inr other ↦
+                      let at : bound_at n rs s c ≡ Some k = sym (rw (ne_eqb c 45 no_dash, ne_eqb c 91 no_bracket, ne_eqb c 94 other) refl) ∙ e in
+                      inr (inl (bound, at, λ z f. other (ap (λ (x : Letter). x.character) f)))
                 ]
-            | inr other ↦
-                let at : bound_at n rs s c ≡ Some k = sym (rw (ne_eqb c 45 no_dash, ne_eqb c 91 no_bracket, ne_eqb c 94 other) refl) ∙ e in
-                inr (inl (bound, at, λ z f. other (ap (λ (x : Letter). x.character) f)))
-            ]
-        ]
+          ]
     ]
 
 with_escape : (n : Bool) (rs : List (ℕ × ℕ)) (s : Item) (c : ℕ) (k : Bool × List (ℕ × ℕ) × Item) → class_with (n, rs, s) (record { character = c; escaped = true }) ≡ Some k → With n rs s (record { character = c; escaped = true }) k
@@ -351,21 +350,21 @@ class_first : (n : Bool) (rs : List (ℕ × ℕ)) (s : Item) (l : Letter) (ls : 
 class_first n rs s l ls ts e =
     let (st, us, here, rest, all) = lex_first (Class (n, rs, s)) l ls ts e in
     elim (cases_Bool (eqb l.character 93 && not l.escaped)) [
-      inl ends ↦
-        let at : option_map (λ y. record { mode = Outside; token = Some (Symbol y) }) (close_at n rs s) ≡ Some st = sym (rw ends refl) ∙ here in
-        let (y, closes, is) = map_some (λ y. record { mode = Outside; token = Some (Symbol y) }) (close_at n rs s) st at in
-        let (r, same, rest_is) = close_sound n rs s y closes in
-        let parts = and_parts (eqb l.character 93) (not l.escaped) ends in
-        let letter : l ≡ plain 93 = letter_is l 93 (eqb-true l.character 93 parts.0) (not-true l.escaped parts.1) in
-        let after : lex Outside ls ≡ Some us = ap (λ (x : Step). lex x.mode ls) (sym is) ∙ rest in
-        let tokens : ts ≡ Symbol (n, r) ∷ us = all ∙ (ap (λ (x : Step). option_to_list x.token ++ us) is ∙ ap (λ (z : Bool × List (ℕ × ℕ)). Symbol z ∷ us) (sym same)) in
-        inl (r, us, letter, tokens, after, rest_is)
-    | inr goes ↦
-        let at : option_map (λ k. record { mode = Class k; token = None }) (class_with (n, rs, s) l) ≡ Some st = sym (rw goes refl) ∙ here in
-        let (k, with, is) = map_some (λ k. record { mode = Class k; token = None }) (class_with (n, rs, s) l) st at in
-        let after : lex (Class k) ls ≡ Some us = ap (λ (x : Step). lex x.mode ls) (sym is) ∙ rest in
-        let tokens : ts ≡ us = all ∙ ap (λ (x : Step). option_to_list x.token ++ us) is in
-        inr (k, with_cases n rs s l.character l.escaped k goes with, after ∙ ap Some (sym tokens))
+      | inl ends ↦
+          let at : option_map (λ y. record { mode = Outside; token = Some (Symbol y) }) (close_at n rs s) ≡ Some st = sym (rw ends refl) ∙ here in
+          let (y, closes, is) = map_some (λ y. record { mode = Outside; token = Some (Symbol y) }) (close_at n rs s) st at in
+          let (r, same, rest_is) = close_sound n rs s y closes in
+          let parts = and_parts (eqb l.character 93) (not l.escaped) ends in
+          let letter : l ≡ plain 93 = letter_is l 93 (eqb-true l.character 93 parts.0) (not-true l.escaped parts.1) in
+          let after : lex Outside ls ≡ Some us = ap (λ (x : Step). lex x.mode ls) (sym is) ∙ rest in
+          let tokens : ts ≡ Symbol (n, r) ∷ us = all ∙ (ap (λ (x : Step). option_to_list x.token ++ us) is ∙ ap (λ (z : Bool × List (ℕ × ℕ)). Symbol z ∷ us) (sym same)) in
+          inl (r, us, letter, tokens, after, rest_is)
+      | inr goes ↦
+          let at : option_map (λ k. record { mode = Class k; token = None }) (class_with (n, rs, s) l) ≡ Some st = sym (rw goes refl) ∙ here in
+          let (k, with, is) = map_some (λ k. record { mode = Class k; token = None }) (class_with (n, rs, s) l) st at in
+          let after : lex (Class k) ls ≡ Some us = ap (λ (x : Step). lex x.mode ls) (sym is) ∙ rest in
+          let tokens : ts ≡ us = all ∙ ap (λ (x : Step). option_to_list x.token ++ us) is in
+          inr (k, with_cases n rs s l.character l.escaped k goes with, after ∙ ap Some (sym tokens))
     ]
 
 closed_here : (n : Bool) (rs : List (ℕ × ℕ)) (s : Item) (l : Letter) (ls : List Letter) (ts : List Token)
@@ -375,8 +374,8 @@ closed_here n rs s l ls ts (r, us, letter, tokens, after, rest) = (r, [], ls, us
 ordered : (n : Bool) (rs : List (ℕ × ℕ)) (c d : ℕ) (k : Bool × List (ℕ × ℕ) × Item) → bound_at n rs (Range c) d ≡ Some k → (c ≤ d) × ((n, rs ++ (c, d) ∷ [], Done) ≡ k)
 ordered n rs c d k e =
     elim (cases_Bool (leb c d)) [
-      inl low ↦ let at : Some (n, rs ++ (c, d) ∷ [], Done) ≡ Some k = sym (rw low refl) ∙ e in (leb-true c d low, cc at)
-    | inr high ↦ let at : None ≡ Some k = sym (rw high refl) ∙ e in cc at
+      | inl low ↦ let at : Some (n, rs ++ (c, d) ∷ [], Done) ≡ Some k = sym (rw low refl) ∙ e in (leb-true c d low, cc at)
+      | inr high ↦ let at : None ≡ Some k = sym (rw high refl) ∙ e in cc at
     ]
 
 -- an open item is closed as the grammar says
@@ -386,46 +385,46 @@ class_sound (l ∷ ls) n rs Start ts later e = absurd later
 class_sound (l ∷ ls) n rs Negated ts later e = absurd later
 class_sound (l ∷ ls) n rs Done ts later e =
     elim (class_first n rs Done l ls ts e) [
-      inl here ↦ closed_here n rs Done l ls ts here
-    | inr (k, inl (dashes, at), after) ↦
-        let is : (n, rs, Dash) ≡ k = cc at in
-        let inner = class_sound ls n rs Dash ts tt (ap (λ z. lex (Class z) ls) is ∙ after) in
-        one_before n l ls ts (Continues Dash rs) (Continues Done rs) (λ x r (f, g). subst (λ (z : Letter). IsTail rs (z ∷ x) r) (sym dashes) (tail_dash rs x r f g)) inner
-    | inr (k, inr (inl (bound, at, caret)), after) ↦
-        let is : (n, rs, Bound l.character) ≡ k = cc at in
-        let inner = class_sound ls n rs (Bound l.character) ts tt (ap (λ z. lex (Class z) ls) is ∙ after) in
-        one_before n l ls ts (Continues (Bound l.character) rs) (Continues Done rs) (λ x r f. tail_bound rs l x r bound f) inner
-    | inr (k, inr (inr (c, start, is)), after) ↦ cc start
+      | inl here ↦ closed_here n rs Done l ls ts here
+      | inr (k, inl (dashes, at), after) ↦
+          let is : (n, rs, Dash) ≡ k = cc at in
+          let inner = class_sound ls n rs Dash ts tt (ap (λ z. lex (Class z) ls) is ∙ after) in
+          one_before n l ls ts (Continues Dash rs) (Continues Done rs) (λ x r (f, g). subst (λ (z : Letter). IsTail rs (z ∷ x) r) (sym dashes) (tail_dash rs x r f g)) inner
+      | inr (k, inr (inl (bound, at, caret)), after) ↦
+          let is : (n, rs, Bound l.character) ≡ k = cc at in
+          let inner = class_sound ls n rs (Bound l.character) ts tt (ap (λ z. lex (Class z) ls) is ∙ after) in
+          one_before n l ls ts (Continues (Bound l.character) rs) (Continues Done rs) (λ x r f. tail_bound rs l x r bound f) inner
+      | inr (k, inr (inr (c, start, is)), after) ↦ cc start
     ]
 class_sound (l ∷ ls) n rs (Bound c) ts later e =
     elim (class_first n rs (Bound c) l ls ts e) [
-      inl here ↦ closed_here n rs (Bound c) l ls ts here
-    | inr (k, inl (dashes, at), after) ↦
-        let is : (n, rs, Range c) ≡ k = cc at in
-        let inner = class_sound ls n rs (Range c) ts tt (ap (λ z. lex (Class z) ls) is ∙ after) in
-        one_before n l ls ts (Continues (Range c) rs) (Continues (Bound c) rs) (λ x r f. range_behind c rs l x r dashes f) inner
-    | inr (k, inr (inl (bound, at, caret)), after) ↦
-        let is : (n, rs ++ (c, c) ∷ [], Bound l.character) ≡ k = cc at in
-        let inner = class_sound ls n (rs ++ (c, c) ∷ []) (Bound l.character) ts tt (ap (λ z. lex (Class z) ls) is ∙ after) in
-        one_before n l ls ts (Continues (Bound l.character) (rs ++ (c, c) ∷ [])) (Continues (Bound c) rs) (λ x r f. inl (tail_bound (rs ++ (c, c) ∷ []) l x r bound f)) inner
-    | inr (k, inr (inr (d, start, is)), after) ↦ cc start
+      | inl here ↦ closed_here n rs (Bound c) l ls ts here
+      | inr (k, inl (dashes, at), after) ↦
+          let is : (n, rs, Range c) ≡ k = cc at in
+          let inner = class_sound ls n rs (Range c) ts tt (ap (λ z. lex (Class z) ls) is ∙ after) in
+          one_before n l ls ts (Continues (Range c) rs) (Continues (Bound c) rs) (λ x r f. range_behind c rs l x r dashes f) inner
+      | inr (k, inr (inl (bound, at, caret)), after) ↦
+          let is : (n, rs ++ (c, c) ∷ [], Bound l.character) ≡ k = cc at in
+          let inner = class_sound ls n (rs ++ (c, c) ∷ []) (Bound l.character) ts tt (ap (λ z. lex (Class z) ls) is ∙ after) in
+          one_before n l ls ts (Continues (Bound l.character) (rs ++ (c, c) ∷ [])) (Continues (Bound c) rs) (λ x r f. inl (tail_bound (rs ++ (c, c) ∷ []) l x r bound f)) inner
+      | inr (k, inr (inr (d, start, is)), after) ↦ cc start
     ]
 class_sound (l ∷ ls) n rs (Range c) ts later e =
     elim (class_first n rs (Range c) l ls ts e) [
-      inl here ↦ closed_here n rs (Range c) l ls ts here
-    | inr (k, inl (dashes, at), after) ↦ cc at
-    | inr (k, inr (inl (bound, at, caret)), after) ↦
-        let (order, is) = ordered n rs c l.character k at in
-        let inner = class_sound ls n (rs ++ (c, l.character) ∷ []) Done ts tt (ap (λ z. lex (Class z) ls) is ∙ after) in
-        one_before n l ls ts (Continues Done (rs ++ (c, l.character) ∷ [])) (Continues (Range c) rs) (λ x r f. inr (l, x, refl, bound, order, f)) inner
-    | inr (k, inr (inr (d, start, is)), after) ↦ cc start
+      | inl here ↦ closed_here n rs (Range c) l ls ts here
+      | inr (k, inl (dashes, at), after) ↦ cc at
+      | inr (k, inr (inl (bound, at, caret)), after) ↦
+          let (order, is) = ordered n rs c l.character k at in
+          let inner = class_sound ls n (rs ++ (c, l.character) ∷ []) Done ts tt (ap (λ z. lex (Class z) ls) is ∙ after) in
+          one_before n l ls ts (Continues Done (rs ++ (c, l.character) ∷ [])) (Continues (Range c) rs) (λ x r f. inr (l, x, refl, bound, order, f)) inner
+      | inr (k, inr (inr (d, start, is)), after) ↦ cc start
     ]
 class_sound (l ∷ ls) n rs Dash ts later e =
     elim (class_first n rs Dash l ls ts e) [
-      inl here ↦ closed_here n rs Dash l ls ts here
-    | inr (k, inl (dashes, at), after) ↦ cc at
-    | inr (k, inr (inl (bound, at, caret)), after) ↦ cc at
-    | inr (k, inr (inr (d, start, is)), after) ↦ cc start
+      | inl here ↦ closed_here n rs Dash l ls ts here
+      | inr (k, inl (dashes, at), after) ↦ cc at
+      | inr (k, inr (inl (bound, at, caret)), after) ↦ cc at
+      | inr (k, inr (inr (d, start, is)), after) ↦ cc start
     ]
 
 -- the items of a class from its start
@@ -462,14 +461,14 @@ negated_sound : (ls : List Letter) (n : Bool) (ts : List Token) → lex (Class (
 negated_sound [] n ts e = cc e
 negated_sound (l ∷ ls) n ts e =
     elim (class_first n [] Negated l ls ts e) [
-      inl (r, us, letter, tokens, after, nothing) ↦ absurd nothing
-    | inr (k, inl (dashes, at), after) ↦
-        let is : (n, (45, 45) ∷ [], Done) ≡ k = cc at in
-        one_before n l ls ts (Continues Done ((45, 45) ∷ [])) IsFresh (λ x r f. fresh_dash l x r dashes f) (class_sound ls n ((45, 45) ∷ []) Done ts tt (ap (λ z. lex (Class z) ls) is ∙ after))
-    | inr (k, inr (inl (bound, at, caret)), after) ↦
-        let is : (n, [], Bound l.character) ≡ k = cc at in
-        one_before n l ls ts (Continues (Bound l.character) []) IsFresh (λ x r f. fresh_bound l x r bound f) (class_sound ls n [] (Bound l.character) ts tt (ap (λ z. lex (Class z) ls) is ∙ after))
-    | inr (k, inr (inr (c, start, is)), after) ↦ cc start
+      | inl (r, us, letter, tokens, after, nothing) ↦ absurd nothing
+      | inr (k, inl (dashes, at), after) ↦
+          let is : (n, (45, 45) ∷ [], Done) ≡ k = cc at in
+          one_before n l ls ts (Continues Done ((45, 45) ∷ [])) IsFresh (λ x r f. fresh_dash l x r dashes f) (class_sound ls n ((45, 45) ∷ []) Done ts tt (ap (λ z. lex (Class z) ls) is ∙ after))
+      | inr (k, inr (inl (bound, at, caret)), after) ↦
+          let is : (n, [], Bound l.character) ≡ k = cc at in
+          one_before n l ls ts (Continues (Bound l.character) []) IsFresh (λ x r f. fresh_bound l x r bound f) (class_sound ls n [] (Bound l.character) ts tt (ap (λ z. lex (Class z) ls) is ∙ after))
+      | inr (k, inr (inr (c, start, is)), after) ↦ cc start
     ]
 
 -- the items of a class, of which no caret is the first unless it is negated
@@ -485,16 +484,16 @@ start_sound : (ls : List Letter) (ts : List Token) → lex (Class (false, [], St
 start_sound [] ts e = cc e
 start_sound (l ∷ ls) ts e =
     elim (class_first false [] Start l ls ts e) [
-      inl (r, us, letter, tokens, after, nothing) ↦ absurd nothing
-    | inr (k, inl (dashes, at), after) ↦
-        let is : (false, (45, 45) ∷ [], Done) ≡ k = cc at in
-        (false, l ∷ ls, refl, one_before false l ls ts (Continues Done ((45, 45) ∷ [])) (Unnegated false) (λ x r f. (fresh_dash l x r dashes f, λ z g. no_caret l dashes g)) (class_sound ls false ((45, 45) ∷ []) Done ts tt (ap (λ z. lex (Class z) ls) is ∙ after)))
-    | inr (k, inr (inl (bound, at, first)), after) ↦
-        let is : (false, [], Bound l.character) ≡ k = cc at in
-        (false, l ∷ ls, refl, one_before false l ls ts (Continues (Bound l.character) []) (Unnegated false) (λ x r f. (fresh_bound l x r bound f, λ z g. first refl g)) (class_sound ls false [] (Bound l.character) ts tt (ap (λ z. lex (Class z) ls) is ∙ after)))
-    | inr (k, inr (inr (c, start, is)), after) ↦
-        let (r, x, y, us, split, tokens, end, fresh) = negated_sound ls true ts (ap (λ z. lex (Class z) ls) is ∙ after) in
-        (true, ls, ap (λ (z : Letter). z ∷ ls) c, (r, x, y, us, split, tokens, end, (fresh, λ z g. true≢false z)))
+      | inl (r, us, letter, tokens, after, nothing) ↦ absurd nothing
+      | inr (k, inl (dashes, at), after) ↦
+          let is : (false, (45, 45) ∷ [], Done) ≡ k = cc at in
+          (false, l ∷ ls, refl, one_before false l ls ts (Continues Done ((45, 45) ∷ [])) (Unnegated false) (λ x r f. (fresh_dash l x r dashes f, λ z g. no_caret l dashes g)) (class_sound ls false ((45, 45) ∷ []) Done ts tt (ap (λ z. lex (Class z) ls) is ∙ after)))
+      | inr (k, inr (inl (bound, at, first)), after) ↦
+          let is : (false, [], Bound l.character) ≡ k = cc at in
+          (false, l ∷ ls, refl, one_before false l ls ts (Continues (Bound l.character) []) (Unnegated false) (λ x r f. (fresh_bound l x r bound f, λ z g. first refl g)) (class_sound ls false [] (Bound l.character) ts tt (ap (λ z. lex (Class z) ls) is ∙ after)))
+      | inr (k, inr (inr (c, start, is)), after) ↦
+          let (r, x, y, us, split, tokens, end, fresh) = negated_sound ls true ts (ap (λ z. lex (Class z) ls) is ∙ after) in
+          (true, ls, ap (λ (z : Letter). z ∷ ls) c, (r, x, y, us, split, tokens, end, (fresh, λ z g. true≢false z)))
     ]
 
 -- a class is read only from its letters
@@ -507,8 +506,7 @@ class_token ls ts e =
     let body : x ≡ dash fresh.front ++ (tail.items ++ dash tail.back) = fresh.letters ∙ ap (λ v. dash fresh.front ++ v) tail.letters in
     let front_part : x ≡ (dash fresh.front ++ tail.items) ++ dash tail.back = body ∙ sym (append_assoc (dash fresh.front) tail.items (dash tail.back)) in
     let spelled : plain 91 ∷ (caret n ++ (x ++ end)) ≡ plain 91 ∷ (caret n ++ (dash fresh.front ++ (tail.items ++ (dash tail.back ++ end)))) =
-        ap (λ v. plain 91 ∷ (caret n ++ v)) (ap (λ v. v ++ end) body ∙ (append_assoc (dash fresh.front) (tail.items ++ dash tail.back) end ∙ ap (λ v. dash fresh.front ++ v) (append_assoc tail.items (dash tail.back) end))) in
-    (
+    ap (λ v. plain 91 ∷ (caret n ++ v)) (ap (λ v. v ++ end) body ∙ (append_assoc (dash fresh.front) (tail.items ++ dash tail.back) end ∙ ap (λ v. dash fresh.front ++ v) (append_assoc tail.items (dash tail.back) end))) in (
       (n, r),
       plain 91 ∷ (caret n ++ (x ++ end)),
       rest,

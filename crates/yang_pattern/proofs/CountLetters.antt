@@ -1,6 +1,6 @@
 -- Reading the letters of a quantifier in braces gives exactly the letters of its decimals.
-use Rattle.std.proofs.Common.{◌≡◌, ◌≢◌, ℕ, ◌+◌, ◌-◌, ◌*◌, ◌/◌, ◌%◌, ◌<◌, ◌≤◌, Bool, true, false, ◌&&◌, ◌||◌, not, cond, eqb, leb, List, [], ◌∷◌, ◌++◌, map, Option, Some, None, option_map, option_and_then, option_to_list, refl, sym, ap, ◌∙◌, subst, append_assoc, append-nil, inl, inr, ◌⊎◌, arith}
-use Rattle.std.proofs.lemmas.Bool.{eq-eqb, eqb-true, ne_eqb, eqb-false, cases_eq, cases_Bool, le-leb, leb-true, lt-ltb, lt-leb, leb-false, true≢false, and_parts, agree_below_at, not-true, and_from}
+use Rattle.std.proofs.Common.{◌≡◌, ◌≢◌, ℕ, ◌+◌, ◌-◌, ◌*◌, ◌/◌, ◌%◌, ◌<◌, ◌≤◌, Bool, true, false, ◌&&◌, ◌||◌, not, cond, eqb, leb, List, [], ◌∷◌, ◌++◌, map, Option, Some, None, option_map, option_and_then, option_to_list, refl, sym, ap, ◌∙◌, subst, append_assoc, inl, inr, arith}
+use Rattle.std.proofs.lemmas.Bool.{eq-eqb, eqb-true, ne_eqb, eqb-false, cases_eq, cases_Bool, le-leb, leb-true, lt-ltb, lt-leb, true≢false, and_parts, agree_below_at, not-true}
 use Rattle.std.proofs.lemmas.List.{map-append}
 use Rattle.yang_pattern.specs.declared.letters.Letter.{Letter}
 use Rattle.yang_pattern.specs.declared.symbols.Quantifier.{Quantifier}
@@ -9,11 +9,10 @@ use Rattle.yang_pattern.specs.declared.symbols.Token.{Token}
 use Rattle.yang_pattern.specs.declared.symbols.Token.TheVariants.{Times}
 use Rattle.yang_pattern.specs.declared.counts.OpenCount.{OpenCount}
 use Rattle.yang_pattern.specs.declared.counts.OpenCount.TheVariants.{First, Second}
-use Rattle.yang_pattern.specs.declared.tokens.Mode.{Mode}
 use Rattle.yang_pattern.specs.declared.tokens.Mode.TheVariants.{Outside, Count}
 use Rattle.yang_pattern.specs.declared.tokens.Step.{Step}
 use Rattle.yang_pattern.specs.Counts.{with_digit, count_comma, count_digit, count_with, count_close}
-use Rattle.yang_pattern.specs.Lexing.{in_count, advance, lex}
+use Rattle.yang_pattern.specs.Lexing.{advance, lex}
 use Rattle.yang_pattern.specs.Grammar.{plain, decimal, digits, IsQuantifier}
 use Rattle.yang_pattern.proofs.LexRuns.{lex_quiet, lex_token, lex_first, letter_is}
 use Rattle.yang_pattern.proofs.Written.{map_some, then_some}
@@ -88,8 +87,7 @@ digit_shown (Some n) d k h e =
     let small : n * 10 + d ≤ 255 = leb-true (n * 10 + d) 255 parts.1 in
     let is : n * 10 + d ≡ k = parts.2 in
     let front : k / 10 ≡ n = omega arith in
-    let last : k % 10 ≡ d = omega arith in
-    (
+    let last : k % 10 ≡ d = omega arith in (
       ap (λ xs. map plain xs) (decimal_grows k (omega arith) (omega arith) ∙ (ap (λ x. decimal x ++ (48 + k % 10) ∷ []) front ∙ ap (λ x. decimal n ++ (48 + x) ∷ []) last)) ∙ map-append plain (decimal n) ((48 + d) ∷ []),
       omega arith,
     )
@@ -136,23 +134,23 @@ with_count k n l small e = by_cases l.escaped refl
         cc none
     by_cases false h =
         elim (cases_eq l.character 44) [
-          inl comma ↦
-            let at : count_comma k ≡ Some n = sym (rw (h, eq-eqb l.character 44 comma) refl) ∙ e in
-            let is = letter_is l 44 comma h in
-            subst (λ (x : Letter). (count_shown n ≡ count_shown k ++ x ∷ []) × IsSmallCount n) (sym is) (comma_count k n small at)
-        | inr other ↦
-            elim (cases_Bool (leb 48 l.character && leb l.character 57)) [
-              inl digit ↦
-                let bounds = and_parts (leb 48 l.character) (leb l.character 57) digit in
-                let low = leb-true 48 l.character bounds.0 in
-                let high = leb-true l.character 57 bounds.1 in
-                let at : count_digit k (l.character - 48) ≡ Some n = sym (rw (h, ne_eqb l.character 44 other, digit) refl) ∙ e in
-                let is = letter_is l (48 + (l.character - 48)) (omega arith) h in
-                subst (λ (x : Letter). (count_shown n ≡ count_shown k ++ x ∷ []) × IsSmallCount n) (sym is) (digit_count k (l.character - 48) n (omega arith) small at)
-            | inr none ↦
-                let at : None ≡ Some n = sym (rw (h, ne_eqb l.character 44 other, none) refl) ∙ e in
-                cc at
-            ]
+          | inl comma ↦
+              let at : count_comma k ≡ Some n = sym (rw (h, eq-eqb l.character 44 comma) refl) ∙ e in
+              let is = letter_is l 44 comma h in
+              subst (λ (x : Letter). (count_shown n ≡ count_shown k ++ x ∷ []) × IsSmallCount n) (sym is) (comma_count k n small at)
+          | inr other ↦
+              elim (cases_Bool (leb 48 l.character && leb l.character 57)) [
+                | inl digit ↦
+                    let bounds = and_parts (leb 48 l.character) (leb l.character 57) digit in
+                    let low = leb-true 48 l.character bounds.0 in
+                    let high = leb-true l.character 57 bounds.1 in
+                    let at : count_digit k (l.character - 48) ≡ Some n = sym (rw (h, ne_eqb l.character 44 other, digit) refl) ∙ e in
+                    let is = letter_is l (48 + (l.character - 48)) (omega arith) h in
+                    subst (λ (x : Letter). (count_shown n ≡ count_shown k ++ x ∷ []) × IsSmallCount n) (sym is) (digit_count k (l.character - 48) n (omega arith) small at)
+                | inr none ↦
+                    let at : None ≡ Some n = sym (rw (h, ne_eqb l.character 44 other, none) refl) ∙ e in
+                    cc at
+              ]
         ]
 
 -- the closing brace
@@ -183,22 +181,22 @@ count_sound [] k ts small e = cc e
 count_sound (l ∷ ls) k ts small e =
     let (s, us, here, rest, all) = lex_first (Count k) l ls ts e in
     elim (cases_Bool (eqb l.character 125 && not l.escaped)) [
-      inl ends ↦
-        let at : option_map (λ q. record { mode = Outside; token = Some (Times q) }) (count_close k) ≡ Some s = sym (rw ends refl) ∙ here in
-        let (q, closes, is) = map_some (λ q. record { mode = Outside; token = Some (Times q) }) (count_close k) s at in
-        let parts = and_parts (eqb l.character 125) (not l.escaped) ends in
-        let letter : l ≡ plain 125 = letter_is l 125 (eqb-true l.character 125 parts.0) (not-true l.escaped parts.1) in
-        let after : lex Outside ls ≡ Some us = ap (λ (x : Step). lex x.mode ls) (sym is) ∙ rest in
-        let tokens : ts ≡ Times q ∷ us = all ∙ ap (λ (x : Step). option_to_list x.token ++ us) is in
-        (q, l ∷ [], ls, us, refl, tokens, after, subst (λ (x : Letter). IsQuantifier q (plain 123 ∷ (count_shown k ++ x ∷ []))) (sym letter) (close_count k q small closes))
-    | inr goes ↦
-        let at : option_map (λ n. record { mode = Count n; token = None }) (count_with k l) ≡ Some s = sym (rw goes refl) ∙ here in
-        let (n, with, is) = map_some (λ n. record { mode = Count n; token = None }) (count_with k l) s at in
-        let (shows, within) = with_count k n l small with in
-        let after : lex (Count n) ls ≡ Some us = ap (λ (x : Step). lex x.mode ls) (sym is) ∙ rest in
-        let tokens : ts ≡ us = all ∙ ap (λ (x : Step). option_to_list x.token ++ us) is in
-        let (q, x, y, vs, split, more, end, quantifier) = count_sound ls n us within after in
-        (q, l ∷ x, y, vs, ap (λ v. l ∷ v) split, tokens ∙ more, end, subst (λ v. IsQuantifier q (plain 123 ∷ v)) (ap (λ v. v ++ x) shows ∙ append_assoc (count_shown k) (l ∷ []) x) quantifier)
+      | inl ends ↦
+          let at : option_map (λ q. record { mode = Outside; token = Some (Times q) }) (count_close k) ≡ Some s = sym (rw ends refl) ∙ here in
+          let (q, closes, is) = map_some (λ q. record { mode = Outside; token = Some (Times q) }) (count_close k) s at in
+          let parts = and_parts (eqb l.character 125) (not l.escaped) ends in
+          let letter : l ≡ plain 125 = letter_is l 125 (eqb-true l.character 125 parts.0) (not-true l.escaped parts.1) in
+          let after : lex Outside ls ≡ Some us = ap (λ (x : Step). lex x.mode ls) (sym is) ∙ rest in
+          let tokens : ts ≡ Times q ∷ us = all ∙ ap (λ (x : Step). option_to_list x.token ++ us) is in
+          (q, l ∷ [], ls, us, refl, tokens, after, subst (λ (x : Letter). IsQuantifier q (plain 123 ∷ (count_shown k ++ x ∷ []))) (sym letter) (close_count k q small closes))
+      | inr goes ↦
+          let at : option_map (λ n. record { mode = Count n; token = None }) (count_with k l) ≡ Some s = sym (rw goes refl) ∙ here in
+          let (n, with, is) = map_some (λ n. record { mode = Count n; token = None }) (count_with k l) s at in
+          let (shows, within) = with_count k n l small with in
+          let after : lex (Count n) ls ≡ Some us = ap (λ (x : Step). lex x.mode ls) (sym is) ∙ rest in
+          let tokens : ts ≡ us = all ∙ ap (λ (x : Step). option_to_list x.token ++ us) is in
+          let (q, x, y, vs, split, more, end, quantifier) = count_sound ls n us within after in
+          (q, l ∷ x, y, vs, ap (λ v. l ∷ v) split, tokens ∙ more, end, subst (λ v. IsQuantifier q (plain 123 ∷ v)) (ap (λ v. v ++ x) shows ∙ append_assoc (count_shown k) (l ∷ []) x) quantifier)
     ]
 
 digit_step : (k n : OpenCount) (c : ℕ) → (leb 48 c && leb c 57) ≡ true → count_digit k (c - 48) ≡ Some n → advance (Count k) (plain c) ≡ Some (record { mode = Count n; token = None })
@@ -218,14 +216,14 @@ count_run [] m n f rest ok e =
     ap (λ x. lex (Count (f x)) rest) is
 count_run (c ∷ cs) m n f rest ok e =
     elim (cases_Bool (leb 48 c && leb c 57)) [
-      inl digit ↦
-        let at : option_and_then (λ i. with_digits (Some i) cs) (with_digit m (c - 48)) ≡ Some n = sym (rw digit refl) ∙ e in
-        let (i, here, more) = then_some (λ i. with_digits (Some i) cs) (with_digit m (c - 48)) n at in
-        let step : count_digit (f m) (c - 48) ≡ Some (f (Some i)) = ok m (c - 48) ∙ ap (λ o. option_map (λ i. f (Some i)) o) here in
-        lex_quiet (Count (f m)) (Count (f (Some i))) (plain c) (map plain cs ++ rest) (digit_step (f m) (f (Some i)) c digit step) ∙ count_run cs (Some i) n f rest ok more
-    | inr none ↦
-        let at : None ≡ Some n = sym (rw none refl) ∙ e in
-        cc at
+      | inl digit ↦
+          let at : option_and_then (λ i. with_digits (Some i) cs) (with_digit m (c - 48)) ≡ Some n = sym (rw digit refl) ∙ e in
+          let (i, here, more) = then_some (λ i. with_digits (Some i) cs) (with_digit m (c - 48)) n at in
+          let step : count_digit (f m) (c - 48) ≡ Some (f (Some i)) = ok m (c - 48) ∙ ap (λ o. option_map (λ i. f (Some i)) o) here in
+          lex_quiet (Count (f m)) (Count (f (Some i))) (plain c) (map plain cs ++ rest) (digit_step (f m) (f (Some i)) c digit step) ∙ count_run cs (Some i) n f rest ok more
+      | inr none ↦
+          let at : None ≡ Some n = sym (rw none refl) ∙ e in
+          cc at
     ]
 
 first_run : (n : ℕ) (rest : List Letter) → n ≤ 255 → lex Outside (plain 123 ∷ (digits n ++ rest)) ≡ lex (Count (First (Some n))) rest
@@ -247,23 +245,23 @@ quantifier_complete (AtLeast n) x y ts (inl (e, zero)) h =
 quantifier_complete (AtLeast n) x y ts (inr (small, e)) h =
     ap (λ v. lex Outside (v ++ y)) e
     ∙ (ap (λ v. lex Outside (plain 123 ∷ v)) (append_assoc (digits n) (plain 44 ∷ plain 125 ∷ []) y)
-      ∙ (first_run n (plain 44 ∷ plain 125 ∷ y) small
-        ∙ (lex_quiet (Count (First (Some n))) (Count (Second n None)) (plain 44) (plain 125 ∷ y) refl
-          ∙ lex_token (Count (Second n None)) Outside (Times (AtLeast n)) (plain 125) y ts refl h)))
+    ∙ (first_run n (plain 44 ∷ plain 125 ∷ y) small
+    ∙ (lex_quiet (Count (First (Some n))) (Count (Second n None)) (plain 44) (plain 125 ∷ y) refl
+    ∙ lex_token (Count (Second n None)) Outside (Times (AtLeast n)) (plain 125) y ts refl h)))
 quantifier_complete (Between n m) x y ts (inl (e, zero, one)) h =
     ap (λ v. lex Outside (v ++ y)) e
     ∙ (lex_token Outside Outside (Times (Between 0 1)) (plain 63) y ts refl h ∙ (ap (λ k. Some (Times (Between k 1) ∷ ts)) (sym zero) ∙ ap (λ k. Some (Times (Between n k) ∷ ts)) (sym one)))
 quantifier_complete (Between n m) x y ts (inr (inl (small, zero, e))) h =
     ap (λ v. lex Outside (v ++ y)) e
     ∙ (ap (λ v. lex Outside (plain 123 ∷ v)) (append_assoc (digits n) (plain 125 ∷ []) y)
-      ∙ (first_run n (plain 125 ∷ y) small
-        ∙ (lex_token (Count (First (Some n))) Outside (Times (Between n 0)) (plain 125) y ts refl h ∙ ap (λ k. Some (Times (Between n k) ∷ ts)) (sym zero))))
+    ∙ (first_run n (plain 125 ∷ y) small
+    ∙ (lex_token (Count (First (Some n))) Outside (Times (Between n 0)) (plain 125) y ts refl h ∙ ap (λ k. Some (Times (Between n k) ∷ ts)) (sym zero))))
 quantifier_complete (Between n m) x y ts (inr (inr (small, e))) h =
     let back : n + m - n ≡ m = omega arith in
     let closes : advance (Count (Second n (Some (n + m)))) (plain 125) ≡ Some (record { mode = Outside; token = Some (Times (Between n m)) }) =
-        rw (le-leb n (n + m) (omega arith), back) refl in
+    rw (le-leb n (n + m) (omega arith), back) refl in
     ap (λ v. lex Outside (v ++ y)) e
     ∙ (ap (λ v. lex Outside (plain 123 ∷ v)) (append_assoc (digits n) (plain 44 ∷ (digits (n + m) ++ plain 125 ∷ [])) y ∙ ap (λ v. digits n ++ plain 44 ∷ v) (append_assoc (digits (n + m)) (plain 125 ∷ []) y))
-      ∙ (first_run n (plain 44 ∷ (digits (n + m) ++ plain 125 ∷ y)) (omega arith)
-        ∙ (second_run n (n + m) (plain 125 ∷ y) small
-          ∙ lex_token (Count (Second n (Some (n + m)))) Outside (Times (Between n m)) (plain 125) y ts closes h)))
+    ∙ (first_run n (plain 44 ∷ (digits (n + m) ++ plain 125 ∷ y)) (omega arith)
+    ∙ (second_run n (n + m) (plain 125 ∷ y) small
+    ∙ lex_token (Count (Second n (Some (n + m)))) Outside (Times (Between n m)) (plain 125) y ts closes h)))

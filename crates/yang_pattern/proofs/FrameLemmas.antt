@@ -1,13 +1,13 @@
 -- Frames and what they stand for, by cases.
-use Rattle.std.proofs.Common.{◌≡◌, ◌<◌, ◌≤◌, ℕ, suc, Bool, List, [], ◌∷◌, ◌++◌, reverse, Option, Some, None, refl, sym, ap, ◌∙◌, subst, IsSomeAnd, length, true, false, ltb, arith}
+use Rattle.std.proofs.Common.{◌≡◌, ◌<◌, ◌≤◌, ℕ, suc, Bool, List, [], ◌∷◌, ◌++◌, reverse, Option, Some, None, refl, sym, ap, ◌∙◌, subst, IsSomeAnd, length, arith}
 use Rattle.std.proofs.lemmas.List.{reverse-append, length-reverse}
 use Rattle.std.proofs.lemmas.Bool.{le-ltb, lt-ltb}
 use Rattle.yang_pattern.specs.declared.symbols.Quantifier.{Quantifier}
 use Rattle.yang_pattern.specs.declared.parts.Part.{Part}
 use Rattle.yang_pattern.specs.declared.frames.Frame.{Frame}
-use Rattle.yang_pattern.specs.Pattern.{Branches, Branch, Piece, times, Atom, followed}
+use Rattle.yang_pattern.specs.Pattern.{Branches, Branch, times, Atom, followed}
 use Rattle.yang_pattern.specs.Parts.{IsPatternPart, IsBranchPart, IsAtomPart}
-use Rattle.yang_pattern.specs.Reading.{Opened, Progress, joined, settled, quantified, with_times, fresh, enter, finish, closed, AreChoices, IsLast, IsFrame, AreFrames}
+use Rattle.yang_pattern.specs.Reading.{Opened, Progress, joined, quantified, fresh, enter, finish, closed, AreChoices, IsLast, IsFrame, AreFrames}
 
 pub joined_none : (r : ℕ → ℕ → Bool) (cs : Option Part) (os : Option Branches) (part : Part) (b : Branch) → cs ≡ None → AreChoices r cs os → IsBranchPart r part b
     → IsPatternPart r part (joined os b)

@@ -1,10 +1,10 @@
 -- The places of two fragments, one behind the other.
-use Rattle.std.proofs.Common.{◌≡◌, ℕ, ◌+◌, ◌-◌, ◌<◌, ◌≤◌, Bool, true, false, ◌&&◌, ◌||◌, leb, List, [], ◌∷◌, ◌++◌, length, refl, sym, ap, ◌∙◌, subst, inl, inr, arith}
+use Rattle.std.proofs.Common.{◌≡◌, ℕ, ◌+◌, ◌-◌, ◌<◌, ◌≤◌, Bool, true, false, ◌&&◌, ◌||◌, leb, List, length, refl, ap, ◌∙◌, subst, inl, inr, arith}
 use Rattle.std.proofs.lemmas.Bool.{cases_lt, le-leb, lt-leb}
 use Rattle.yang_pattern.specs.declared.fragments.Place.{Place}
 use Rattle.yang_pattern.specs.declared.sets.Places.{Places}
-use Rattle.yang_pattern.specs.PlaceSets.{contains, place_at, nowhere, IsAppended, IsMoved, IsLinked, IsWithin}
-use Rattle.yang_pattern.specs.Machine.{Machine, machine_from}
+use Rattle.yang_pattern.specs.PlaceSets.{contains, place_at, IsAppended, IsMoved, IsLinked, IsWithin}
+use Rattle.yang_pattern.specs.Machine.{machine_from}
 use Rattle.yang_pattern.proofs.Languages.{IsJoined, IsEither, IsAgain}
 
 and_false : (b : Bool) → (b && false) ≡ false

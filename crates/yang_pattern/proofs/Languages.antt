@@ -1,7 +1,7 @@
 -- What joined, alternative and repeated machines take.
-use Rattle.std.proofs.Common.{◌≡◌, ◌≢◌, ℕ, suc, zero, ◌+◌, ◌-◌, ◌<◌, ◌≤◌, Bool, true, false, ◌||◌, ◌&&◌, ◌⊎◌, List, [], ◌∷◌, ◌++◌, length, refl, sym, ap, ◌∙◌, subst, inl, inr, arith, ◌↔◌, IsTrue}
+use Rattle.std.proofs.Common.{◌≡◌, ℕ, suc, zero, ◌+◌, ◌-◌, ◌<◌, Bool, true, false, ◌||◌, ◌&&◌, ◌⊎◌, List, [], ◌∷◌, ◌++◌, refl, sym, ap, ◌∙◌, subst, inl, inr, arith, IsTrue}
 use Rattle.std.proofs.lemmas.Bool.{cases_lt, and_from, and_parts, or_cases, or_left, or_right, false≢true}
-use Rattle.yang_pattern.specs.Machine.{Machine, After, From, Takes, Both}
+use Rattle.yang_pattern.specs.Machine.{Machine, After, Takes, Both}
 use Rattle.yang_pattern.specs.Symbols.{Repeated}
 
 -- a place of two machines side by side is one of the first or one of the second

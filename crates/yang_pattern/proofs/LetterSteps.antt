@@ -1,5 +1,5 @@
 -- One character of a text.
-use Rattle.std.proofs.Common.{◌≡◌, ℕ, ◌+◌, Bool, true, false, ◌&&◌, not, cond, eqb, List, [], ◌∷◌, ◌++◌, Option, Some, None, option_map, option_and_then, refl, sym, ap, ◌∙◌, subst, append_assoc, append-nil, length, chars, arith}
+use Rattle.std.proofs.Common.{◌≡◌, ℕ, Bool, true, false, ◌&&◌, not, eqb, List, [], ◌∷◌, ◌++◌, Option, Some, None, option_map, option_and_then, refl, sym, ap, ◌∙◌, append_assoc, append-nil, length, chars, arith}
 use Rattle.std.proofs.lemmas.Str.{chars-nil}
 use Rattle.yang_pattern.specs.declared.errors.PatternError.{PatternError}
 use Rattle.yang_pattern.specs.declared.errors.PatternError.TheVariants.{Bad, Memory}

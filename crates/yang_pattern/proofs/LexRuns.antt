@@ -1,5 +1,5 @@
 -- What one letter brings, as an equation on all letters.
-use Rattle.std.proofs.Common.{◌≡◌, ℕ, Bool, true, false, List, [], ◌∷◌, ◌++◌, Option, Some, None, option_map, option_and_then, option_to_list, refl, sym, ap, ◌∙◌, subst}
+use Rattle.std.proofs.Common.{◌≡◌, ℕ, false, List, [], ◌∷◌, ◌++◌, Option, Some, None, option_map, option_and_then, option_to_list, refl, ap, ◌∙◌}
 use Rattle.yang_pattern.specs.declared.letters.Letter.{Letter}
 use Rattle.yang_pattern.specs.declared.symbols.Token.{Token}
 use Rattle.yang_pattern.specs.declared.tokens.Mode.{Mode}

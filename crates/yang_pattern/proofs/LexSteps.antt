@@ -1,5 +1,5 @@
 -- One letter of a list.
-use Rattle.std.proofs.Common.{◌≡◌, ℕ, List, [], ◌∷◌, ◌++◌, Option, Some, None, option_map, option_and_then, option_to_list, refl, sym, ap, ◌∙◌, append_assoc, append-nil}
+use Rattle.std.proofs.Common.{◌≡◌, List, ◌∷◌, ◌++◌, Option, Some, None, option_map, option_and_then, option_to_list, refl, sym, ap, ◌∙◌, append_assoc}
 use Rattle.yang_pattern.specs.declared.letters.Letter.{Letter}
 use Rattle.yang_pattern.specs.declared.symbols.Token.{Token}
 use Rattle.yang_pattern.specs.declared.tokens.Mode.{Mode}

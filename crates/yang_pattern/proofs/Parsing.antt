@@ -1,11 +1,10 @@
 -- Reading tokens gives exactly the patterns that have these tokens.
-use Rattle.std.proofs.Common.{◌≡◌, ℕ, zero, suc, ◌+◌, ◌<◌, ◌≤◌, max, slice_get, get_or, List, [], ◌∷◌, ◌++◌, length, Option, Some, None, option_map, option_and_then, refl, sym, ap, ◌∙◌, subst, arith, Bool, IsSomeAnd, append_assoc, append-nil}
-use Rattle.std.proofs.lemmas.Bool.{lt-ltb, le-ltb, cases_lt}
-use Rattle.yang_pattern.specs.declared.symbols.Quantifier.{Quantifier}
+use Rattle.std.proofs.Common.{◌≡◌, ℕ, zero, suc, ◌+◌, ◌<◌, ◌≤◌, slice_get, get_or, List, [], ◌∷◌, ◌++◌, length, Option, Some, None, option_and_then, refl, sym, ap, ◌∙◌, arith, Bool, IsSomeAnd, append_assoc, append-nil}
+use Rattle.std.proofs.lemmas.Bool.{lt-ltb}
 use Rattle.yang_pattern.specs.declared.symbols.Token.{Token}
-use Rattle.yang_pattern.specs.declared.symbols.Token.TheVariants.{Open, Close, Bar, Times, Symbol}
-use Rattle.yang_pattern.specs.Pattern.{Branches, one, or, Branch, none, followed, Piece, once, times, Atom, symbol, group, nesting, branch_nesting, piece_nesting, atom_nesting, tokens_of, branch_tokens, piece_tokens, atom_tokens}
-use Rattle.yang_pattern.specs.Reading.{Opened, Progress, fresh, settled, joined, closed, with_atom, with_bar, quantified, with_times, leave, enter, read, finish, run, start, IsReader}
+use Rattle.yang_pattern.specs.declared.symbols.Token.TheVariants.{Open, Close, Bar, Times}
+use Rattle.yang_pattern.specs.Pattern.{Branches, one, or, Branch, none, followed, once, times, Atom, symbol, group, nesting, branch_nesting, atom_nesting, tokens_of, branch_tokens, atom_tokens}
+use Rattle.yang_pattern.specs.Reading.{Opened, Progress, fresh, settled, closed, with_atom, read, run, start, IsReader}
 use Rattle.yang_pattern.specs.declared.parts.Part.{Part}
 use Rattle.yang_pattern.specs.declared.frames.Reader.{Reader}
 use Rattle.yang_pattern.specs.Parts.{IsPatternPart}

@@ -1,6 +1,6 @@
 -- Reading letters gives exactly the letters of the text.
-use Rattle.std.proofs.Common.{◌≡◌, ◌≢◌, ℕ, Bool, true, false, ◌&&◌, not, cond, eqb, List, [], ◌∷◌, ◌++◌, Option, Some, None, option_map, option_and_then, refl, sym, ap, ◌∙◌, subst, append_assoc, inl, inr, ◌⊎◌}
-use Rattle.std.proofs.lemmas.Bool.{eq-eqb, eqb-true, ne_eqb, cases_eq, true≢false}
+use Rattle.std.proofs.Common.{◌≡◌, ℕ, Bool, true, false, List, [], ◌∷◌, ◌++◌, Some, option_map, option_and_then, refl, sym, ap, ◌∙◌, subst, inl, inr}
+use Rattle.std.proofs.lemmas.Bool.{cases_eq, true≢false}
 use Rattle.yang_pattern.specs.declared.letters.Letter.{Letter}
 use Rattle.yang_pattern.specs.Letters.{letters_from, letter_of}
 use Rattle.yang_pattern.specs.Escapes.{escaped_character}
@@ -16,9 +16,9 @@ one_letter false c x y ls (e, other) more =
 one_letter true c x y ls (d, e, is) more =
     ap (λ v. letters_from false (v ++ y)) e
     ∙ (letters_backslash false 92 (d ∷ y) refl refl
-      ∙ (letters_other true d y (λ same h. true≢false h)
-        ∙ (ap (λ o. option_and_then (λ (l : Letter). option_map (λ (xs : List Letter). l ∷ xs) (letters_from false y)) (option_map (λ k. record { character = k; escaped = true }) o)) is
-          ∙ ap (λ o. option_map (λ (xs : List Letter). record { character = c; escaped = true } ∷ xs) o) more)))
+    ∙ (letters_other true d y (λ same h. true≢false h)
+    ∙ (ap (λ o. option_and_then (λ (l : Letter). option_map (λ (xs : List Letter). l ∷ xs) (letters_from false y)) (option_map (λ k. record { character = k; escaped = true }) o)) is
+    ∙ ap (λ o. option_map (λ (xs : List Letter). record { character = c; escaped = true } ∷ xs) o) more)))
 
 pub letters_complete : (ls : List Letter) (cs : List ℕ) → IsText ls cs → letters_from false cs ≡ Some ls
 letters_complete [] cs e = ap (λ v. letters_from false v) e
@@ -37,13 +37,13 @@ letters_sound false [] ls e =
     subst (λ (x : List Letter). IsText x []) is refl
 letters_sound false (c ∷ cs) ls e =
     elim (cases_eq c 92) [
-      inl is ↦ subst (λ d. IsText ls (d ∷ cs)) (sym is) (letters_sound true cs ls (sym (letters_backslash false c cs is refl) ∙ e))
-    | inr other ↦
-        let (l, here, more) = then_some (λ (l : Letter). option_map (λ (xs : List Letter). l ∷ xs) (letters_from false cs)) (letter_of false c) ls (sym (letters_other false c cs (λ is h. other is)) ∙ e) in
-        let (xs, rest, all) = map_some (λ (xs : List Letter). l ∷ xs) (letters_from false cs) ls more in
-        let letter : record { character = c; escaped = false } ≡ l = cc here in
-        let P : Letter → Type 0 = λ k. IsText (k ∷ xs) (c ∷ cs) in
-        subst (λ (x : List Letter). IsText x (c ∷ cs)) (sym all) (subst P letter (c ∷ [], cs, refl, (refl, other), letters_sound false cs xs rest))
+      | inl is ↦ subst (λ d. IsText ls (d ∷ cs)) (sym is) (letters_sound true cs ls (sym (letters_backslash false c cs is refl) ∙ e))
+      | inr other ↦
+          let (l, here, more) = then_some (λ (l : Letter). option_map (λ (xs : List Letter). l ∷ xs) (letters_from false cs)) (letter_of false c) ls (sym (letters_other false c cs (λ is h. other is)) ∙ e) in
+          let (xs, rest, all) = map_some (λ (xs : List Letter). l ∷ xs) (letters_from false cs) ls more in
+          let letter : record { character = c; escaped = false } ≡ l = cc here in
+          let P : Letter → Type 0 = λ k. IsText (k ∷ xs) (c ∷ cs) in
+          subst (λ (x : List Letter). IsText x (c ∷ cs)) (sym all) (subst P letter (c ∷ [], cs, refl, (refl, other), letters_sound false cs xs rest))
     ]
 letters_sound true (c ∷ cs) ls e =
     let (l, here, more) = then_some (λ (l : Letter). option_map (λ (xs : List Letter). l ∷ xs) (letters_from false cs)) (letter_of true c) ls (sym (letters_other true c cs (λ is h. true≢false h)) ∙ e) in

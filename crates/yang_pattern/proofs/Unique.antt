@@ -1,5 +1,5 @@
 -- A text spells at most one pattern within the limits.
-use Rattle.std.proofs.Common.{◌≡◌, ◌<◌, ◌≤◌, ℕ, false, List, Option, Some, None, refl, sym, ap, ◌∙◌, subst, arith, chars, ◌↔◌, vec_len, length}
+use Rattle.std.proofs.Common.{◌≡◌, ◌<◌, ◌≤◌, ℕ, false, List, Option, Some, None, sym, ap, ◌∙◌, subst, arith, chars, ◌↔◌}
 use Rattle.yang_pattern.specs.declared.letters.Letter.{Letter}
 use Rattle.yang_pattern.specs.declared.symbols.Token.{Token}
 use Rattle.yang_pattern.specs.declared.fragments.Fragment.{Fragment}
@@ -10,7 +10,7 @@ use Rattle.yang_pattern.specs.Lexing.{lex}
 use Rattle.yang_pattern.specs.Symbols.{reads_token}
 use Rattle.yang_pattern.specs.Machine.{machine_of, Takes}
 use Rattle.yang_pattern.specs.Parts.{IsPatternPart, IsFragmentOf}
-use Rattle.yang_pattern.specs.Pattern.{Branches, Matches, size, nesting, tokens_of}
+use Rattle.yang_pattern.specs.Pattern.{Branches, Matches, size, tokens_of}
 use Rattle.yang_pattern.specs.Reading.{run, start}
 use Rattle.yang_pattern.specs.Language.{Spells, SpellsWithin, IsPattern}
 use Rattle.yang_pattern.proofs.TextLetters.{letters_complete, letters_sound}

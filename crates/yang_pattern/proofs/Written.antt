@@ -1,10 +1,10 @@
 -- What is read has the tokens that it was read from, and is nested no deeper than groups were open.
-use Rattle.std.proofs.Common.{◌≡◌, ℕ, suc, ◌+◌, ◌<◌, ◌≤◌, max, List, [], ◌∷◌, ◌++◌, length, Option, Some, None, option_map, option_and_then, refl, sym, ap, ◌∙◌, subst, arith, inl, inr, append_assoc, append-nil, Bool, true, false, cond, ltb}
-use Rattle.std.proofs.lemmas.Bool.{ltb-true, cases_Bool}
+use Rattle.std.proofs.Common.{◌≡◌, ℕ, suc, ◌+◌, ◌<◌, ◌≤◌, List, [], ◌∷◌, ◌++◌, length, Option, Some, None, option_map, option_and_then, refl, sym, ap, ◌∙◌, subst, arith, append_assoc, append-nil, Bool, true, false, cond, ltb}
+use Rattle.std.proofs.lemmas.Bool.{ltb-true}
 use Rattle.yang_pattern.specs.declared.symbols.Quantifier.{Quantifier}
 use Rattle.yang_pattern.specs.declared.symbols.Token.{Token}
 use Rattle.yang_pattern.specs.declared.symbols.Token.TheVariants.{Open, Close, Bar, Times, Symbol}
-use Rattle.yang_pattern.specs.Pattern.{Branches, one, or, Branch, none, followed, Piece, once, times, Atom, symbol, group, nesting, branch_nesting, piece_nesting, atom_nesting, tokens_of, branch_tokens, piece_tokens, atom_tokens}
+use Rattle.yang_pattern.specs.Pattern.{Branches, Branch, followed, times, Atom, symbol, group, nesting, branch_nesting, atom_nesting, tokens_of, branch_tokens, atom_tokens}
 use Rattle.yang_pattern.specs.Reading.{Opened, Progress, fresh, settled, joined, closed, with_atom, with_bar, quantified, with_times, leave, enter, read, finish, run, start}
 
 abbrev choices_tokens : Option Branches → List Token

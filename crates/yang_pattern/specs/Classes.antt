@@ -1,5 +1,5 @@
 -- The items of a class (RFC 7950, section 9.4.5, and XML Schema, appendix F), letter by letter.
-use Rattle.std.specs.Prelude.{◌≡◌, ℕ, ◌==◌, nat_le, Bool, true, false, List, [], ◌∷◌, ◌++◌, Option, Some, None, if◌then◌else◌}
+use Rattle.std.specs.Prelude.{ℕ, ◌==◌, nat_le, Bool, true, List, [], ◌∷◌, ◌++◌, Option, Some, None, if◌then◌else◌}
 use Rattle.yang_pattern.specs.declared.letters.Letter.{Letter}
 use Rattle.yang_pattern.specs.declared.classes.Item.{Item}
 use Rattle.yang_pattern.specs.declared.classes.Item.TheVariants.{Start, Negated, Done, Bound, Range, Dash}

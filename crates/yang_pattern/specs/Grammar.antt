@@ -90,7 +90,7 @@ IsQuantifier OneOrMore ls = ls ≡ plain 43 ∷ []
 IsQuantifier (AtLeast n) ls = ((ls ≡ plain 42 ∷ []) × (n ≡ 0)) ⊎ ((n ≤ 255) × (ls ≡ plain 123 ∷ (digits n ++ plain 44 ∷ plain 125 ∷ [])))
 IsQuantifier (Between n m) ls = ((ls ≡ plain 63 ∷ []) × (n ≡ 0) × (m ≡ 1))
     ⊎ (((n ≤ 255) × (m ≡ 0) × (ls ≡ plain 123 ∷ (digits n ++ plain 125 ∷ [])))
-      ⊎ ((n + m ≤ 255) × (ls ≡ plain 123 ∷ (digits n ++ plain 44 ∷ (digits (n + m) ++ plain 125 ∷ [])))))
+    ⊎ ((n + m ≤ 255) × (ls ≡ plain 123 ∷ (digits n ++ plain 44 ∷ (digits (n + m) ++ plain 125 ∷ [])))))
 
 -- the letters of a token
 abbrev pub IsToken : Token → List Letter → Type 0

@@ -1,13 +1,9 @@
 -- What the parts of a reader stand for, and how tokens are read into a pattern.
-use Rattle.std.specs.Prelude.{◌≡◌, ℕ, ◌+◌, ◌<◌, ◌≤◌, ◌↔◌, Bool, nat_lt, List, [], ◌∷◌, reverse, Option, Some, None, option_map, option_and_then, vec_len, if◌then◌else◌}
-use Rattle.yang_pattern.specs.declared.symbols.Quantifier.{Quantifier}
-use Rattle.yang_pattern.specs.declared.symbols.Token.{Token}
-use Rattle.yang_pattern.specs.declared.symbols.Token.TheVariants.{Open, Close, Bar, Times, Symbol}
+use Rattle.std.specs.Prelude.{◌≡◌, ℕ, ◌<◌, ◌↔◌, Bool, List, Option, Some, None, vec_len}
 use Rattle.yang_pattern.specs.declared.fragments.Fragment.{Fragment}
 use Rattle.yang_pattern.specs.declared.parts.Part.{Part}
-use Rattle.yang_pattern.specs.Symbols.{accepts}
 use Rattle.yang_pattern.specs.Machine.{machine_of, Takes}
-use Rattle.yang_pattern.specs.Pattern.{Branches, one, or, Branch, none, followed, Piece, once, times, Atom, symbol, group, Matches, MatchesBranch, MatchesPiece, MatchesAtom, size, branch_size, piece_size, atom_size}
+use Rattle.yang_pattern.specs.Pattern.{Branches, Branch, Piece, Atom, Matches, MatchesBranch, MatchesPiece, MatchesAtom, size, branch_size, piece_size, atom_size}
 
 -- a machine for the texts of P with `size` places, or none where that is above the limit
 abbrev pub IsFragmentOf : (ℕ → ℕ → Bool) → Option Fragment → (List ℕ → Type 0) → ℕ → Type 0

@@ -1,12 +1,12 @@
 -- How a reader builds a pattern from its tokens, one after another.
-use Rattle.std.specs.Prelude.{◌≡◌, ℕ, ◌<◌, Bool, nat_lt, List, [], ◌∷◌, length, reverse, Option, Some, None, option_map, option_and_then, if◌then◌else◌, ⊤}
+use Rattle.std.specs.Prelude.{ℕ, Bool, nat_lt, List, [], ◌∷◌, length, reverse, Option, Some, None, option_map, option_and_then, if◌then◌else◌, ⊤}
 use Rattle.yang_pattern.specs.declared.symbols.Quantifier.{Quantifier}
 use Rattle.yang_pattern.specs.declared.symbols.Token.{Token}
 use Rattle.yang_pattern.specs.declared.symbols.Token.TheVariants.{Open, Close, Bar, Times, Symbol}
 use Rattle.yang_pattern.specs.declared.parts.Part.{Part}
 use Rattle.yang_pattern.specs.declared.frames.Frame.{Frame}
 use Rattle.yang_pattern.specs.declared.frames.Reader.{Reader}
-use Rattle.yang_pattern.specs.Pattern.{Branches, one, or, Branch, none, followed, Piece, once, times, Atom, symbol, group}
+use Rattle.yang_pattern.specs.Pattern.{Branches, one, or, Branch, none, followed, once, times, Atom, symbol, group}
 use Rattle.yang_pattern.specs.Parts.{IsPatternPart, IsBranchPart, IsAtomPart}
 
 -- what is read of a group: its closed branches, the open one, and an atom that a quantifier may follow

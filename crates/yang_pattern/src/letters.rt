@@ -32,8 +32,6 @@ fn escaped_character(name: char) -> Option<char>
     }
 }
 
-
-
 fn is_escapable(name: char) -> bool
     ensures { result ≡ is_escapable name }
 {

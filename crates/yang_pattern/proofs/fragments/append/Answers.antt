@@ -1,7 +1,7 @@
-use Rattle.std.proofs.Common.{◌≡◌, ◌∙◌, sym, subst, length, ap, arith, vec_len}
+use Rattle.std.proofs.Common.{◌≡◌, subst, length, arith}
 use Rattle.std.proofs.lemmas.List.{get_or_read}
 use Rattle.yang_pattern.specs.PlaceSets.{IsMoved, place_at, nowhere}
-use Rattle.yang_pattern.proofs.Appending.{append_more, append_all}
+use Rattle.yang_pattern.proofs.Appending.{append_more}
 use Rattle.yang_pattern.proofs.fragments.append.Goals as goal
 
 pub loop-place-preserved : goal.loop-place-preserved

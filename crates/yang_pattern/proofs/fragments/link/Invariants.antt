@@ -1,4 +1,4 @@
-use Rattle.std.proofs.Common.{◌≡◌, ℕ, ◌<◌, ◌≤◌, length}
+use Rattle.std.proofs.Common.{◌≡◌, ℕ, ◌<◌, ◌≤◌}
 use Rattle.yang_pattern.specs.PlaceSets.{place_at, IsLinked}
 use Rattle.yang_pattern.proofs.fragments.link.Given as goal
 

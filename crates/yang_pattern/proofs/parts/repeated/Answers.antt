@@ -1,7 +1,7 @@
-use Rattle.std.proofs.Common.{◌≡◌, ◌∙◌, ap, ℕ, ◌*◌, List, ◌↔◌, vec_len}
+use Rattle.std.proofs.Common.{◌∙◌, ap, ◌*◌}
 use Rattle.yang_pattern.specs.Symbols.{factor}
 use Rattle.yang_pattern.specs.Machine.{machine_of, Takes}
-use Rattle.yang_pattern.specs.Pattern.{MatchesAtom, atom_size}
+use Rattle.yang_pattern.specs.Pattern.{MatchesAtom}
 use Rattle.yang_pattern.proofs.Repeating.{row_along}
 use Rattle.yang_pattern.proofs.parts.repeated.Goals as goal
 

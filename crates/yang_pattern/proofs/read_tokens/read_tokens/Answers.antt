@@ -1,12 +1,11 @@
-use Rattle.std.proofs.Common.{◌≡◌, ◌∙◌, refl, sym, ap, drop, ◌+◌, ◌∷◌, List, ℕ, Bool, Option, Some, None, get_or, IsSomeAnd, subst, slice_get}
+use Rattle.std.proofs.Common.{◌≡◌, ◌∙◌, refl, sym, ap, drop, ◌+◌, ◌∷◌, ℕ, Bool, Option, Some, None, get_or, IsSomeAnd, slice_get}
 use Rattle.std.proofs.lemmas.List.{drop_more}
 use Rattle.std.proofs.lemmas.Option.{MatchOption-at_some}
 use Rattle.yang_pattern.specs.declared.frames.Reader.{Reader}
 use Rattle.yang_pattern.specs.declared.symbols.Token.{Token}
 use Rattle.yang_pattern.specs.Symbols.{reads_token, symbol_accepts}
 use Rattle.yang_pattern.specs.Reading.{start, run, read, Progress, IsReader}
-use Rattle.yang_pattern.proofs.Written.{run_sound}
-use Rattle.yang_pattern.proofs.Parsing.{run_complete, run_step, run_stop, element_at}
+use Rattle.yang_pattern.proofs.Parsing.{run_step, element_at}
 use Rattle.yang_pattern.proofs.read_tokens.read_tokens.Goals as goal
 
 pub loop-number-init : goal.loop-number-init

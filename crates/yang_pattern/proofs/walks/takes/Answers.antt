@@ -1,4 +1,4 @@
-use Rattle.std.proofs.Common.{◌↔◌, chars}
+use Rattle.std.proofs.Common.{chars}
 use Rattle.std.specs.Str.Iter.{chars_rest}
 use Rattle.std.proofs.lemmas.Str.{IsUtf8-past_char, chars_past_char}
 use Rattle.yang_pattern.proofs.walks.takes.Goals as goal

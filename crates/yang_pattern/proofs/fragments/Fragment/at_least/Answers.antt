@@ -1,7 +1,6 @@
 use Rattle.std.proofs.Common.{arith, ℕ, Bool, List, ◌↔◌, ◌≡◌, ◌≤◌, ◌*◌, ◌+◌, vec_len}
 use Rattle.std.proofs.lemmas.Result.{IfOk-weaker}
 use Rattle.yang_pattern.proofs.Repeating.{least_or_more}
-use Rattle.yang_pattern.specs.declared.fragments.Fragment.{Fragment}
 use Rattle.yang_pattern.specs.Machine.{machine_of, Takes, Both}
 use Rattle.yang_pattern.specs.Symbols.{Repeated}
 use Rattle.yang_pattern.proofs.fragments.Fragment.at_least.Goals as goal

@@ -1,4 +1,4 @@
-use Rattle.std.proofs.Common.{arith, ◌≡◌, ℕ, ◌<◌, ◌≤◌, ◌+◌, ◌-◌, ◌&&◌, ◌||◌, leb, length, subst, vec_len, inl, inr}
+use Rattle.std.proofs.Common.{arith, ◌≡◌, ℕ, ◌<◌, ◌≤◌, ◌+◌, ◌-◌, ◌&&◌, ◌||◌, leb, length, subst, inl, inr}
 use Rattle.yang_pattern.proofs.Joining.{either, either_within}
 use Rattle.yang_pattern.proofs.Languages.{either_to, either_left, either_right}
 use Rattle.yang_pattern.specs.PlaceSets.{contains, IsAppended}

@@ -1,4 +1,4 @@
-use Rattle.std.proofs.Common.{arith, ◌≡◌, ◌∙◌, sym, subst, ℕ, ◌<◌, ◌≤◌, ◌+◌, ◌-◌, ◌&&◌, leb, length, vec_len}
+use Rattle.std.proofs.Common.{arith, ◌≡◌, sym, subst, ℕ, ◌<◌, ◌≤◌, ◌+◌, ◌-◌, ◌&&◌, leb, length}
 use Rattle.yang_pattern.proofs.Joining.{joined, joined_within}
 use Rattle.yang_pattern.proofs.Languages.{joined_to, joined_from}
 use Rattle.yang_pattern.specs.PlaceSets.{contains, IsAppended}

@@ -1,4 +1,4 @@
-use Rattle.std.proofs.Common.{◌≡◌, ◌∙◌, ap, sym, subst, refl, List, [], ◌∷◌, ◌++◌, length, false, ◌||◌, ◌==◌, true, ℕ, Bool}
+use Rattle.std.proofs.Common.{◌≡◌, ◌∙◌, ap, sym, subst, refl, List, [], ◌∷◌, ◌++◌, length, false, ◌||◌, true, ℕ, Bool}
 use Rattle.yang_pattern.proofs.Languages.{IsOne, one_to, one_from}
 use Rattle.yang_pattern.specs.declared.fragments.Place.{Place}
 use Rattle.yang_pattern.specs.declared.sets.Places.{Places}

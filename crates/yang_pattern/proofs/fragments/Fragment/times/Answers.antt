@@ -1,4 +1,4 @@
-use Rattle.std.proofs.Common.{arith, ℕ, suc, zero, List, ◌≤◌, ◌↔◌, ◌≡◌, subst, sym}
+use Rattle.std.proofs.Common.{arith, ℕ, suc, zero, List, ◌≤◌, ◌↔◌, subst, sym}
 use Rattle.yang_pattern.specs.declared.symbols.Quantifier.{Quantifier}
 use Rattle.yang_pattern.specs.declared.symbols.Quantifier.TheVariants.{OneOrMore}
 use Rattle.yang_pattern.specs.Machine.{machine_of, Takes, Times}

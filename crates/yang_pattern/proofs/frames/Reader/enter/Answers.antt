@@ -1,5 +1,4 @@
-use Rattle.std.proofs.Common.{◌≡◌, ◌<◌, ◌≤◌, length, arith}
-use Rattle.yang_pattern.specs.Reading.{Progress, IsReader}
+use Rattle.std.proofs.Common.{◌<◌, length, arith}
 use Rattle.yang_pattern.proofs.FrameLemmas.{stack_length, enter_full, enter_room, stack_push}
 use Rattle.yang_pattern.proofs.frames.Reader.enter.Goals as goal
 

@@ -1,4 +1,4 @@
-use Rattle.std.proofs.Common.{◌≡◌, length, arith, sym, ◌∙◌, true, vec_len}
+use Rattle.std.proofs.Common.{arith, sym, ◌∙◌, vec_len}
 use Rattle.std.proofs.lemmas.Bool.{false≢true, eq-eqb}
 use Rattle.yang_pattern.proofs.FrameLemmas.{finish_open}
 use Rattle.yang_pattern.proofs.frames.Reader.finish.Goals as goal

@@ -1,4 +1,4 @@
-use Rattle.std.proofs.Common.{◌≡◌, subst, sym, List, ℕ, false, Some, None, chars, ◌↔◌, string_bytes}
+use Rattle.std.proofs.Common.{◌≡◌, subst, sym, List, ℕ, Some, None, chars, ◌↔◌, string_bytes}
 use Rattle.std.proofs.lemmas.Result.{err_from_is_err_and}
 use Rattle.yang_pattern.specs.declared.letters.Letter.{Letter}
 use Rattle.yang_pattern.specs.declared.symbols.Token.{Token}
@@ -10,8 +10,7 @@ use Rattle.yang_pattern.specs.Lexing.{lex}
 use Rattle.yang_pattern.specs.Parts.{IsPatternPart}
 use Rattle.yang_pattern.specs.Pattern.{Branches, Matches}
 use Rattle.yang_pattern.specs.Reading.{run, start}
-use Rattle.yang_pattern.specs.Errors.{IfBad}
-use Rattle.yang_pattern.specs.Language.{SpellsWithin, IsPattern}
+use Rattle.yang_pattern.specs.Language.{SpellsWithin}
 use Rattle.yang_pattern.proofs.LetterSteps.{IfBad-weaker}
 use Rattle.yang_pattern.proofs.Unique.{no_letters, no_tokens, no_pattern, found_large, found_whole}
 use Rattle.yang_pattern.proofs.patterns.Pattern.read.Goals as goal

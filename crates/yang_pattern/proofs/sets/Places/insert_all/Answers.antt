@@ -1,4 +1,4 @@
-use Rattle.std.proofs.Common.{refl, arith, ◌≡◌, ◌/◌, ◌<◌, get_or, bit_or}
+use Rattle.std.proofs.Common.{refl, arith, ◌≡◌, ◌/◌, get_or, bit_or}
 use Rattle.yang_pattern.proofs.SetLemmas.{or_bit}
 use Rattle.yang_pattern.proofs.sets.Places.insert_all.Goals as goal
 
