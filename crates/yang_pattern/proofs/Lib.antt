@@ -1,0 +1,17 @@
+pub mod SetLemmas
+pub mod Languages
+pub mod Appending
+pub mod Joining
+pub mod Repeating
+pub mod Walking
+pub mod FrameLemmas
+pub mod Parsing
+pub mod Written
+pub mod LetterSteps
+pub mod LexSteps
+pub mod Unique
+pub mod TextLetters
+pub mod LexRuns
+pub mod CountLetters
+pub mod ClassLetters
+pub mod TokenLetters

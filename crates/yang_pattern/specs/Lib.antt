@@ -1,0 +1,15 @@
+pub mod Symbols
+pub mod PlaceSets
+pub mod Machine
+pub mod Pattern
+pub mod Parts
+pub mod Reading
+pub mod Errors
+pub mod Escapes
+pub mod Letters
+pub mod Grammar
+pub mod Classes
+pub mod Counts
+pub mod Lexing
+pub mod Language
+pub mod Compiled
