@@ -20,3 +20,6 @@ pub use applying::{ApplyError, FailWhy, apply, apply_plain};
 pub use operations::{Op, Patch};
 pub use pointers::{Pointer, PointerError, read_pointer};
 pub use reading::{PatchError, PatchWhy, read_patch};
+
+#[cfg(test)]
+mod tests;
