@@ -1,5 +1,5 @@
 -- How a function of each item goes with an edit of the list.
-use Rattle.std.proofs.Common.{◌≡◌, ℕ, zero, suc, ◌+◌, ◌<◌, add-one, drop-cons, Bool, true, List, [], ◌∷◌, ◌++◌, map, length, take, drop, set, get_or, slice_get, insert, remove, Some, Result, is_ok, if◌then◌else◌, refl, sym, ap, ◌∙◌, append_assoc, arith}
+use Rattle.std.proofs.Common.{◌≡◌, ℕ, zero, suc, ◌+◌, ◌<◌, add-one, drop-cons, true, List, [], ◌∷◌, ◌++◌, map, length, drop, set, get_or, slice_get, insert, remove, Some, Result, is_ok, if◌then◌else◌, refl, sym, ap, ◌∙◌, append_assoc, arith}
 
 module _ {A B : Type 0} (f : A → B) where
   pub map-set : (xs : List A) (i : ℕ) (x : A) → map f (set xs i x) ≡ set (map f xs) i (f x)

@@ -1,5 +1,5 @@
 -- Pairs whose names rise: what stands at a place, and what an edit there makes.
-use Rattle.std.proofs.Common.{◌≡◌, ℕ, zero, suc, ◌<◌, ◌≤◌, ◌≢◌, Bool, true, false, cond, not, ◌&&◌, T, List, [], ◌∷◌, ◌++◌, map, length, take, drop, set, get_or, slice_get, insert, remove, filter, option_map, Option, Some, None, IsTrue, Result, Ok, Err, is_ok, if◌then◌else◌, IfOk, IfErr, HoldsAt, Ordering, Less, Equal, Greater, is_lt, is_eq, String, Global, string_bytes, refl, sym, ap, ◌∙◌, subst, arith}
+use Rattle.std.proofs.Common.{◌≡◌, ℕ, zero, suc, ◌<◌, ◌≤◌, Bool, true, false, cond, not, ◌&&◌, T, List, [], ◌∷◌, map, length, set, get_or, slice_get, insert, remove, option_map, Some, None, Result, Ok, Err, is_ok, if◌then◌else◌, IfOk, IfErr, HoldsAt, Ordering, Less, Equal, Greater, is_lt, is_eq, String, Global, string_bytes, refl, sym, ap, ◌∙◌, subst, arith}
 use Rattle.std.specs.FinMap as finite
 use Rattle.std.specs.FinMap.Entries.{by_order, below_all, is_sorted-put, is_sorted-where_key}
 use Rattle.std.specs.FinMap.{nat_cmp-IsAntisymmetric, slice_cmp-IsAntisymmetric}

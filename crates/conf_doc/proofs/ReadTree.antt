@@ -1,13 +1,13 @@
 -- Documents, from their texts back.
-use Rattle.std.proofs.Common.{◌≡◌, ℕ, zero, suc, ◌+◌, ◌<◌, ◌≤◌, max, Bool, true, false, ◌&&◌, List, [], ◌∷◌, ◌++◌, length, map, decimal, Option, Some, None, option_map, option_and_then, Result, Ok, Err, IsUtf8, Ordering, Less, Equal, Greater, is_lt, refl, sym, ap, ◌∙◌, subst, append_assoc, append-nil, arith}
+use Rattle.std.proofs.Common.{◌≡◌, ℕ, suc, ◌+◌, ◌≤◌, max, true, false, List, [], ◌∷◌, ◌++◌, map, decimal, Option, Some, option_map, option_and_then, Ok, IsUtf8, Ordering, Less, Equal, Greater, is_lt, refl, sym, ap, ◌∙◌, subst, append_assoc, append-nil, arith}
 use Rattle.std.specs.Cmp.Lexicographic.{slice_cmp, nat_list_cmp_total}
 use Rattle.std.specs.FinMap.Entries.{below_all}
-use Rattle.std.specs.Ordering.{nat_cmp, match_ordering, ordering_reverse}
+use Rattle.std.specs.Ordering.{nat_cmp, ordering_reverse}
 use Rattle.std.proofs.lemmas.Bool.{and_parts}
 use Rattle.std.proofs.lemmas.Str.{IsUtf8-append}
 use Rattle.host_core.specs.Names.{name_cmp}
 use Rattle.json.specs.Json as json
-use Rattle.json.specs.Layout.{pretty, nothing}
+use Rattle.json.specs.Layout.{nothing}
 use Rattle.json.specs.Lex.{tokens}
 use Rattle.json.specs.Print.{print}
 use Rattle.json.specs.Token.{Token}

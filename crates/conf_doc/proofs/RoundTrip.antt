@@ -1,5 +1,5 @@
 -- The tree of a configuration is shaped as that configuration.
-use Rattle.std.proofs.Common.{◌≡◌, ℕ, ◌+◌, Bool, true, false, not, ◌&&◌, ◌==◌, List, [], ◌∷◌, length, map, decimal, Result, Ok, Err, refl, sym, ap, ◌∙◌}
+use Rattle.std.proofs.Common.{◌≡◌, ℕ, ◌+◌, true, not, ◌==◌, List, [], ◌∷◌, length, map, Result, Ok, refl, ap}
 use Rattle.std.proofs.lemmas.Bool.{and_parts}
 use Rattle.conf_doc.specs.Configs.{Each, IsEntry, IsTable, IsConfig}
 use Rattle.conf_doc.specs.Configuration.{value_tree, entry_tree, table_tree, tree}

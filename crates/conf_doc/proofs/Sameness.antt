@@ -1,6 +1,6 @@
 -- When lists and documents are the same.
-use Rattle.std.proofs.Common.{◌≡◌, ◌↔◌, ℕ, zero, suc, ◌+◌, ◌<◌, ◌≤◌, Bool, List, [], ◌∷◌, length, map, slice_get, Some, IsTrue, refl, sym, ap, ◌∙◌, arith}
-use Rattle.conf_doc.specs.Document.{Document, text, list, object, Items, Members, documents, pairs, items_of, members_of, weight, items_weight, members_weight}
+use Rattle.std.proofs.Common.{◌≡◌, ◌↔◌, ℕ, zero, suc, ◌<◌, ◌≤◌, Bool, List, [], ◌∷◌, length, map, slice_get, Some, IsTrue, refl, sym, ap, ◌∙◌, arith}
+use Rattle.conf_doc.specs.Document.{Document, list, object, Items, Members, documents, pairs, items_of, members_of, weight, items_weight, members_weight}
 
 pub documents-items_of : (ds : List Document) → documents (items_of ds) ≡ ds
 documents-items_of [] = refl

@@ -1,19 +1,19 @@
 -- A walk that shapes the items or the members of a document.
-use Rattle.std.proofs.Common.{◌≡◌, ◌≢◌, ℕ, ◌+◌, ◌<◌, Bool, true, false, not, ◌&&◌, ◌==◌, List, [], ◌∷◌, ◌++◌, length, map, drop, get_or, Result, Ok, Err, IsTrue, decimal, suc, ne_eqb, suc-ne-zero, refl, sym, ap, ◌∙◌, subst, arith}
+use Rattle.std.proofs.Common.{◌≡◌, ℕ, ◌+◌, true, not, ◌&&◌, ◌==◌, List, [], ◌∷◌, ◌++◌, length, map, Result, Ok, Err, decimal, suc, ne_eqb, suc-ne-zero, refl, sym, ap, ◌∙◌, arith}
 use Rattle.std.specs.FinMap as finite
 use Rattle.std.specs.FinMap.Entries.{below_all}
 use Rattle.std.specs.Ordering.{is_lt}
-use Rattle.std.proofs.lemmas.Bool.{and_parts, and_from}
+use Rattle.std.proofs.lemmas.Bool.{and_from}
 use Rattle.host_core.specs.Answers.{FailsAs}
 use Rattle.host_core.specs.Names.{name_cmp}
-use Rattle.conf_doc.specs.Document.{Document, Items, no_items, item, Members, no_members, member, items_of, members_of}
+use Rattle.conf_doc.specs.Document.{Document, Items, no_items, item, Members, no_members, member, members_of}
 use Rattle.conf_doc.specs.Pairs.{IsRising, AreNamed}
 use Rattle.conf_doc.specs.Reading.{Way, mapped, below, both}
 use Rattle.conf_doc.specs.Shapes.{IsShaped}
 use Rattle.conf_doc.specs.Shaping.{parts, named, texts_from, text_of}
 use Rattle.conf_doc.specs.Ways.{located, stop_place}
 use Rattle.conf_doc.specs.declared.ways.Stop.{Stop}
-use Rattle.conf_doc.proofs.Walks.{fails, found, both-ok, length-more}
+use Rattle.conf_doc.proofs.Walks.{fails, both-ok, length-more}
 
 module _ {A : Type 0} where
   abbrev pub before : List A → Result (List A) Way → Result (List A) Way

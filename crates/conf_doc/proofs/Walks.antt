@@ -1,5 +1,5 @@
 -- A walk that has come to some item or member: what it found so far, before what it will find.
-use Rattle.std.proofs.Common.{◌≡◌, ℕ, ◌+◌, List, [], ◌∷◌, ◌++◌, length, Option, Some, None, Result, Ok, Err, decimal, refl, sym, ap, ◌∙◌, length-append, arith}
+use Rattle.std.proofs.Common.{◌≡◌, ℕ, ◌+◌, List, [], ◌∷◌, ◌++◌, length, Result, Ok, Err, decimal, refl, sym, ap, ◌∙◌, length-append, arith}
 use Rattle.host_core.specs.Answers.{FailsAs}
 use Rattle.serde_json.specs.Data as values
 use Rattle.conf_doc.specs.Pointer.{pointer, escaped}

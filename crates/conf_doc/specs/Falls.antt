@@ -1,7 +1,7 @@
 -- A document weighs more than what stands in it.
-use Rattle.std.specs.Prelude.{◌≤◌, ℕ, ◌+◌, List, [], ◌∷◌, map, max}
+use Rattle.std.specs.Prelude.{◌≤◌, List, [], ◌∷◌, map, max}
 use Rattle.std.proofs.Common.{arith}
-use Rattle.conf_doc.specs.Document.{Document, text, list, object, items_of, members_of, items_weight, members_weight, weight}
+use Rattle.conf_doc.specs.Document.{items_of, members_of, items_weight, members_weight, weight}
 use Rattle.conf_doc.specs.Trees.{document}
 use Rattle.conf_doc.specs.declared.trees.Tree.{Tree}
 use Rattle.conf_doc.specs.declared.trees.Tree.TheVariants.{Text, List as Listed, Map}

@@ -1,5 +1,5 @@
 -- Lists of pairs of a name and what it names, in the order of their names.
-use Rattle.std.specs.Prelude.{◌≡◌, ℕ, List, filter, not, IsTrue, Option, length, ◌==◌}
+use Rattle.std.specs.Prelude.{ℕ, List, filter, not, IsTrue, Option, length, ◌==◌}
 use Rattle.std.specs.FinMap as map
 use Rattle.std.specs.List.{list_all}
 use Rattle.std.specs.Ordering.{eq_by_cmp}

@@ -1,7 +1,7 @@
-use Rattle.std.proofs.Common.{◌≡◌, [], ◌∷◌, ◌++◌, List, ℕ, map, length, string_bytes, sym, ap, ◌∙◌, append-nil, arith, rules}
+use Rattle.std.proofs.Common.{[], ◌∷◌, ◌++◌, map, string_bytes, sym, ap, ◌∙◌, append-nil}
 use Rattle.std.proofs.lemmas.Result.{err_from_is_err_and}
 use Rattle.std.specs.Map.{keys_of}
-use Rattle.serde_json.specs.View.{view, items_view, members_view}
+use Rattle.serde_json.specs.View.{items_view, members_view}
 use Rattle.conf_doc.specs.Trees.{document}
 use Rattle.conf_doc.proofs.Lists.{map-append, names_more, none_left}
 use Rattle.conf_doc.proofs.Places.{rising_keys}

@@ -1,4 +1,4 @@
-use Rattle.std.proofs.Common.{map, ap, sym, ◌∙◌, subst, drop_of_length-le}
+use Rattle.std.proofs.Common.{map, ap, ◌∙◌, subst, drop_of_length-le}
 use Rattle.std.proofs.lemmas.Result.{err_from_is_err_and}
 use Rattle.conf_doc.specs.Document.{members_of}
 use Rattle.conf_doc.specs.Pairs.{IsRising}

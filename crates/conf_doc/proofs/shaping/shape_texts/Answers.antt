@@ -1,4 +1,4 @@
-use Rattle.std.proofs.Common.{map, ap, sym, ◌∙◌, drop_of_length-le}
+use Rattle.std.proofs.Common.{map, ap, drop_of_length-le}
 use Rattle.std.proofs.lemmas.Result.{err_from_is_err_and}
 use Rattle.conf_doc.specs.Document.{items_of}
 use Rattle.conf_doc.specs.Trees.{document}

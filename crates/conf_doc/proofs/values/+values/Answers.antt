@@ -1,9 +1,9 @@
-use Rattle.std.proofs.Common.{◌≤◌, map, ap, sym, ◌∙◌, take_all, arith, rules}
+use Rattle.std.proofs.Common.{◌≤◌, map, ap, ◌∙◌, take_all, arith}
 use Rattle.serde_json.specs.View as seen
 use Rattle.conf_doc.specs.Document.{items_of, members_of, weight, items_weight, members_weight}
 use Rattle.conf_doc.specs.Texts.{value, item_values}
 use Rattle.conf_doc.specs.Trees.{document}
-use Rattle.conf_doc.proofs.Written.{entries_of, item_lighter, member_lighter, item_values-map, entry_more}
+use Rattle.conf_doc.proofs.Written.{item_lighter, member_lighter, item_values-map, entry_more}
 use Rattle.conf_doc.proofs.values.+values.Goals as goal
 
 pub values_of_items-value_of_tree-requires : goal.values_of_items-value_of_tree-requires

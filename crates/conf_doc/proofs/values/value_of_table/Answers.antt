@@ -1,4 +1,4 @@
-use Rattle.std.proofs.Common.{◌≡◌, ap, sym, subst, ◌∙◌, take_all}
+use Rattle.std.proofs.Common.{ap, sym, subst, ◌∙◌, take_all}
 use Rattle.serde_json.specs.Data.{object}
 use Rattle.serde_json.proofs.Views.{view-Object}
 use Rattle.conf_doc.specs.Configuration.{entry_tree}

@@ -1,4 +1,3 @@
-use Rattle.std.proofs.Common.{arith}
 use Rattle.conf_doc.proofs.Lists.{length-map}
 use Rattle.conf_doc.proofs.Places.{part_at-map}
 use Rattle.conf_doc.specs.Trees.{document}

@@ -1,4 +1,4 @@
-use Rattle.std.proofs.Common.{sym, refl, subst}
+use Rattle.std.proofs.Common.{sym, refl}
 use Rattle.conf_doc.proofs.Places.{read_at-map, none_in_gap-map, put_read-map, rising_read}
 use Rattle.conf_doc.proofs.Rising.{rising-map}
 use Rattle.conf_doc.specs.Trees.{document}
