@@ -1,6 +1,6 @@
 -- The weight and the depth of a list's first items or members, as a count goes on.
 use Rattle.std.specs.Prelude.{◌≡◌, ℕ, zero, suc, ◌+◌, ◌<◌, ◌≤◌, max, List, [], ◌∷◌, length, map, slice_get, Some}
-use Rattle.std.proofs.Common.{refl, sym, ap, ◌∙◌, take, arith}
+use Rattle.std.proofs.Common.{ap, take, arith}
 use Rattle.conf_doc.specs.Document.{Document, weight, depth}
 use Rattle.patch_core.proofs.Measures.{weight_in, weight_of, depth_in, depth_of}
 

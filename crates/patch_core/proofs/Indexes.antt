@@ -1,11 +1,11 @@
 -- Index tokens: which they are, and the numbers they write.
-use Rattle.std.specs.Prelude.{◌≡◌, ◌≢◌, ℕ, ◌+◌, ◌-◌, ◌*◌, ◌^◌, ◌<◌, ◌≤◌, Bool, true, false, ◌&&◌, ◌==◌, not, List, [], ◌∷◌, length, fold}
-use Rattle.std.proofs.Common.{refl, sym, ap, ◌∙◌, get_or, drop, arith}
+use Rattle.std.specs.Prelude.{◌≡◌, ◌≢◌, ℕ, ◌+◌, ◌-◌, ◌*◌, ◌<◌, ◌≤◌, Bool, true, false, ◌&&◌, ◌==◌, not, List, [], ◌∷◌, length, fold}
+use Rattle.std.proofs.Common.{refl, sym, ap, get_or, drop, arith}
 use Rattle.std.proofs.lemmas.List.{drop_more}
 use Rattle.std.proofs.lemmas.Bool.{ne_eqb}
 use Rattle.std.specs.List.{list_all}
 use Rattle.std.specs.Char.{is_ascii_digit}
-use Rattle.patch_core.specs.Places.{Place, index, is_dash, is_index, number, place}
+use Rattle.patch_core.specs.Places.{index, is_dash, is_index, number, place}
 
 and_true : (b : Bool) → (b && true) ≡ b
 and_true true = refl

@@ -9,5 +9,6 @@ pub mod Openings
 pub mod Paths
 pub mod Prefixes
 pub mod RoundTrip
+pub mod Rows
 pub mod Sameness
 pub mod Settled

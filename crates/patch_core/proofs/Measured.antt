@@ -1,6 +1,6 @@
 -- Edits of one node, and edits farther below it, measured.
-use Rattle.std.specs.Prelude.{◌≡◌, ℕ, suc, ◌+◌, ◌<◌, ◌≤◌, List, [], ◌∷◌, ◌++◌, length, slice_get, slice_set, insert, remove as removed_at, Option, Some, None}
-use Rattle.std.proofs.Common.{refl, sym, ap, ◌∙◌, arith, subst}
+use Rattle.std.specs.Prelude.{◌≡◌, ℕ, suc, List, [], ◌∷◌, ◌++◌, length, slice_get, slice_set, insert, remove as removed_at, Option, Some, None}
+use Rattle.std.proofs.Common.{refl, ap, arith}
 use Rattle.conf_doc.specs.Document.{Document, list, object, items_of, members_of, weight, depth}
 use Rattle.conf_doc.specs.Pairs.{IsRising, find, put, without}
 use Rattle.conf_doc.specs.Trees.{document}

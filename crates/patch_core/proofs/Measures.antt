@@ -1,5 +1,5 @@
 -- The weight and the depth of lists of items and members after an edit.
-use Rattle.std.specs.Prelude.{◌≡◌, ℕ, zero, suc, ◌+◌, ◌<◌, ◌≤◌, max, Bool, true, false, not, ◌&&◌, List, [], ◌∷◌, ◌++◌, length, filter, take, drop, slice_get, slice_set, insert, remove as removed_at, Option, Some, None, is_some, IsTrue}
+use Rattle.std.specs.Prelude.{◌≡◌, ℕ, zero, suc, ◌+◌, ◌≤◌, max, Bool, true, false, not, ◌&&◌, List, [], ◌∷◌, ◌++◌, length, slice_get, slice_set, insert, remove as removed_at, Option, Some, None, is_some, IsTrue}
 use Rattle.std.proofs.Common.{refl, sym, ap, ◌∙◌, arith, cond, subst}
 use Rattle.std.proofs.lemmas.Float.{T_from_true}
 use Rattle.std.specs.declared.cmp.Ordering.{Ordering}

@@ -1,5 +1,5 @@
 -- What a token does at one node, by cases on where it leads.
-use Rattle.std.specs.Prelude.{◌≡◌, ℕ, zero, suc, ◌<◌, ◌≤◌, Bool, true, false, List, [], ◌∷◌, ◌++◌, length, slice_get, slice_set, insert, remove as removed_at, nat_le, Option, Some, None, Result, Ok, Err, IsSome}
+use Rattle.std.specs.Prelude.{◌≡◌, ℕ, zero, suc, ◌<◌, ◌≤◌, List, [], ◌∷◌, ◌++◌, length, slice_get, slice_set, insert, remove as removed_at, Option, Some, None, Result, Ok, Err, IsSome}
 use Rattle.std.proofs.Common.{refl, sym, ap, ◌∙◌, arith, cond, subst}
 use Rattle.std.proofs.lemmas.Option.{slice_get_past}
 use Rattle.std.proofs.lemmas.List.Edits.{insert_end}
@@ -7,16 +7,16 @@ use Rattle.std.proofs.lemmas.Bool.{le-leb, lt-leb}
 use Rattle.std.specs.declared.cmp.Ordering.{Ordering}
 use Rattle.std.specs.declared.cmp.Ordering.TheVariants.{Less, Equal, Greater}
 use Rattle.std.specs.FinMap.Entries.{by_order, find-put}
-use Rattle.std.specs.Ordering.{eq_by_cmp, is_eq}
+use Rattle.std.specs.Ordering.{is_eq}
 use Rattle.std.specs.Cmp.Lexicographic.{nat_list_cmp_total}
 use Rattle.std.proofs.lemmas.Cmp.{tied_itself}
 use Rattle.host_core.specs.Names.{name_cmp}
-use Rattle.conf_doc.specs.Document.{Document, text, list, object, items_of, members_of, documents, pairs}
+use Rattle.conf_doc.specs.Document.{Document, list, object, items_of, members_of, documents, pairs}
 use Rattle.conf_doc.specs.Pairs.{find, put, without}
 use Rattle.patch_core.specs.Apply.{◌>>=◌, below, with_below, cut, with_added}
-use Rattle.patch_core.specs.Places.{Place, index, dash, no_place, place}
+use Rattle.patch_core.specs.Places.{index, dash, no_place, place}
 use Rattle.patch_core.specs.declared.applying.FailWhy.{FailWhy}
-use Rattle.patch_core.specs.declared.applying.FailWhy.TheVariants.{NoParent, BadIndex, NoTarget}
+use Rattle.patch_core.specs.declared.applying.FailWhy.TheVariants.{BadIndex, NoTarget}
 use Rattle.patch_core.specs.Edits.{removed, replaced}
 
 abbrev pub ok_of : Document → Result Document FailWhy

@@ -1,12 +1,11 @@
 -- A node with a child taken out has a gap where the token leads.
-use Rattle.std.specs.Prelude.{◌≡◌, ℕ, ◌<◌, List, length, slice_get, slice_set, Option, Some}
+use Rattle.std.specs.Prelude.{◌≡◌, ℕ, ◌<◌, List, length, slice_get, slice_set, Some}
 use Rattle.std.proofs.Common.{sym, ap, ◌∙◌, arith, subst}
 use Rattle.std.proofs.lemmas.List.{length-set}
 use Rattle.conf_doc.specs.Document.{Document, list, object, items_of, members_of}
 use Rattle.conf_doc.specs.Pairs.{IsRising, find, put}
 use Rattle.patch_core.specs.Places.{index, place}
-use Rattle.patch_core.specs.Gaps.{IsGap, CanClose, filled}
-use Rattle.patch_core.specs.declared.gaps.Gap.{Gap}
+use Rattle.patch_core.specs.Gaps.{IsGap}
 use Rattle.patch_core.specs.declared.gaps.Gap.TheVariants.{Item, Member}
 use Rattle.patch_core.proofs.Measures.{weight_in, weight_of, depth_in, depth_of, weight-set, weight-removed, weight-put_there, weight-without, depth-set, depth-put, depth_there}
 use Rattle.patch_core.proofs.Nodes.{with_below_item, with_below_member, set_again, put_again, find_put, is_some_here}

@@ -1,6 +1,6 @@
 -- Paths that lead into others.
-use Rattle.std.specs.Prelude.{◌≡◌, ℕ, ◌+◌, ◌<◌, ◌≤◌, Bool, true, false, nat_lt, List, [], ◌∷◌, length}
-use Rattle.std.proofs.Common.{refl, sym, ap, ◌∙◌, get_or, drop, arith, inl, inr}
+use Rattle.std.specs.Prelude.{◌≡◌, ℕ, nat_lt, List, [], length}
+use Rattle.std.proofs.Common.{sym, ap, ◌∙◌, drop, arith, inl, inr}
 use Rattle.std.proofs.lemmas.List.{drop_more, drop_all}
 use Rattle.std.proofs.lemmas.Bool.{cases_lt, lt-ltb, le-ltb}
 use Rattle.patch_core.specs.Apply.{leads_into}

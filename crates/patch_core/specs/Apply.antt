@@ -1,6 +1,6 @@
 -- The application of a patch (RFC 6902, section 4): by recursion on the tokens of a pointer, and then on
 -- the operations.
-use Rattle.std.specs.Prelude.{ℕ, suc, ◌+◌, List, [], ◌∷◌, ◌++◌, length, slice_get, slice_set, insert, remove as removed_at, Bool, true, false, ◌&&◌, nat_eq, nat_le, if◌then◌else◌, Option, Some, None, Result, Ok, Err}
+use Rattle.std.specs.Prelude.{ℕ, ◌+◌, List, [], ◌∷◌, ◌++◌, length, slice_get, slice_set, insert, remove as removed_at, Bool, true, false, ◌&&◌, nat_eq, nat_le, if◌then◌else◌, Option, Some, None, Result, Ok, Err}
 use Rattle.std.specs.Cmp.Lexicographic.{pointwise}
 use Rattle.conf_doc.specs.Document.{Document, text, list, object, documents, items_of, pairs, members_of, depth, weight}
 use Rattle.conf_doc.specs.Pairs.{find, put, without}

@@ -1,7 +1,5 @@
-use Rattle.std.proofs.Common.{inl, inr, ◌≡◌, ◌+◌, ◌<◌, ◌≤◌, length, arith}
+use Rattle.std.proofs.Common.{inl, inr, ◌≡◌, ◌+◌, ◌<◌, length, arith}
 use Rattle.std.proofs.lemmas.Bool.{cases_lt}
-use Rattle.conf_doc.specs.Document.{depth, items_depth, items_of, members_depth, members_of, weight}
-use Rattle.conf_doc.specs.Trees.{document}
 use Rattle.patch_core.proofs.Counted.{item_weighs, item_goes_on, item_stops, member_weighs, member_goes_on, member_stops, member_too_long}
 use Rattle.patch_core.proofs.weighing.+weighing.Goals as goal
 
