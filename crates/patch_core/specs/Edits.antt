@@ -36,6 +36,6 @@ IsTaken (Some t) there = there ≡ Ok (document t)
 
 -- a remove and a replace hand out what was there
 abbrev pub HandsOut : Edit → Option Tree → Result Document FailWhy → Type 0
-HandsOut (Add t) gone there = Unit {0}
-HandsOut Remove gone there = IsTaken gone there
-HandsOut (Replace t) gone there = IsTaken gone there
+HandsOut (Add t) taken there = Unit {0}
+HandsOut Remove taken there = IsTaken taken there
+HandsOut (Replace t) taken there = IsTaken taken there
