@@ -1,10 +1,9 @@
 -- From what was printed to what a command answers.
-use Rattle.std.proofs.Common.{◌≡◌, ◌⊎◌, inl, inr, ℕ, List, ◌++◌, refl, sym, ◌∙◌, ap, subst, arith, Option, Some, None, Result, Ok, Err, IfSome}
-use Rattle.std.specs.Prelude.{option_map}
+use Rattle.std.proofs.Common.{◌≡◌, inl, inr, ℕ, List, ◌++◌, refl, sym, ap, subst, Option, Some, None, Result, Ok, IfSome}
 use Rattle.host_core.specs.Answers.{FailsAs, Gives}
-use Rattle.host_core.specs.State.{State, Counts, Rose, file, printed, PrintsPart, PrintMayRise}
+use Rattle.host_core.specs.State.{State, Counts, Rose, file, PrintMayRise}
 use Rattle.conf_doc.specs.declared.configuration.Config.{Config}
-use Rattle.gcu_engine.specs.Answers.{Answers, Complete, HasCause, NoneFell, NoneRose, Prints, Refuses, Says, SaysPart, refusal}
+use Rattle.gcu_engine.specs.Answers.{Answers, HasCause, Prints, Refuses, Says, refusal}
 use Rattle.gcu_engine.specs.Asked.{asked, config_file, preview_asked, stored, stored_in}
 use Rattle.conf_doc.specs.Texts.{file_text}
 use Rattle.gcu_engine.specs.Form.{form, preview}

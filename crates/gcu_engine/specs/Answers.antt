@@ -1,6 +1,5 @@
 -- Which answers a command may give, and what it then has printed.
-use Rattle.std.specs.Prelude.{◌≡◌, ◌⊎◌, ◌≤◌, ℕ, List, ◌++◌, Option, Some, None, Result, Ok, Err, option_map, IfSome, IfErr, ⊤}
-use Rattle.host_core.specs.Answers.{Gives}
+use Rattle.std.specs.Prelude.{◌≡◌, ◌⊎◌, ◌≤◌, ℕ, List, ◌++◌, Option, Some, None, Result, Ok, Err, option_map, IfSome, ⊤}
 use Rattle.host_core.specs.State.{State, Counts, Rose, printed}
 use Rattle.conf_doc.specs.Texts.{file_text}
 use Rattle.conf_doc.specs.declared.configuration.Config.{Config}

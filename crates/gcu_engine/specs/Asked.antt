@@ -1,7 +1,7 @@
 -- What words ask of a host that tells its state: the first refusal in its order, or the request.
 use Rattle.std.specs.Prelude.{ℕ, List, codes, Option, Some, None, Result, Ok, Err}
 use Rattle.host_core.specs.Inputs.{input_of}
-use Rattle.host_core.specs.State.{State, Files, file}
+use Rattle.host_core.specs.State.{State, file}
 use Rattle.host_core.specs.declared.host_calls.Input.{Input}
 use Rattle.host_core.specs.declared.host_calls.Input.TheVariants.{Absent, TooBig as longer, Bytes}
 use Rattle.conf_doc.specs.Configuration.{tree}
@@ -21,7 +21,6 @@ use Rattle.patch_core.specs.declared.applying.ApplyError.TheVariants as apply
 use Rattle.patch_core.specs.declared.reading.PatchError.{PatchError}
 use Rattle.patch_core.specs.declared.reading.PatchError.TheVariants as bad
 use Rattle.gcu_engine.specs.Form.{Form, preview, form}
-use Rattle.gcu_engine.specs.declared.outcomes.StoredWhy.{StoredWhy}
 use Rattle.gcu_engine.specs.declared.outcomes.StoredWhy.TheVariants as stored_as
 use Rattle.gcu_engine.specs.declared.outcomes.Outcome.{Outcome}
 use Rattle.gcu_engine.specs.declared.outcomes.Outcome.TheVariants.{Memory, Usage, NoInput, TooBig, BadJson, BadPatch, PatchFailed, TargetShape, BadStored}

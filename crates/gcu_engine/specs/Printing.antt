@@ -1,5 +1,5 @@
 -- What printing the whole output of an answer leaves.
-use Rattle.std.specs.Prelude.{◌≡◌, ◌⊎◌, ℕ, List, ◌++◌, Option, option_map}
+use Rattle.std.specs.Prelude.{◌≡◌, ◌⊎◌, ℕ, List, Option, option_map}
 use Rattle.host_core.specs.State.{State, Counts, Rose, printed, PrintsPart}
 use Rattle.gcu_engine.specs.Lines.{last_line}
 use Rattle.gcu_engine.specs.declared.outcomes.Outcome.{Outcome}

@@ -1,5 +1,4 @@
-use Rattle.std.proofs.Common.{rules, append_assoc, ◌++◌, ◌∙◌, ◌≡◌}
-use Rattle.std.specs.Prelude.{codes, decimal, string_bytes}
+use Rattle.std.proofs.Common.{append_assoc}
 use Rattle.std.proofs.lemmas.Result.{IfOk-weaker}
 use Rattle.gcu_engine.proofs.lines.numbered.Goals as goal
 
