@@ -1,6 +1,7 @@
 #!/usr/bin/env python3
 """Times `gcu preview` with patches of 250, 500 and 1,000 operations on a configuration of 1 MB, beside
-Python's jsonpatch on the same files, and the two hard cases of the limits.
+Python's jsonpatch on the same files, the growth on 4 MB, and the two hard cases of
+the limits.
 
 usage: run.py PROGRAM     PROGRAM is the built gcu, as crates/gcu_cli/out/gcu_cli
 """
@@ -81,6 +82,10 @@ def main():
         big = configuration(4 << 20)
         open(os.path.join(folder, "config_db.json"), "w").write(json.dumps(big, indent=2, sort_keys=True) + "\n")
         names = sorted(big["PORT"])
+        for count in (0, 4000, 8000, 16000):
+            operations = [{"op": "add", "path": "/PORT/%s/mtu" % names[(7919 * n) % len(names)], "value": "9100"} for n in range(count)]
+            open(os.path.join(folder, "many.json"), "w").write(json.dumps(operations, separators=(",", ":")))
+            print("%d operations on 4 MB: %.3f s" % (count, seconds(lambda: preview("many.json"))))
         operations, size, n = [], 2, 0
         while True:
             op = json.dumps({"op": "add", "path": "/PORT/%s/mtu" % names[(7919 * n) % len(names)], "value": "9100"}, separators=(",", ":"))
