@@ -1,6 +1,6 @@
 //! Sets of places, kept as machine words.
 
-ghost use Rattle.std.specs.Prelude.{◌≡◌, ◌<◌, ◌≤◌, ◌-◌, ◌||◌, ◌&&◌, ◌==◌, nat_le, nat_lt, ℕ, false, length};
+ghost use Rattle.std.specs.Prelude.{◌≡◌, ◌<◌, ◌≤◌, ◌-◌, ◌||◌, ◌&&◌, ◌==◌, nat_le, nat_lt, ℕ, false, length, IsTrue};
 
 /// How many places a pattern may have: the limit of its size.
 pub const MOST_PLACES: usize = 1024;
@@ -58,11 +58,26 @@ impl Places {
         joined
     }
 
+    /// Whether no place is in the set.
+    fn is_empty(&self) -> bool
+        ensures { IsTrue result → (q : ℕ) → q < 1024 → contains self.now q ≡ false }
+    {
+        for word in &self.words {
+            if *word != 0 {
+                return false;
+            }
+        }
+        true
+    }
+
     /// Each place of the set, `by` further on.
     pub fn moved(&self, by: usize) -> Places
         requires { by ≤ 1024 }
         ensures { (q : ℕ) → q < 1024 → contains result q ≡ (nat_le by q && contains self.now (q - by)) }
     {
+        if self.is_empty() {
+            return *self;
+        }
         let mut result_set = Places::new();
         for place in 0..MOST_PLACES - by {
             if self.contains(place) {
