@@ -1,9 +1,8 @@
 -- Escaped text, a character at a time.
-use Rattle.std.proofs.Common.{◌≡◌, ◌≢◌, ℕ, ◌+◌, ◌/◌, ◌≤◌, Bool, true, false, cond, ltb, List, [], ◌∷◌, refl, ap, arith}
+use Rattle.std.proofs.Common.{◌≡◌, ◌≢◌, ℕ, ◌+◌, ◌/◌, ◌≤◌, Bool, true, false, cond, ltb, List, [], ◌∷◌, ◌++◌, refl, sym, ap, ◌∙◌, append_assoc, append-nil, arith}
 use lib.Utf8.{encode, next}
 use Rattle.std.proofs.lemmas.Bool.Decides.{nat_tests}
-use Rattle.std.proofs.lemmas.Str.{encode_ascii}
-use Rattle.conf_doc.specs.Pointer.{escaped}
+use Rattle.conf_doc.specs.Pointer.{escaped, pointer, slash}
 
 keeps : (x : ℕ) (xs : List ℕ) → x ≢ 126 → x ≢ 47 → escaped xs ≡ xs → escaped (x ∷ xs) ≡ x ∷ xs
 keeps x xs a b rest = grind (arith, nat_tests)
@@ -24,8 +23,7 @@ escaped-other c a b =
     (cond_keeps (ltb c 65536) _ _ (high (224 + c / 4096) _ (omega arith) (high (next (c / 64)) _ (omega arith) (high (next c) [] (omega arith) refl)))
     (high (240 + c / 262144) _ (omega arith) (high (next (c / 4096)) _ (omega arith) (high (next (c / 64)) _ (omega arith) (high (next c) [] (omega arith) refl))))))
 
-pub escaped-tilde : escaped (encode 126) ≡ 126 ∷ 48 ∷ []
-escaped-tilde = ap escaped (encode_ascii 126 (omega arith))
-
-pub escaped-slash : escaped (encode 47) ≡ 126 ∷ 49 ∷ []
-escaped-slash = ap escaped (encode_ascii 47 (omega arith))
+-- one more token
+pub pointer-more : (ts : List (List ℕ)) (t : List ℕ) → pointer (ts ++ t ∷ []) ≡ pointer ts ++ slash ∷ escaped t
+pointer-more [] t = ap (λ bs. slash ∷ bs) (append-nil (escaped t))
+pointer-more (u ∷ ts) t = ap (λ bs. slash ∷ (escaped u ++ bs)) (pointer-more ts t) ∙ ap (λ bs. slash ∷ bs) (sym (append_assoc (escaped u) (pointer ts) (slash ∷ escaped t)))

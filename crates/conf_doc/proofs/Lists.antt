@@ -1,5 +1,5 @@
 -- How a function of each item goes with an edit of the list.
-use Rattle.std.proofs.Common.{◌≡◌, ℕ, zero, suc, ◌+◌, ◌<◌, add-one, drop-cons, true, List, [], ◌∷◌, ◌++◌, map, length, drop, set, get_or, slice_get, insert, remove, Some, Result, is_ok, if◌then◌else◌, refl, sym, ap, ◌∙◌, append_assoc, arith}
+use Rattle.std.proofs.Common.{◌≡◌, ℕ, zero, suc, ◌+◌, ◌<◌, add-one, List, [], ◌∷◌, ◌++◌, map, length, take, take-suc, set, get_or, slice_get, insert, remove, Some, refl, sym, ap, ◌∙◌, append_assoc, arith}
 
 module _ {A B : Type 0} (f : A → B) where
   pub map-set : (xs : List A) (i : ℕ) (x : A) → map f (set xs i x) ≡ set (map f xs) i (f x)
@@ -32,10 +32,6 @@ pub map-append : {A B : Type 0} (f : A → B) (xs ys : List A) → map f (xs ++ 
 map-append f [] ys = refl
 map-append f (x ∷ xs) ys = ap (λ zs. f x ∷ zs) (map-append f xs ys)
 
--- what is left of a list at a place
-pub drop_step : {A : Type 0} (xs : List A) (i : ℕ) (x : A) → i < length xs → x ≡ get_or xs i x → drop i xs ≡ x ∷ drop (i + 1) xs
-drop_step xs i x within is = rw add-one (drop-cons xs i x within ∙ ap (λ y. y ∷ drop (suc i) xs) (sym is))
-
 -- one more pair, and one less to come
 pub names_more : {A K V : Type 0} (key : K → List ℕ) (done : List (List ℕ × A)) (now left : List (K × V)) (e : K × V) (a : A) (new : List (List ℕ × A)) (all : List (List ℕ))
     → map (λ m. m.0) done ++ map key (map (λ m. m.0) now) ≡ all → now ≡ e ∷ left → new ≡ done ++ (key e.0, a) ∷ [] → map (λ m. m.0) new ++ map key (map (λ m. m.0) left) ≡ all
@@ -54,6 +50,19 @@ pub map-map : {A B C : Type 0} (g : B → C) (f : A → B) (xs : List A) → map
 map-map g f [] = refl
 map-map g f (x ∷ xs) = ap (λ ys. g (f x) ∷ ys) (map-map g f xs)
 
--- after an insertion that succeeded
-pub inserted : {A E T : Type 0} (r : Result T E) (old new : List A) (i : ℕ) (x : A) → is_ok r ≡ true → new ≡ (if is_ok r then insert old i x else old) → new ≡ insert old i x
-inserted r old new i x ok items = items ∙ ap (λ b. if b then insert old i x else old) ok
+-- what a walk has passed, and one more
+pub take_step : {A : Type 0} (xs : List A) (i : ℕ) (x : A) → i < length xs → x ≡ get_or xs i x → take (i + 1) xs ≡ take i xs ++ x ∷ []
+take_step xs i x within is = rw add-one (take-suc xs i x within ∙ ap (λ y. take i xs ++ y ∷ []) (sym is))
+
+take_at : {A : Type 0} (xs : List A) (i : ℕ) (x : A) → slice_get xs i ≡ Some x → take (suc i) xs ≡ take i xs ++ x ∷ []
+take_at [] i x is = cc
+take_at (y ∷ xs) zero x is = let same : y ≡ x = cc in ap (λ z. z ∷ []) same
+take_at (y ∷ xs) (suc i) x is = ap (λ zs. y ∷ zs) (take_at xs i x is)
+
+pub take_more : {A : Type 0} (xs : List A) (i : ℕ) (x : A) → slice_get xs i ≡ Some x → take (i + 1) xs ≡ take i xs ++ x ∷ []
+take_more xs i x is = rw add-one (take_at xs i x is)
+
+-- one more of what f makes of a list that g makes another of
+pub map_more : {A B C : Type 0} (f : A → C) (g : B → C) (xs new : List A) (a : A) (ys more : List B) (y : B) → map f xs ≡ map g ys → new ≡ xs ++ a ∷ [] → f a ≡ g y → more ≡ ys ++ y ∷ [] → map f new ≡ map g more
+map_more f g xs new a ys more y so_far pushed same taken =
+    ap (map f) pushed ∙ map-append f xs (a ∷ []) ∙ (λ i. so_far i ++ same i ∷ []) ∙ sym (map-append g ys (y ∷ [])) ∙ ap (map g) (sym taken)

@@ -19,13 +19,14 @@ use Rattle.serde_json.specs.Data as values
 use Rattle.serde_json.specs.Read.{read, of_json, of_items, of_members}
 use Rattle.serde_json.specs.Written.{outline, items_outline, members_outline}
 use Rattle.serde_json.proofs.Texts.{print-outline}
-use Rattle.conf_doc.specs.Configs.{Each, IsEntry, IsTable, IsConfig}
+use Rattle.conf_doc.specs.WellFormed.{AreTexts, Each, IsConfig, IsEntry, IsTable, IsValue}
 use Rattle.conf_doc.specs.Configuration.{mapping, value_tree, entry_tree, table_tree, tree}
 use Rattle.conf_doc.specs.Document.{Document, text, list, object, Items, no_items, item, Members, no_members, member, items_of, members_of, pairs, depth, items_depth, members_depth}
 use Rattle.conf_doc.specs.Pairs.{IsRising}
 use Rattle.conf_doc.specs.Reading as reads
-use Rattle.conf_doc.specs.Reading.{Way, mapped, below, both, document_of, items_from, members_from, json_checked, kind_checked, reading}
-use Rattle.conf_doc.specs.Sound.{IsSound, AreSoundItems, AreSoundMembers, AreTexts, AreNames, HasValueTexts, HasEntryTexts, HasTableTexts, HasTexts}
+use Rattle.host_core.specs.Answers.{map_ok, both}
+use Rattle.conf_doc.specs.Reading.{Way, below, document_of, items_from, members_from, json_checked, kind_checked, reading}
+use Rattle.conf_doc.specs.Sound.{IsSound, AreSoundItems, AreSoundMembers}
 use Rattle.conf_doc.specs.Texts.{value, item_values, member_values, compact, pretty_text, file_text}
 use Rattle.conf_doc.specs.declared.configuration.Value.{Value}
 use Rattle.conf_doc.specs.declared.configuration.Value.TheVariants.{Text, List as Listed}
@@ -33,9 +34,9 @@ use Rattle.conf_doc.specs.declared.configuration.Entry.{Entry}
 use Rattle.conf_doc.specs.declared.configuration.Table.{Table}
 use Rattle.conf_doc.specs.declared.configuration.Config.{Config}
 use Rattle.conf_doc.proofs.Parsed.{json_read}
-use Rattle.conf_doc.proofs.Places.{is_sorted-map}
+use Rattle.conf_doc.proofs.Names.{rising-map}
 use Rattle.conf_doc.proofs.ReadBack.{ArePlain, ArePlain-append, ArePrintable-plain, tokens-print_line, tokens-pretty_line, print_utf8, pretty_utf8, line_feed_utf8}
-use Rattle.conf_doc.proofs.Sameness.{pairs-members_of}
+use Rattle.conf_doc.proofs.Equal.{pairs-members_of}
 
 -- a document's tokens are brackets, keys and strings
 mutual
@@ -151,8 +152,8 @@ module _ (d : Document) (sound : IsSound d) (shallow : depth d ≤ 127) where
 mutual
   pub document_back : (d : Document) → document_of (value d) ≡ Ok d
   document_back (text s) = refl
-  document_back (list ds) = ap (mapped list) (items_back 0 ds)
-  document_back (object ms) = ap (mapped object) (members_back ms)
+  document_back (list ds) = ap (map_ok list) (items_back 0 ds)
+  document_back (object ms) = ap (map_ok object) (members_back ms)
 
   items_back : (i : ℕ) (ds : Items) → items_from i (item_values ds) ≡ Ok ds
   items_back i no_items = refl
@@ -170,31 +171,27 @@ sound_texts : (us : List (List ℕ)) → AreTexts us → AreSoundItems (items_of
 sound_texts [] h = tt
 sound_texts (u ∷ us) h = (h.0, sound_texts us h.1)
 
-sound_value : (v : Value) → HasValueTexts v → IsSound (value_tree v)
+sound_value : (v : Value) → IsValue v → IsSound (value_tree v)
 sound_value (Text u) h = h
 sound_value (Listed us) h = sound_texts us h
 
-sound_members : {A : Type 0} (f : A → Document) (P Q : A → Type 0) → ((a : A) → P a → Q a → IsSound (f a)) → (ps : List (List ℕ × A)) → AreNames ps → Each P ps → Each Q ps
+sound_members : {A : Type 0} (f : A → Document) (P : A → Type 0) → ((a : A) → P a → IsSound (f a)) → (ps : List (List ℕ × A)) → AreTexts (map (λ p. p.0) ps) → Each P ps
     → AreSoundMembers (members_of (map (λ p. (p.0, f p.1)) ps))
-sound_members f P Q sound [] names p q = tt
-sound_members f P Q sound (m ∷ ms) names p q = (names.0, sound m.1 p.0 q.0, sound_members f P Q sound ms names.1 p.1 q.1)
+sound_members f P sound [] names each = tt
+sound_members f P sound (m ∷ ms) names each = (names.0, sound m.1 each.0, sound_members f P sound ms names.1 each.1)
 
-sound_mapping : {A : Type 0} (f : A → Document) (P Q : A → Type 0) → ((a : A) → P a → Q a → IsSound (f a)) → (ps : List (List ℕ × A)) → IsRising ps → AreNames ps → Each P ps → Each Q ps → IsSound (mapping f ps)
-sound_mapping f P Q sound ps rising names p q =
-    (subst IsRising (sym (pairs-members_of (map (λ m. (m.0, f m.1)) ps))) (is_sorted-map f ps ∙ rising), sound_members f P Q sound ps names p q)
+sound_mapping : {A : Type 0} (f : A → Document) (P : A → Type 0) → ((a : A) → P a → IsSound (f a)) → (ps : List (List ℕ × A)) → IsRising ps → AreTexts (map (λ p. p.0) ps) → Each P ps → IsSound (mapping f ps)
+sound_mapping f P sound ps rising names each =
+    (subst IsRising (sym (pairs-members_of (map (λ m. (m.0, f m.1)) ps))) (rising-map f ps rising), sound_members f P sound ps names each)
 
-each_value : (ps : List (List ℕ × Value)) → Each (λ _. Unit {0}) ps
-each_value [] = tt
-each_value (p ∷ ps) = (tt, each_value ps)
+sound_entry : (e : Entry) → IsEntry e → IsSound (entry_tree e)
+sound_entry e is = sound_mapping value_tree IsValue sound_value e is.shaped.rising is.shaped.texts is.parts
 
-sound_entry : (e : Entry) → IsEntry e → HasEntryTexts e → IsSound (entry_tree e)
-sound_entry e is texts = sound_mapping value_tree (λ _. Unit {0}) HasValueTexts (λ v _ h. sound_value v h) e is.rising texts.0 (each_value e) texts.1
+sound_table : (t : Table) → IsTable t → IsSound (table_tree t)
+sound_table t is = sound_mapping entry_tree IsEntry sound_entry t is.shaped.rising is.shaped.texts is.parts
 
-sound_table : (t : Table) → IsTable t → HasTableTexts t → IsSound (table_tree t)
-sound_table t is texts = sound_mapping entry_tree IsEntry HasEntryTexts sound_entry t is.0.rising texts.0 is.1 texts.1
-
-pub sound_tree : (c : Config) → IsConfig c → HasTexts c → IsSound (tree c)
-sound_tree c is texts = sound_mapping table_tree IsTable HasTableTexts sound_table c is.0.rising texts.0 is.1 texts.1
+pub sound_tree : (c : Config) → IsConfig c → IsSound (tree c)
+sound_tree c is = sound_mapping table_tree IsTable sound_table c is.shaped.rising is.shaped.texts is.parts
 
 -- which nests four deep at most
 flat_texts : (us : List (List ℕ)) → items_depth (items_of (map text us)) ≡ 0
@@ -215,5 +212,5 @@ depth_mapping f n each ps = omega (arith, depth_members f n each ps)
 pub depth_tree : (c : Config) → depth (tree c) ≤ 4
 depth_tree c = depth_mapping table_tree 3 (λ t. depth_mapping entry_tree 2 (λ e. depth_mapping value_tree 1 depth_value_tree e) t) c
 
-pub file_json : (c : Config) → IsConfig c → HasTexts c → reads.json (file_text c) ≡ Some (value (tree c))
-file_json c is texts = pretty_line_json (tree c) (sound_tree c is texts) (omega (arith, depth_tree c))
+pub file_json : (c : Config) → IsConfig c → reads.json (file_text c) ≡ Some (value (tree c))
+file_json c is = pretty_line_json (tree c) (sound_tree c is) (omega (arith, depth_tree c))

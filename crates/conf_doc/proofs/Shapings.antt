@@ -1,36 +1,34 @@
 -- A walk that shapes the items or the members of a document.
-use Rattle.std.proofs.Common.{◌≡◌, ℕ, ◌+◌, true, not, ◌&&◌, ◌==◌, List, [], ◌∷◌, ◌++◌, length, map, Result, Ok, Err, decimal, suc, ne_eqb, suc-ne-zero, refl, sym, ap, ◌∙◌, arith}
-use Rattle.std.specs.FinMap as finite
-use Rattle.std.specs.FinMap.Entries.{below_all}
-use Rattle.std.specs.Ordering.{is_lt}
+use Rattle.std.proofs.Common.{◌≡◌, ℕ, ◌+◌, true, not, ◌==◌, List, [], ◌∷◌, ◌++◌, length, map, Result, Ok, Err, decimal, suc, ne_eqb, suc-ne-zero, refl, sym, ap, ◌∙◌, arith}
 use Rattle.std.proofs.lemmas.Bool.{and_from}
 use Rattle.host_core.specs.Answers.{FailsAs}
-use Rattle.host_core.specs.Names.{name_cmp}
+use Rattle.conf_doc.proofs.Names.{is_sorted-names}
 use Rattle.conf_doc.specs.Document.{Document, Items, no_items, item, Members, no_members, member, members_of}
 use Rattle.conf_doc.specs.Pairs.{IsRising, AreNamed}
-use Rattle.conf_doc.specs.Reading.{Way, mapped, below, both}
-use Rattle.conf_doc.specs.Shapes.{IsShaped}
+use Rattle.host_core.specs.Answers.{map_ok, both}
+use Rattle.conf_doc.specs.Reading.{Way, below}
+use Rattle.conf_doc.specs.WellFormed.{AreTexts, IsShaped}
 use Rattle.conf_doc.specs.Shaping.{parts, named, texts_from, text_of}
-use Rattle.conf_doc.specs.Ways.{located, stop_place}
-use Rattle.conf_doc.specs.declared.ways.Stop.{Stop}
+use Rattle.conf_doc.specs.Stops.{located, stop_place}
+use Rattle.conf_doc.specs.declared.stops.Stop.{Stop}
 use Rattle.conf_doc.proofs.Walks.{fails, both-ok, length-more}
 
 module _ {A : Type 0} where
   abbrev pub before : List A → Result (List A) Way → Result (List A) Way
   before [] r = r
-  before (x ∷ xs) r = mapped (λ rest. x ∷ rest) (before xs r)
+  before (x ∷ xs) r = map_ok (λ rest. x ∷ rest) (before xs r)
 
-  pub before-more : (xs : List A) (x : A) (r : Result (List A) Way) → before xs (mapped (λ rest. x ∷ rest) r) ≡ before (xs ++ x ∷ []) r
+  pub before-more : (xs : List A) (x : A) (r : Result (List A) Way) → before xs (map_ok (λ rest. x ∷ rest) r) ≡ before (xs ++ x ∷ []) r
   before-more [] x r = refl
-  before-more (y ∷ xs) x r = ap (mapped (λ rest. y ∷ rest)) (before-more xs x r)
+  before-more (y ∷ xs) x r = ap (map_ok (λ rest. y ∷ rest)) (before-more xs x r)
 
   pub before-all : (xs : List A) → before xs (Ok []) ≡ Ok xs
   before-all [] = refl
-  before-all (x ∷ xs) = ap (mapped (λ rest. x ∷ rest)) (before-all xs)
+  before-all (x ∷ xs) = ap (map_ok (λ rest. x ∷ rest)) (before-all xs)
 
   pub before-fault : (xs : List A) (way : Way) → before xs (Err way) ≡ Err way
   before-fault [] way = refl
-  before-fault (x ∷ xs) way = ap (mapped (λ rest. x ∷ rest)) (before-fault xs way)
+  before-fault (x ∷ xs) way = ap (map_ok (λ rest. x ∷ rest)) (before-fault xs way)
 
 -- a walk over items has found the texts ts, and `now` is left
 pub record TextsWalk (all now : Items) (ts : List (List ℕ)) : Type 0 where
@@ -100,26 +98,6 @@ module _ {A : Type 0} (f : Document → Result A Way) where
       let both = both_found (λ a rest. (m.0, a) ∷ rest) (below m.0 (named m.0 (f m.1))) (parts f (members_of ms)) ps e in
       rw both.4 (ap (λ ns. m.0 ∷ ns) (parts_names ms both.1 both.3))
 
--- rising is a matter of the names
-module _ {A B : Type 0} where
-  below_names : (x : List ℕ) (ps : List (List ℕ × A)) (qs : List (List ℕ × B)) → map (λ p. p.0) ps ≡ map (λ q. q.0) qs → below_all name_cmp x ps ≡ below_all name_cmp x qs
-  below_names x [] [] names = refl
-  below_names x [] (q ∷ qs) names = cc
-  below_names x (p ∷ ps) [] names = cc
-  below_names x (p ∷ ps) (q ∷ qs) names =
-      let first : p.0 ≡ q.0 = cc in
-      let others : map (λ p. p.0) ps ≡ map (λ q. q.0) qs = cc in
-      λ i. is_lt (name_cmp x (first i)) && below_names x ps qs others i
-
-  pub is_sorted-names : (ps : List (List ℕ × A)) (qs : List (List ℕ × B)) → map (λ p. p.0) ps ≡ map (λ q. q.0) qs → finite.is_sorted name_cmp ps ≡ finite.is_sorted name_cmp qs
-  is_sorted-names [] [] names = refl
-  is_sorted-names [] (q ∷ qs) names = cc
-  is_sorted-names (p ∷ ps) [] names = cc
-  is_sorted-names (p ∷ ps) (q ∷ qs) names =
-      let first : p.0 ≡ q.0 = cc in
-      let others : map (λ p. p.0) ps ≡ map (λ q. q.0) qs = cc in
-      ap (λ x. below_all name_cmp x ps && finite.is_sorted name_cmp ps) first ∙ (λ i. below_names q.0 ps qs others i && is_sorted-names ps qs others i)
-
 -- what was shaped keeps the rules of a configuration
-pub parts_shaped : {A : Type 0} (f : Document → Result A Way) (ms : List (List ℕ × Document)) (ps : List (List ℕ × A)) → IsRising ms → parts f (members_of ms) ≡ Ok ps → IsShaped ps
-parts_shaped f ms ps rising e = record { rising = is_sorted-names ps ms (parts_names f ms ps e) ∙ rising; named = parts_named f (members_of ms) ps e }
+pub parts_shaped : {A : Type 0} (f : Document → Result A Way) (ms : List (List ℕ × Document)) (ps : List (List ℕ × A)) → IsRising ms → AreTexts (map (λ p. p.0) ps) → parts f (members_of ms) ≡ Ok ps → IsShaped ps
+parts_shaped f ms ps rising texts e = record { rising = is_sorted-names ps ms (parts_names f ms ps e) ∙ rising; named = parts_named f (members_of ms) ps e; texts = texts }

@@ -4,10 +4,11 @@ use Rattle.host_core.specs.Answers.{FailsAs}
 use Rattle.serde_json.specs.Data as values
 use Rattle.conf_doc.specs.Pointer.{pointer, escaped}
 use Rattle.conf_doc.specs.Document.{Document, Items, no_items, item, Members, no_members, member, items_of, members_of}
-use Rattle.conf_doc.specs.Reading.{Way, mapped, below, both, document_of, items_from, members_from}
-use Rattle.conf_doc.specs.Ways.{located, stop_place, IsBelow}
-use Rattle.conf_doc.specs.declared.ways.Stop.{Stop}
-use Rattle.conf_doc.specs.declared.ways.Stop.TheVariants.{At, Memory}
+use Rattle.host_core.specs.Answers.{map_ok, both}
+use Rattle.conf_doc.specs.Reading.{Way, below, document_of, items_from, members_from}
+use Rattle.conf_doc.specs.Stops.{located, stop_place, IsBelow}
+use Rattle.conf_doc.specs.declared.stops.Stop.{Stop}
+use Rattle.conf_doc.specs.declared.stops.Stop.TheVariants.{At, Memory}
 
 -- a stop of a part is one of the whole
 pub fails : {A B : Type 0} (e : Stop) (part : Result A Way) (whole : Result B Way) → ((way : Way) → part ≡ Err way → whole ≡ Err way) → FailsAs (stop_place e) (located part) → FailsAs (stop_place e) (located whole)
@@ -29,37 +30,37 @@ found a (Err way) e = cc
 -- documents before those of an answer
 abbrev pub items_before : List Document → Result Items Way → Result Items Way
 items_before [] r = r
-items_before (d ∷ ds) r = mapped (item d) (items_before ds r)
+items_before (d ∷ ds) r = map_ok (item d) (items_before ds r)
 
 abbrev pub members_before : List (List ℕ × Document) → Result Members Way → Result Members Way
 members_before [] r = r
-members_before (m ∷ ms) r = mapped (member m.0 m.1) (members_before ms r)
+members_before (m ∷ ms) r = map_ok (member m.0 m.1) (members_before ms r)
 
-pub items_before-more : (ds : List Document) (d : Document) (r : Result Items Way) → items_before ds (mapped (item d) r) ≡ items_before (ds ++ d ∷ []) r
+pub items_before-more : (ds : List Document) (d : Document) (r : Result Items Way) → items_before ds (map_ok (item d) r) ≡ items_before (ds ++ d ∷ []) r
 items_before-more [] d r = refl
-items_before-more (e ∷ ds) d r = ap (mapped (item e)) (items_before-more ds d r)
+items_before-more (e ∷ ds) d r = ap (map_ok (item e)) (items_before-more ds d r)
 
-pub members_before-more : (ms : List (List ℕ × Document)) (k : List ℕ) (d : Document) (r : Result Members Way) → members_before ms (mapped (member k d) r) ≡ members_before (ms ++ (k, d) ∷ []) r
+pub members_before-more : (ms : List (List ℕ × Document)) (k : List ℕ) (d : Document) (r : Result Members Way) → members_before ms (map_ok (member k d) r) ≡ members_before (ms ++ (k, d) ∷ []) r
 members_before-more [] k d r = refl
-members_before-more (m ∷ ms) k d r = ap (mapped (member m.0 m.1)) (members_before-more ms k d r)
+members_before-more (m ∷ ms) k d r = ap (map_ok (member m.0 m.1)) (members_before-more ms k d r)
 
 pub items_before-all : (ds : List Document) → items_before ds (Ok no_items) ≡ Ok (items_of ds)
 items_before-all [] = refl
-items_before-all (d ∷ ds) = ap (mapped (item d)) (items_before-all ds)
+items_before-all (d ∷ ds) = ap (map_ok (item d)) (items_before-all ds)
 
 pub members_before-all : (ms : List (List ℕ × Document)) → members_before ms (Ok no_members) ≡ Ok (members_of ms)
 members_before-all [] = refl
-members_before-all (m ∷ ms) = ap (mapped (member m.0 m.1)) (members_before-all ms)
+members_before-all (m ∷ ms) = ap (map_ok (member m.0 m.1)) (members_before-all ms)
 
 pub items_before-fault : (ds : List Document) (way : Way) → items_before ds (Err way) ≡ Err way
 items_before-fault [] way = refl
-items_before-fault (d ∷ ds) way = ap (mapped (item d)) (items_before-fault ds way)
+items_before-fault (d ∷ ds) way = ap (map_ok (item d)) (items_before-fault ds way)
 
 pub members_before-fault : (ms : List (List ℕ × Document)) (way : Way) → members_before ms (Err way) ≡ Err way
 members_before-fault [] way = refl
-members_before-fault (m ∷ ms) way = ap (mapped (member m.0 m.1)) (members_before-fault ms way)
+members_before-fault (m ∷ ms) way = ap (map_ok (member m.0 m.1)) (members_before-fault ms way)
 
-pub both-ok : {A B C : Type 0} (f : A → B → C) (a : A) (first : Result A Way) (r : Result B Way) → located first ≡ Ok a → both f first r ≡ mapped (f a) r
+pub both-ok : {A B C : Type 0} (f : A → B → C) (a : A) (first : Result A Way) (r : Result B Way) → located first ≡ Ok a → both f first r ≡ map_ok (f a) r
 both-ok f a first (Ok b) e = ap (λ p. both f p (Ok b)) (found a first e)
 both-ok f a first (Err way) e = ap (λ p. both f p (Err way)) (found a first e)
 

@@ -21,14 +21,17 @@ abbrev pub documents : Items → List Document
 documents no_items = []
 documents (item d ds) = d ∷ documents ds
 
+-- a plain list as items
 abbrev pub items_of : List Document → Items
 items_of [] = no_items
 items_of (d ∷ ds) = item d (items_of ds)
 
+-- members as pairs
 abbrev pub pairs : Members → List (List ℕ × Document)
 pairs no_members = []
 pairs (member k d ms) = (k, d) ∷ pairs ms
 
+-- pairs as members
 abbrev pub members_of : List (List ℕ × Document) → Members
 members_of [] = no_members
 members_of (m ∷ ms) = member m.0 m.1 (members_of ms)
@@ -62,3 +65,7 @@ abbrev mutual
   pub members_depth : Members → ℕ
   members_depth no_members = 0
   members_depth (member k d ms) = max (depth d) (members_depth ms)
+
+-- how deep serde_json reads
+abbrev pub deepest : ℕ
+deepest = 127

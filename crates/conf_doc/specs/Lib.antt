@@ -1,15 +1,22 @@
+-- what public clauses cite
+pub mod Changes
 pub mod Coding
-pub mod Configs
 pub mod Configuration
 pub mod Document
 pub mod Falls
+pub mod Order
 pub mod Pairs
-pub mod Places
+pub mod Paths
 pub mod Pointer
 pub mod Reading
-pub mod Shapes
 pub mod Shaping
 pub mod Sound
 pub mod Texts
 pub mod Trees
-pub mod Ways
+pub mod WellFormed
+-- what only private clauses cite
+pub mod Indexes
+pub mod OrderLaws
+pub mod Shared
+pub mod Stops
+pub mod Tokens

@@ -1,13 +1,15 @@
 //! A configuration: tables of entries of fields.
-ghost use Rattle.std.specs.Prelude.{◌≡◌, ◌<◌, [], length, map, option_map, slice_get, Some};
-ghost use Rattle.conf_doc.specs.Pairs.{find};
+ghost use Rattle.std.specs.Prelude.{◌≡◌, ◌<◌, ◌↔◌, [], length, map, option_map, slice_get, Some, IfOk, IsTrue};
+ghost use Rattle.conf_doc.specs.Pairs.{find, first_from};
+ghost use Rattle.conf_doc.specs.WellFormed.{AreTexts, IsConfig, IsEntry, IsTable, IsValue};
 
-use crate::pairs::place_of;
-use host_core::{Names, Txt};
+use crate::sorted::Sorted;
+use host_core::{Memory, Names, Txt};
+use std::alloc::Global;
 use std::marker::Model;
 
-/// What a field holds.
-#[derive(Drop)]
+/// What a field holds. A text is before a list; texts are ordered by bytes, lists item by item.
+#[derive(Debug, Drop, Eq, Hash, Ord, PartialEq, PartialOrd)]
 pub enum Value {
     Text(Txt),
     List(Names),
@@ -15,162 +17,272 @@ pub enum Value {
 
 /// The fields of an entry, sorted by name. No name is empty, and none stands twice. Contracts see the
 /// list of pairs of a name and a value.
-#[derive(Drop)]
+#[derive(Drop, Eq, Hash, Ord, PartialEq, PartialOrd)]
 pub struct Entry {
-    pub(crate) fields: Vec<(Txt, Value)>,
+    pub(crate) fields: Sorted<Value>,
 }
 
 /// The entries of a table, sorted by key. No key is empty, and none stands twice. Contracts see the
 /// list of pairs of a key and an entry.
-#[derive(Drop)]
+#[derive(Drop, Eq, Hash, Ord, PartialEq, PartialOrd)]
 pub struct Table {
-    pub(crate) entries: Vec<(Txt, Entry)>,
+    pub(crate) entries: Sorted<Entry>,
 }
 
 /// The tables of a configuration, sorted by name. No name is empty, and none stands twice. Contracts see
 /// the list of pairs of a name and a table.
-#[derive(Drop)]
+#[derive(Drop, Eq, Hash, Ord, PartialEq, PartialOrd)]
 pub struct Config {
-    pub(crate) tables: Vec<(Txt, Table)>,
+    pub(crate) tables: Sorted<Table>,
 }
 
 impl Model for Entry {
     ghost use Rattle.std.specs.Prelude.{List, ℕ};
-    ghost use Rattle.conf_doc.specs.Shapes.{IsShaped};
+    ghost use Rattle.conf_doc.specs.WellFormed.{IsEntry};
     ghost use Rattle.conf_doc.specs.declared.configuration.Value.{Value as FieldValue};
 
     ghost Value = { List (List ℕ × FieldValue) };
 
-    ghost view = { λ e. e.fields.items };
+    ghost view = { λ e. e.fields };
 
-    ghost invariant = { λ e. IsShaped e.fields.items };
+    ghost invariant = { λ e. IsEntry e.fields };
+
+    ghost inverse = { λ fields. record { fields = fields } };
 }
 
 impl Model for Table {
     ghost use Rattle.std.specs.Prelude.{List, ℕ};
-    ghost use Rattle.conf_doc.specs.Shapes.{IsShaped};
+    ghost use Rattle.conf_doc.specs.WellFormed.{IsTable};
     ghost use Rattle.conf_doc.specs.declared.configuration.Entry.{Entry as EntryValue};
 
     ghost Value = { List (List ℕ × EntryValue) };
 
-    ghost view = { λ t. t.entries.items };
+    ghost view = { λ t. t.entries };
 
-    ghost invariant = { λ t. IsShaped t.entries.items };
+    ghost invariant = { λ t. IsTable t.entries };
+
+    ghost inverse = { λ entries. record { entries = entries } };
 }
 
 impl Model for Config {
     ghost use Rattle.std.specs.Prelude.{List, ℕ};
-    ghost use Rattle.conf_doc.specs.Shapes.{IsShaped};
+    ghost use Rattle.conf_doc.specs.WellFormed.{IsConfig};
     ghost use Rattle.conf_doc.specs.declared.configuration.Table.{Table as TableValue};
 
     ghost Value = { List (List ℕ × TableValue) };
 
-    ghost view = { λ c. c.tables.items };
+    ghost view = { λ c. c.tables };
 
-    ghost invariant = { λ c. IsShaped c.tables.items };
+    ghost invariant = { λ c. IsConfig c.tables };
+
+    ghost inverse = { λ tables. record { tables = tables } };
+}
+
+impl Value {
+    /// The same value.
+    pub fn copy(&self, alloc: Global) -> Result<Value, Memory>
+        ensures copy { IfOk result (λ v. v ≡ self.now) }
+        ensures formed { IfOk result IsValue }
+    {
+        match self {
+            Value::Text(text) => Ok(Value::Text(Txt::new(alloc, text.as_str())?)),
+            Value::List(texts) => Ok(Value::List(copy_texts(alloc, texts)?)),
+        }
+    }
+}
+
+fn copy_texts(alloc: Global, texts: &Names) -> Result<Names, Memory>
+    ensures copy { IfOk result (λ ts. ts ≡ texts.now) }
+    ensures formed { IfOk result AreTexts }
+{
+    let mut copies = Names::new(alloc);
+    for text in texts.items() {
+        let copy = Txt::new(alloc, text.as_str())?;
+        copies.push(copy)?;
+    }
+    Ok(copies)
 }
 
 impl Config {
+    /// No tables, which take no memory.
+    pub fn new(alloc: Global) -> Config
+        ensures { result ≡ [] }
+    {
+        Config {
+            tables: Sorted::new(alloc),
+        }
+    }
+
     /// The table of a name, or None where there is no such table.
     pub fn table(&self, name: &str) -> Option<&Table>
-        ensures { option_map (λ v. v.now) result ≡ find name.now self.now }
+        ensures table { option_map (λ v. v.now) result ≡ find name.now self.now }
+        ensures formed { IsConfig self.now }
     {
-        match place_of(&self.tables, name) {
-            Ok(i) => Some(&self.tables[i].1),
-            Err(_) => None,
-        }
+        self.tables.find(name)
     }
 
     /// How many tables there are.
     pub fn len(&self) -> usize
-        ensures { result ≡ length self.now }
+        ensures len { result ≡ length self.now }
+        ensures formed { IsConfig self.now }
     {
         self.tables.len()
     }
 
-    /// The name of the table at a place, counted from 0 in the order of the names.
+    /// The name of the table at an index, counted from 0 in the order of the names.
     pub fn name_at(&self, i: usize) -> &str
         requires { i < length self.now }
         ensures { slice_get (map (λ p. p.0) self.now) i ≡ Some result.now }
     {
-        self.tables[i].0.as_str()
+        self.tables.name_at(i)
     }
 
-    /// The table at a place.
+    /// The table at an index.
     pub fn part_at(&self, i: usize) -> &Table
         requires { i < length self.now }
-        ensures { slice_get (map (λ p. p.1) self.now) i ≡ Some result.now }
+        ensures part { slice_get (map (λ p. p.1) self.now) i ≡ Some result.now }
+        ensures formed { IsConfig self.now }
     {
-        &self.tables[i].1
+        self.tables.part_at(i)
+    }
+
+    /// The first index from which no table's name is below that text, or the length.
+    pub fn first_from(&self, name: &str) -> usize
+        ensures { result ≡ first_from name.now self.now }
+    {
+        self.tables.first_from(name)
+    }
+
+    /// The same configuration.
+    pub fn copy(&self, alloc: Global) -> Result<Config, Memory>
+        ensures copy { IfOk result (λ c. c ≡ self.now) }
+        ensures formed { IfOk result IsConfig }
+    {
+        Ok(Config {
+            tables: self.tables.copy(alloc)?,
+        })
     }
 }
 
 impl Table {
+    /// No entries, which take no memory.
+    pub fn new(alloc: Global) -> Table
+        ensures { result ≡ [] }
+    {
+        Table {
+            entries: Sorted::new(alloc),
+        }
+    }
+
     /// The entry of a key, or None where there is no such entry.
     pub fn entry(&self, key: &str) -> Option<&Entry>
-        ensures { option_map (λ v. v.now) result ≡ find key.now self.now }
+        ensures entry { option_map (λ v. v.now) result ≡ find key.now self.now }
+        ensures formed { IsTable self.now }
     {
-        match place_of(&self.entries, key) {
-            Ok(i) => Some(&self.entries[i].1),
-            Err(_) => None,
-        }
+        self.entries.find(key)
     }
 
     /// How many entries there are.
     pub fn len(&self) -> usize
-        ensures { result ≡ length self.now }
+        ensures len { result ≡ length self.now }
+        ensures formed { IsTable self.now }
     {
         self.entries.len()
     }
 
-    /// The name of the entry at a place, counted from 0 in the order of the names.
+    /// The key of the entry at an index, counted from 0 in the order of the keys.
     pub fn name_at(&self, i: usize) -> &str
         requires { i < length self.now }
         ensures { slice_get (map (λ p. p.0) self.now) i ≡ Some result.now }
     {
-        self.entries[i].0.as_str()
+        self.entries.name_at(i)
     }
 
-    /// The entry at a place.
+    /// The entry at an index.
     pub fn part_at(&self, i: usize) -> &Entry
         requires { i < length self.now }
-        ensures { slice_get (map (λ p. p.1) self.now) i ≡ Some result.now }
+        ensures part { slice_get (map (λ p. p.1) self.now) i ≡ Some result.now }
+        ensures formed { IsTable self.now }
     {
-        &self.entries[i].1
+        self.entries.part_at(i)
+    }
+
+    /// The first index from which no key is below that text, or the length. Keys that begin with a text
+    /// stand together from there on.
+    pub fn first_from(&self, key: &str) -> usize
+        ensures { result ≡ first_from key.now self.now }
+    {
+        self.entries.first_from(key)
+    }
+
+    /// The same table.
+    pub fn copy(&self, alloc: Global) -> Result<Table, Memory>
+        ensures copy { IfOk result (λ t. t ≡ self.now) }
+        ensures formed { IfOk result IsTable }
+    {
+        Ok(Table {
+            entries: self.entries.copy(alloc)?,
+        })
     }
 }
 
 impl Entry {
+    /// No fields, which take no memory.
+    pub fn new(alloc: Global) -> Entry
+        ensures { result ≡ [] }
+    {
+        Entry {
+            fields: Sorted::new(alloc),
+        }
+    }
+
     /// The value of a field, or None where there is no such field.
     pub fn field(&self, name: &str) -> Option<&Value>
-        ensures { option_map (λ v. v.now) result ≡ find name.now self.now }
+        ensures field { option_map (λ v. v.now) result ≡ find name.now self.now }
+        ensures formed { IsEntry self.now }
     {
-        match place_of(&self.fields, name) {
-            Ok(i) => Some(&self.fields[i].1),
-            Err(_) => None,
-        }
+        self.fields.find(name)
     }
 
     /// How many fields there are.
     pub fn len(&self) -> usize
-        ensures { result ≡ length self.now }
+        ensures len { result ≡ length self.now }
+        ensures formed { IsEntry self.now }
     {
         self.fields.len()
     }
 
-    /// The name of the field at a place, counted from 0 in the order of the names.
+    /// The name of the field at an index, counted from 0 in the order of the names.
     pub fn name_at(&self, i: usize) -> &str
         requires { i < length self.now }
         ensures { slice_get (map (λ p. p.0) self.now) i ≡ Some result.now }
     {
-        self.fields[i].0.as_str()
+        self.fields.name_at(i)
     }
 
-    /// The value of the field at a place.
+    /// The value of the field at an index.
     pub fn part_at(&self, i: usize) -> &Value
         requires { i < length self.now }
-        ensures { slice_get (map (λ p. p.1) self.now) i ≡ Some result.now }
+        ensures part { slice_get (map (λ p. p.1) self.now) i ≡ Some result.now }
+        ensures formed { IsEntry self.now }
     {
-        &self.fields[i].1
+        self.fields.part_at(i)
+    }
+
+    /// The first index from which no field's name is below that text, or the length.
+    pub fn first_from(&self, name: &str) -> usize
+        ensures { result ≡ first_from name.now self.now }
+    {
+        self.fields.first_from(name)
+    }
+
+    /// The same entry.
+    pub fn copy(&self, alloc: Global) -> Result<Entry, Memory>
+        ensures copy { IfOk result (λ e. e ≡ self.now) }
+        ensures formed { IfOk result IsEntry }
+    {
+        Ok(Entry {
+            fields: self.fields.copy(alloc)?,
+        })
     }
 }

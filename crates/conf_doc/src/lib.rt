@@ -1,22 +1,32 @@
-//! Configurations and JSON documents as values: how they are read, shaped and written.
+//! Configurations and JSON documents as values: how they are read, shaped, changed, compared and written.
 #![tactic(auto)]
 
+mod changes;
+mod comparisons;
 mod configuration;
-mod copies;
+mod errors;
+mod indexes;
 mod laws;
-mod pairs;
+mod parts;
+mod paths;
+mod pointers;
 mod reading;
+mod sameness;
 mod shaping;
-#[cfg(test)]
-mod tests;
+mod sorted;
+mod stops;
+mod tree_copies;
+mod tree_texts;
 mod trees;
-mod values;
-mod ways;
 mod writing;
 
 pub use configuration::{Config, Entry, Table, Value};
-pub use laws::{compact_reads_back, file_reads_back, shape_of_tree};
-pub use reading::{ReadError, read_tree, tree_of_value};
-pub use shaping::{ShapeError, config_of};
+pub use errors::{ReadError, ShapeError};
+pub use laws::compact_reads_back;
+pub use parts::{Part, part_tree};
+pub use paths::Path;
+pub use pointers::pointer_of;
+pub use reading::{json_value, read_tree, tree_of_value};
+pub use shaping::{config_of, config_of_tree};
 pub use trees::{Items, Members, Tree};
 pub use writing::{file_bytes, tree_bytes, tree_of};

@@ -3,37 +3,22 @@ ghost use Rattle.std.specs.Prelude.{◌≡◌, decimal};
 ghost use Rattle.host_core.specs.Answers.{Gives};
 ghost use Rattle.serde_json.specs.View.{view, items_view, members_view};
 ghost use Rattle.conf_doc.specs.Document.{items_of, members_of};
-ghost use Rattle.conf_doc.specs.Reading.{reading, valued, document_of, items_from, members_from, below, read_fault};
+ghost use Rattle.conf_doc.specs.Reading.{below, document_of, items_from, json, json_answer, members_from, read_fault, reading, valued};
 ghost use Rattle.conf_doc.specs.Trees.{document};
-ghost use Rattle.conf_doc.specs.Ways.{located, stop_place};
+ghost use Rattle.conf_doc.specs.Stops.{located, stop_place};
 
-use crate::ways::Stop;
-use crate::{Items, Members, Tree};
+use crate::stops::Stop;
+use crate::{Items, Members, ReadError, Tree};
 use host_core::Txt;
 use serde_json::{Map, Value};
 use std::alloc::Global;
-use thiserror::Error;
 
-/// Why bytes are no tree.
-#[derive(Debug, Drop, Error)]
-pub enum ReadError {
-    /// They are no JSON text that serde_json reads: not UTF-8, not of the grammar, or nested too deep.
-    #[error("not a JSON text")]
-    BadJson,
-    /// A number, true, false or null stands at this place, an RFC 6901 pointer; it is the first in
-    /// sorted order.
-    #[error("not a text, a list or a map")]
-    BadKind { place: Txt },
-    #[error("out of memory")]
-    Memory,
-}
-
-/// Reads a JSON text (RFC 8259). Where a map repeats a name, the last member counts.
-pub fn read_tree(alloc: Global, bytes: &[u8]) -> Result<Tree, ReadError>
-    ensures { Gives document read_fault result (reading bytes.now) }
+/// The JSON value of a text (RFC 8259), as serde_json reads it. `BadKind` doesn't come.
+pub fn json_value(alloc: Global, bytes: &[u8]) -> Result<Value, ReadError>
+    ensures { Gives view read_fault result (json_answer (json bytes.now)) }
 {
     match Value::from_slice(alloc, bytes) {
-        Ok(value) => tree_of_value(alloc, value),
+        Ok(value) => Ok(value),
         Err(error) => {
             if error.is_memory() {
                 Err(ReadError::Memory)
@@ -41,6 +26,16 @@ pub fn read_tree(alloc: Global, bytes: &[u8]) -> Result<Tree, ReadError>
                 Err(ReadError::BadJson)
             }
         }
+    }
+}
+
+/// Reads a JSON text (RFC 8259). Where a map repeats a name, the last member counts.
+pub fn read_tree(alloc: Global, bytes: &[u8]) -> Result<Tree, ReadError>
+    ensures { Gives document read_fault result (reading bytes.now) }
+{
+    match json_value(alloc, bytes) {
+        Ok(value) => tree_of_value(alloc, value),
+        Err(error) => Err(error),
     }
 }
 
@@ -81,7 +76,8 @@ fn read_items(alloc: Global, values: Vec<Value>) -> Result<Items, Stop>
 
 #[cycle(reading)]
 fn read_item(alloc: Global, i: usize, value: Value) -> Result<Tree, Stop>
-    ensures { Gives document stop_place result (located (below (decimal i) (document_of (view value)))) }
+    ensures { Gives document stop_place result
+        (located (below (decimal i) (document_of (view value)))) }
 {
     match read_value(alloc, value) {
         Ok(tree) => Ok(tree),
@@ -91,7 +87,8 @@ fn read_item(alloc: Global, i: usize, value: Value) -> Result<Tree, Stop>
 
 #[cycle(reading)]
 fn read_members(alloc: Global, values: Map<String, Value>) -> Result<Members, Stop>
-    ensures { Gives members_of stop_place result (located (members_from (members_view values.entries))) }
+    ensures { Gives members_of stop_place result
+        (located (members_from (members_view values.entries))) }
 {
     let mut members = Vec::new(alloc);
     for (name, value) in values {
@@ -103,7 +100,8 @@ fn read_members(alloc: Global, values: Map<String, Value>) -> Result<Members, St
 
 #[cycle(reading)]
 fn read_member(alloc: Global, name: &str, value: Value) -> Result<Tree, Stop>
-    ensures { Gives document stop_place result (located (below name.now (document_of (view value)))) }
+    ensures { Gives document stop_place result
+        (located (below name.now (document_of (view value)))) }
 {
     match read_value(alloc, value) {
         Ok(tree) => Ok(tree),

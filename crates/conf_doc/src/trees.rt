@@ -2,9 +2,9 @@
 ghost use Rattle.std.specs.Prelude.{◌≡◌, ◌<◌, ◌≤◌, [], ◌∷◌, ◌++◌, length, map, option_map, slice_get, slice_set, insert, remove, Some, Option, IfOk, IfErr, OnOk, OnErr};
 ghost use Rattle.conf_doc.specs.Document.{Document};
 ghost use Rattle.conf_doc.specs.Pairs.{find, put, without, IsRising};
-ghost use Rattle.conf_doc.specs.Trees.{document};
+ghost use Rattle.conf_doc.specs.Trees.{document, named_document};
 
-use crate::pairs::place_of;
+use crate::indexes::index_of_member;
 use host_core::{Memory, Txt};
 use std::alloc::Global;
 use std::marker::Model;
@@ -44,7 +44,7 @@ impl Model for Items {
 
     ghost coded = { coded_list coded_document };
 
-    ghost use Rattle.conf_doc.specs.Trees.{document};
+    ghost use Rattle.conf_doc.specs.Trees.{document, named_document};
 
     ghost view = { λ a. map document a.items.items };
 
@@ -66,11 +66,11 @@ impl Model for Members {
 
     ghost coded = { coded_list (coded× (coded_list coded_ℕ) coded_document) };
 
-    ghost use Rattle.conf_doc.specs.Trees.{document};
+    ghost use Rattle.conf_doc.specs.Trees.{document, named_document};
 
-    ghost view = { λ a. map (λ m. (m.0, document m.1)) a.members.items };
+    ghost view = { λ a. map named_document a.members.items };
 
-    ghost invariant = { λ a. IsRising a.members.items };
+    ghost invariant = { λ a. IsRising (map named_document a.members.items) };
 
     ghost size = { λ ms. members_weight (members_of ms) };
 
@@ -103,7 +103,15 @@ impl Items {
         self.items.as_slice()
     }
 
-    /// The item at a place, counted from 0.
+    /// The vector of the items, with no copy.
+    pub(crate) fn into_items(self) -> Vec<Tree>
+        ensures { map document result.items ≡ self }
+    {
+        let Items { items } = self;
+        items
+    }
+
+    /// The item at an index, counted from 0.
     pub fn at(&self, i: usize) -> &Tree
         requires { i < length self.now }
         ensures { slice_get self.now i ≡ Some (document result.now) }
@@ -116,22 +124,16 @@ impl Items {
         ensures ok { OnOk result (self.new ≡ self.old ++ document tree ∷ []) }
         ensures err { OnErr result (self.new ≡ self.old) }
     {
-        match self.items.push(tree) {
-            Ok(()) => Ok(()),
-            Err(_) => Err(Memory),
-        }
+        Ok(self.items.push(tree)?)
     }
 
-    /// Adds an item at a place up to the length. Without memory the list stays as it was.
+    /// Adds an item at an index up to the length. Without memory the list stays as it was.
     pub fn insert(&mut self, i: usize, tree: Tree) -> Result<(), Memory>
         requires { i ≤ length self.old }
         ensures ok { OnOk result (self.new ≡ insert self.old i (document tree)) }
         ensures err { OnErr result (self.new ≡ self.old) }
     {
-        match self.items.insert(i, tree) {
-            Ok(()) => Ok(()),
-            Err(_) => Err(Memory),
-        }
+        Ok(self.items.insert(i, tree)?)
     }
 
     /// Takes an item out, and closes up.
@@ -165,18 +167,27 @@ impl Members {
 
     /// The members of a list that is sorted already.
     pub(crate) fn from_sorted(members: Vec<(Txt, Tree)>) -> Members
-        requires { IsRising members.items }
-        ensures { result ≡ map (λ m. (m.0, document m.1)) members.items }
+        requires { IsRising (map named_document members.items) }
+        ensures { result ≡ map named_document members.items }
     {
         Members { members }
     }
 
     /// The whole list.
     pub(crate) fn members(&self) -> &[(Txt, Tree)]
-        ensures list { map (λ m. (m.0, document m.1)) result.now ≡ self.now }
-        ensures rising { IsRising result.now }
+        ensures list { map named_document result.now ≡ self.now }
+        ensures rising { IsRising self.now }
     {
         self.members.as_slice()
+    }
+
+    /// The vector of the members, with no copy.
+    pub(crate) fn into_members(self) -> Vec<(Txt, Tree)>
+        ensures list { map named_document result.items ≡ self }
+        ensures rising { IsRising self }
+    {
+        let Members { members } = self;
+        members
     }
 
     /// How many members there are.
@@ -186,7 +197,7 @@ impl Members {
         self.members.len()
     }
 
-    /// The name at a place, counted from 0 in the order of the names.
+    /// The name at an index, counted from 0 in the order of the names.
     pub fn name_at(&self, i: usize) -> &str
         requires { i < length self.now }
         ensures { slice_get (map (λ m. m.0) self.now) i ≡ Some result.now }
@@ -194,7 +205,7 @@ impl Members {
         self.members[i].0.as_str()
     }
 
-    /// What the name at a place names.
+    /// What the name at an index names.
     pub fn at(&self, i: usize) -> &Tree
         requires { i < length self.now }
         ensures { slice_get (map (λ m. m.1) self.now) i ≡ Some (document result.now) }
@@ -206,7 +217,7 @@ impl Members {
     pub fn find(&self, name: &str) -> Option<&Tree>
         ensures { option_map (λ t. document t.now) result ≡ find name.now self.now }
     {
-        match place_of(&self.members, name) {
+        match index_of_member(&self.members, name) {
             Ok(i) => Some(&self.members[i].1),
             Err(_) => None,
         }
@@ -217,16 +228,11 @@ impl Members {
         ensures ok { OnOk result (self.new ≡ put name (document tree) self.old) }
         ensures err { OnErr result (self.new ≡ self.old) }
     {
-        match place_of(&self.members, name.as_str()) {
-            Ok(i) => {
-                drop(mem::replace(&mut self.members[i].1, tree));
-                Ok(())
-            }
-            Err(i) => match self.members.insert(i, (name, tree)) {
-                Ok(()) => Ok(()),
-                Err(_) => Err(Memory),
-            },
+        match index_of_member(&self.members, name.as_str()) {
+            Ok(i) => self.members[i].1 = tree,
+            Err(i) => self.members.insert(i, (name, tree))?,
         }
+        Ok(())
     }
 
     /// Takes the member of that name out, or answers None where there is none.
@@ -235,7 +241,7 @@ impl Members {
         ensures rest { self.new ≡ without name.now self.old }
         ensures rising { IsRising self.old }
     {
-        match place_of(&self.members, name) {
+        match index_of_member(&self.members, name) {
             Ok(i) => Some(self.members.remove(i).1),
             Err(_) => None,
         }
@@ -244,11 +250,13 @@ impl Members {
     /// Puts another document in the place of the one that a name names, which is handed out. Where there
     /// is no such member, the document comes back.
     pub fn replace(&mut self, name: &str, tree: Tree) -> Result<Tree, Tree>
-        ensures taken { IfOk result (λ t. (find name.now self.old ≡ Some (document t)) × (self.new ≡ put name.now (document tree) self.old)) }
-        ensures absent { IfErr result (λ t. (t ≡ tree) × (find name.now self.old ≡ None) × (self.new ≡ self.old)) }
+        ensures taken { IfOk result (λ t. find name.now self.old ≡ Some (document t)) }
+        ensures put { OnOk result (self.new ≡ put name.now (document tree) self.old) }
+        ensures absent { IfErr result (λ t. (t ≡ tree) × (find name.now self.old ≡ None)) }
+        ensures err { OnErr result (self.new ≡ self.old) }
         ensures rising { IsRising self.old }
     {
-        match place_of(&self.members, name) {
+        match index_of_member(&self.members, name) {
             Ok(i) => Ok(mem::replace(&mut self.members[i].1, tree)),
             Err(_) => Err(tree),
         }

@@ -1,56 +1,134 @@
-//! The trees and texts of configurations.
-ghost use Rattle.std.specs.Prelude.{◌≡◌, [], ◌∷◌, ◌++◌, map, IfOk, OnOk};
-ghost use Rattle.conf_doc.specs.Configuration.{tree, table_tree, entry_tree, value_tree};
-ghost use Rattle.conf_doc.specs.Document.{text};
-ghost use Rattle.conf_doc.specs.Texts.{compact, file_text};
+//! The trees and texts of configurations, and the texts of trees.
+ghost use Rattle.std.specs.Prelude.{◌≡◌, ◌≤◌, ◌++◌, ◌∷◌, [], map, IfOk, OnOk, Ok, Some};
+ghost use Rattle.json.specs.Token.{key};
+ghost use Rattle.conf_doc.specs.Configuration.{entry_tree, mapping, table_tree, tree, value_tree};
+ghost use Rattle.conf_doc.specs.Document.{items_of, list, members_of, object, text};
+ghost use Rattle.conf_doc.specs.Reading.{reading};
+ghost use Rattle.conf_doc.specs.Shaping.{shaping};
+ghost use Rattle.conf_doc.specs.Texts.{ReadsBack, compact, document_tokens, file_text, line_feed};
 ghost use Rattle.conf_doc.specs.Trees.{document};
 
-use crate::values::{value_of_config, value_of_tree};
+use crate::sorted::Sorted;
+use crate::tree_texts::compact_text;
 use crate::{Config, Entry, Items, Members, Table, Tree, Value};
 use host_core::{Memory, Names, Txt};
+use json::{Pretty, Token};
 use std::alloc::{AllocError, Global};
 
 /// The tree that a configuration is.
 pub fn tree_of(alloc: Global, config: &Config) -> Result<Tree, Memory>
-    ensures { IfOk result (λ t. document t ≡ tree config.now) }
+    ensures tree { IfOk result (λ t. document t ≡ tree config.now) }
+    ensures shapes_back { IfOk result (λ t. shaping (document t) ≡ Ok config.now) }
 {
-    let mut members = Vec::new(alloc);
-    for (name, table) in config.tables.as_slice() {
-        let tree = tree_of_table(alloc, table)?;
-        push_named(alloc, &mut members, name.as_str(), tree)?;
-    }
-    Ok(Tree::Map(Members::from_sorted(members)))
+    let _ = config.len();
+    let tree = config.tree(alloc)?;
+    Ok(tree)
 }
 
-fn tree_of_table(alloc: Global, table: &Table) -> Result<Tree, Memory>
-    ensures { IfOk result (λ t. document t ≡ table_tree table.now) }
+/// The text of a configuration's file: sorted, two spaces deeper for each level, and a line feed.
+pub fn file_bytes(alloc: Global, config: &Config) -> Result<Vec<u8>, Memory>
+    ensures text { IfOk result (λ b. b.items ≡ file_text config.now) }
+    ensures reads_back { IfOk result (λ b. reading b.items ≡ Ok (tree config.now)) }
+    ensures shapes_back { shaping (tree config.now) ≡ Ok config.now }
 {
-    let mut members = Vec::new(alloc);
-    for (key, entry) in table.entries.as_slice() {
-        let tree = tree_of_entry(alloc, entry)?;
-        push_named(alloc, &mut members, key.as_str(), tree)?;
-    }
-    Ok(Tree::Map(Members::from_sorted(members)))
+    let _ = config.len();
+    let mut text = Pretty::new(alloc);
+    config.write(&mut text)?;
+    let mut bytes = text.into_inner();
+    bytes.push(b'\n')?;
+    Ok(bytes)
 }
 
-fn tree_of_entry(alloc: Global, entry: &Entry) -> Result<Tree, Memory>
-    ensures { IfOk result (λ t. document t ≡ entry_tree entry.now) }
+/// The compact JSON text of a tree.
+pub fn tree_bytes(alloc: Global, tree: &Tree) -> Result<Vec<u8>, Memory>
+    ensures text { IfOk result (λ b. b.items ≡ compact (document tree.now)) }
+    ensures reads_back { IfOk result (λ b. ReadsBack b.items (document tree.now)) }
+    ensures line { IfOk result (λ b. ReadsBack (b.items ++ line_feed) (document tree.now)) }
 {
-    let mut members = Vec::new(alloc);
-    for (name, field) in entry.fields.as_slice() {
-        let tree = tree_of_field(alloc, field)?;
-        push_named(alloc, &mut members, name.as_str(), tree)?;
-    }
-    Ok(Tree::Map(Members::from_sorted(members)))
+    let bytes = compact_text(alloc, tree)?;
+    Ok(bytes)
 }
 
-fn tree_of_field(alloc: Global, field: &Value) -> Result<Tree, Memory>
-    ensures { IfOk result (λ t. document t ≡ value_tree field.now) }
-{
-    match field {
-        Value::Text(text) => Ok(Tree::Text(Txt::new(alloc, text.as_str())?)),
-        Value::List(texts) => Ok(Tree::List(items_of_texts(alloc, texts)?)),
+/// A part of a configuration as a document.
+pub(crate) trait Written {
+    ghost use Rattle.conf_doc.specs.Document.{Document};
+
+    ghost as_document: { Self → Document };
+
+    /// The tree of the document.
+    fn tree(&self, alloc: Global) -> Result<Tree, Memory>
+        ensures { IfOk result (λ t. document t ≡ as_document self.now) };
+
+    /// Writes the document's tokens.
+    fn write(&self, out: &mut Pretty) -> Result<(), AllocError>
+        ensures { OnOk result (out.new ≡ out.old ++ document_tokens (as_document self.now)) };
+}
+
+impl Written for Config {
+    ghost as_document = { tree };
+
+    fn tree(&self, alloc: Global) -> Result<Tree, Memory> {
+        tree_of_parts(alloc, &self.tables)
     }
+
+    fn write(&self, out: &mut Pretty) -> Result<(), AllocError> {
+        write_parts(&self.tables, out)
+    }
+}
+
+impl Written for Table {
+    ghost as_document = { table_tree };
+
+    fn tree(&self, alloc: Global) -> Result<Tree, Memory> {
+        tree_of_parts(alloc, &self.entries)
+    }
+
+    fn write(&self, out: &mut Pretty) -> Result<(), AllocError> {
+        write_parts(&self.entries, out)
+    }
+}
+
+impl Written for Entry {
+    ghost as_document = { entry_tree };
+
+    fn tree(&self, alloc: Global) -> Result<Tree, Memory> {
+        tree_of_parts(alloc, &self.fields)
+    }
+
+    fn write(&self, out: &mut Pretty) -> Result<(), AllocError> {
+        write_parts(&self.fields, out)
+    }
+}
+
+impl Written for Value {
+    ghost as_document = { value_tree };
+
+    fn tree(&self, alloc: Global) -> Result<Tree, Memory> {
+        match self {
+            Value::Text(text) => Ok(Tree::Text(text.copy(alloc)?)),
+            Value::List(texts) => Ok(Tree::List(items_of_texts(alloc, texts)?)),
+        }
+    }
+
+    fn write(&self, out: &mut Pretty) -> Result<(), AllocError> {
+        match self {
+            Value::Text(text) => out.token(Token::String(text.as_str())),
+            Value::List(texts) => write_texts(texts, out),
+        }
+    }
+}
+
+fn tree_of_parts<X: Written>(alloc: Global, parts: &Sorted<X>) -> Result<Tree, Memory>
+    ensures { IfOk result (λ t. document t ≡ mapping X.as_document parts.now) }
+{
+    let mut members = Vec::new(alloc);
+    for i in 0..parts.len() {
+        let (name, part) = parts.pair_at(i);
+        let name = name.copy(alloc)?;
+        let tree = part.tree(alloc)?;
+        members.push((name, tree))?;
+    }
+    Ok(Tree::Map(Members::from_sorted(members)))
 }
 
 fn items_of_texts(alloc: Global, texts: &Names) -> Result<Items, Memory>
@@ -58,58 +136,45 @@ fn items_of_texts(alloc: Global, texts: &Names) -> Result<Items, Memory>
 {
     let mut items = Items::new(alloc);
     for text in texts.items() {
-        items.push(Tree::Text(Txt::new(alloc, text.as_str())?))?;
+        let copy = text.copy(alloc)?;
+        items.push(Tree::Text(copy))?;
     }
     Ok(items)
 }
 
-pub(crate) fn push_named(
-    alloc: Global,
-    members: &mut Vec<(Txt, Tree)>,
-    name: &str,
-    tree: Tree,
-) -> Result<(), Memory>
-    ensures { OnOk result (members.new.items ≡ members.old.items ++ (name.now, tree) ∷ []) }
+fn write_parts<X: Written>(parts: &Sorted<X>, out: &mut Pretty) -> Result<(), AllocError>
+    ensures { OnOk result (out.new ≡ out.old ++ document_tokens (mapping X.as_document parts.now)) }
 {
-    let name = Txt::new(alloc, name)?;
-    match members.push((name, tree)) {
-        Ok(()) => Ok(()),
-        Err(_) => Err(Memory),
+    out.token(Token::BeginObject)?;
+    for i in 0..parts.len() {
+        write_member(parts.pair_at(i), out)?;
     }
+    out.token(Token::EndObject)?;
+    Ok(())
 }
 
-/// The text of a configuration's file: sorted, two spaces deeper for each level, and a line feed.
-pub fn file_bytes(alloc: Global, config: &Config) -> Result<Vec<u8>, Memory>
-    ensures { IfOk result (λ b. b.items ≡ file_text config.now) }
+fn write_texts(texts: &Names, out: &mut Pretty) -> Result<(), AllocError>
+    ensures { OnOk result (out.new
+        ≡ out.old ++ document_tokens (list (items_of (map text texts.now)))) }
 {
-    match file_text(alloc, config) {
-        Ok(bytes) => Ok(bytes),
-        Err(_) => Err(Memory),
+    out.token(Token::BeginArray)?;
+    for text in texts.items() {
+        write_text(text, out)?;
     }
+    out.token(Token::EndArray)?;
+    Ok(())
 }
 
-fn file_text(alloc: Global, config: &Config) -> Result<Vec<u8>, AllocError>
-    ensures { IfOk result (λ b. b.items ≡ file_text config.now) }
+fn write_member<X: Written>(pair: &(Txt, X), out: &mut Pretty) -> Result<(), AllocError>
+    ensures { OnOk result (out.new
+        ≡ out.old ++ key pair.now.0 ∷ document_tokens (X.as_document pair.now.1)) }
 {
-    let value = value_of_config(alloc, config)?;
-    let mut bytes = value.to_vec_pretty(alloc)?;
-    bytes.push(b'\n')?;
-    Ok(bytes)
+    out.token(Token::Key(pair.0.as_str()))?;
+    pair.1.write(out)
 }
 
-/// The compact JSON text of a tree.
-pub fn tree_bytes(alloc: Global, tree: &Tree) -> Result<Vec<u8>, Memory>
-    ensures { IfOk result (λ b. b.items ≡ compact (document tree.now)) }
+fn write_text(t: &Txt, out: &mut Pretty) -> Result<(), AllocError>
+    ensures { OnOk result (out.new ≡ out.old ++ document_tokens (text t.now)) }
 {
-    match compact_text(alloc, tree) {
-        Ok(bytes) => Ok(bytes),
-        Err(_) => Err(Memory),
-    }
-}
-
-fn compact_text(alloc: Global, tree: &Tree) -> Result<Vec<u8>, AllocError>
-    ensures { IfOk result (λ b. b.items ≡ compact (document tree.now)) }
-{
-    let value = value_of_tree(alloc, tree)?;
-    value.to_vec(alloc)
+    out.token(Token::String(t.as_str()))
 }

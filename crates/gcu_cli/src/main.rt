@@ -1,6 +1,7 @@
 //! The program `gcu`: works on the configuration of a switch that stands in the working folder.
 #![tactic(auto)]
 
+mod folder;
 mod reading;
 mod real_host;
 #[cfg(test)]

@@ -1,26 +1,28 @@
-//! The host that the program works on: the working folder and standard output.
+//! The host that the program works on: the working folder, standard output and `restarts.log`.
 ghost use Rattle.std.specs.Prelude.{◌≡◌, ◌≤◌, length, None, OnOk, OnErr, IsErrOf};
-ghost use Rattle.host_core.specs.State.{Rose, Counts, InputMayRise, DiskMayRise, PrintMayRise};
-ghost use Rattle.host_core.specs.Faults.{no_faults, input_fault, disk_fault, print_fault};
-ghost use Rattle.host_core.specs.declared.failures.HostError.TheVariants.{Failed as call_failed};
+ghost use Rattle.host_core.specs.Counts.{Rose, Counts, InputMayRise, DiskMayRise, PrintMayRise, ServiceMayRise};
+ghost use Rattle.host_core.specs.Faults.{no_faults, input_fault, disk_fault, print_fault, service_fault};
+ghost use Rattle.host_core.specs.Names.{longest_file_name};
+ghost use Rattle.host_core.specs.declared.errors.HostError.TheVariants.{Failed as call_failed};
 
-use crate::reading::{read_input, read_whole};
-use host_core::{Failed, FaultCounts, Host, HostError, Input};
+use crate::folder::{
+    file_bytes, file_names, input_bytes, log_restart, remove_file, rename_file, settle_files,
+    sync_file, write_file,
+};
+use host_core::{Failed, FaultCounts, Host, HostError, Input, Names};
 use std::alloc::Global;
-use std::fs::File;
-use std::io;
-use std::io::ErrorKind;
 use std::rt::Files;
 
 /// The working folder and standard output of the process. Inputs are paths, from the working folder
-/// on where they do not begin with a slash. It tells nothing of what they hold.
+/// on where they do not begin with a slash. It tells nothing of what they hold, nor of what a crash
+/// leaves. Every call that fails counts one fault of its kind.
 #[derive(Drop)]
 pub struct RealHost<R> {
     rt: R,
     counts: FaultCounts,
 }
 
-impl<R: Files + Print> RealHost<R> {
+impl<R: Files + Print + AllocGlobal + Clone + Drop> RealHost<R> {
     /// The host of a runtime, with no faults so far.
     pub fn new(rt: R) -> Self
         ensures { result.counts ≡ no_faults }
@@ -30,52 +32,156 @@ impl<R: Files + Print> RealHost<R> {
             counts: FaultCounts::new(),
         }
     }
+
+    /// Counts a fault of the disk where a call failed.
+    fn count_disk(&mut self, done: Result<(), Failed>) -> Result<(), Failed>
+        ensures ok { OnOk result (self.new.counts ≡ self.old.counts) }
+        ensures err { OnErr result (self.new.counts ≡ disk_fault self.old.counts) }
+        ensures counts { DiskMayRise self.old.counts self.new.counts }
+        ensures cause { OnErr result (Rose self.old.counts.disk self.new.counts.disk) }
+    {
+        if done.is_err() {
+            self.counts.add_disk();
+        }
+        done
+    }
 }
 
-impl<R: Files + Print> Host for RealHost<R> {
+impl<R: Files + Print + AllocGlobal + Clone + Drop> Host for RealHost<R> {
+    ghost use Rattle.std.specs.Prelude.{None};
+    ghost use Rattle.host_core.specs.Names.{longest_file_name};
+
     ghost told = { λ _. None };
 
     ghost counts = { λ h. h.counts };
 
-    ghost longest_name = { 96 };
+    ghost longest_name = { longest_file_name };
+
+    ghost moment = { λ _. 0 };
+
+    ghost left_since = { λ _ _ _. Unit {0} };
+
+    ghost goes_on = { λ _ _. Unit {0} };
+
+    ghost counts_now = { λ _ _ _ _ _. tt };
+
+    ghost only_now = { λ _ _ _. tt };
+
+    ghost begins = { λ _. tt };
+
+    ghost continues = { λ _ _ _ _ _. tt };
 
     /// Fails where the system does so for another reason than that there is no such file, as at a
-    /// folder, and counts that.
+    /// folder.
     fn input(&mut self, alloc: Global, path: &str, limit: u64) -> Result<Input, HostError>
         ensures counts { InputMayRise self.old.counts self.new.counts }
         ensures cause { IsErrOf result call_failed → Rose self.old.counts.input self.new.counts.input }
         ensures failed { IsErrOf result call_failed → self.new.counts ≡ input_fault self.old.counts }
         ensures not_failed { ¬ IsErrOf result call_failed → self.new.counts ≡ self.old.counts }
     {
-        let answer = input_of(&self.rt, alloc, path, limit);
+        let answer = input_bytes(&self.rt, alloc, path, limit);
         if let Err(HostError::Failed) = &answer {
             self.counts.add_input();
         }
         answer
     }
 
-    /// Fails where the system does so for another reason than that there is no such file, as at a
-    /// folder, and counts that.
-    fn read(&mut self, alloc: Global, name: &str) -> Result<Option<Vec<u8>>, HostError>
-        requires { length name.now ≤ 96 }
+    /// The names that are UTF-8. Fails where the system does so.
+    fn list(&mut self, alloc: Global) -> Result<Names, HostError>
         ensures counts { DiskMayRise self.old.counts self.new.counts }
         ensures cause { IsErrOf result call_failed → Rose self.old.counts.disk self.new.counts.disk }
         ensures failed { IsErrOf result call_failed → self.new.counts ≡ disk_fault self.old.counts }
         ensures not_failed { ¬ IsErrOf result call_failed → self.new.counts ≡ self.old.counts }
     {
-        let answer = file_of(&self.rt, alloc, name);
+        let answer = file_names(&self.rt, alloc);
         if let Err(HostError::Failed) = &answer {
             self.counts.add_disk();
         }
         answer
     }
 
-    /// Fails where standard output does not take all the bytes, and counts that.
+    /// Fails where the system does so for another reason than that there is no such file, as at a
+    /// folder.
+    fn read(&mut self, alloc: Global, name: &str) -> Result<Option<Vec<u8>>, HostError>
+        requires { length name.now ≤ longest_file_name }
+        ensures counts { DiskMayRise self.old.counts self.new.counts }
+        ensures cause { IsErrOf result call_failed → Rose self.old.counts.disk self.new.counts.disk }
+        ensures failed { IsErrOf result call_failed → self.new.counts ≡ disk_fault self.old.counts }
+        ensures not_failed { ¬ IsErrOf result call_failed → self.new.counts ≡ self.old.counts }
+    {
+        let answer = file_bytes(&self.rt, alloc, name);
+        if let Err(HostError::Failed) = &answer {
+            self.counts.add_disk();
+        }
+        answer
+    }
+
+    /// Fails where the system does so.
+    fn write(&mut self, name: &str, bytes: &[u8]) -> Result<(), Failed>
+        requires { length name.now ≤ longest_file_name }
+        ensures counts { DiskMayRise self.old.counts self.new.counts }
+        ensures cause { OnErr result (Rose self.old.counts.disk self.new.counts.disk) }
+        ensures not_failed { OnOk result (self.new.counts ≡ self.old.counts) }
+        ensures failed { OnErr result (self.new.counts ≡ disk_fault self.old.counts) }
+    {
+        let done = write_file(&self.rt, name, bytes);
+        self.count_disk(done)
+    }
+
+    /// Fails where the system does so.
+    fn sync(&mut self, name: &str) -> Result<(), Failed>
+        requires { length name.now ≤ longest_file_name }
+        ensures counts { DiskMayRise self.old.counts self.new.counts }
+        ensures cause { OnErr result (Rose self.old.counts.disk self.new.counts.disk) }
+        ensures not_failed { OnOk result (self.new.counts ≡ self.old.counts) }
+        ensures failed { OnErr result (self.new.counts ≡ disk_fault self.old.counts) }
+    {
+        let done = sync_file(&self.rt, name);
+        self.count_disk(done)
+    }
+
+    /// Fails where the system does so.
+    fn rename(&mut self, from: &str, to: &str) -> Result<(), Failed>
+        requires from { length from.now ≤ longest_file_name }
+        requires to { length to.now ≤ longest_file_name }
+        ensures counts { DiskMayRise self.old.counts self.new.counts }
+        ensures cause { OnErr result (Rose self.old.counts.disk self.new.counts.disk) }
+        ensures not_failed { OnOk result (self.new.counts ≡ self.old.counts) }
+        ensures failed { OnErr result (self.new.counts ≡ disk_fault self.old.counts) }
+    {
+        let done = rename_file(&self.rt, from, to);
+        self.count_disk(done)
+    }
+
+    /// Fails where the system does so.
+    fn remove(&mut self, name: &str) -> Result<(), Failed>
+        requires { length name.now ≤ longest_file_name }
+        ensures counts { DiskMayRise self.old.counts self.new.counts }
+        ensures cause { OnErr result (Rose self.old.counts.disk self.new.counts.disk) }
+        ensures not_failed { OnOk result (self.new.counts ≡ self.old.counts) }
+        ensures failed { OnErr result (self.new.counts ≡ disk_fault self.old.counts) }
+    {
+        let done = remove_file(&self.rt, name);
+        self.count_disk(done)
+    }
+
+    /// Fails where the system does so, and where there is no memory for the folder's names.
+    fn settle(&mut self) -> Result<(), Failed>
+        ensures counts { DiskMayRise self.old.counts self.new.counts }
+        ensures cause { OnErr result (Rose self.old.counts.disk self.new.counts.disk) }
+        ensures not_failed { OnOk result (self.new.counts ≡ self.old.counts) }
+        ensures failed { OnErr result (self.new.counts ≡ disk_fault self.old.counts) }
+    {
+        let done = settle_files(&self.rt);
+        self.count_disk(done)
+    }
+
+    /// Fails where standard output does not take all the bytes.
     fn print(&mut self, bytes: &[u8]) -> Result<(), Failed>
         ensures counts { PrintMayRise self.old.counts self.new.counts }
         ensures cause { OnErr result (Rose self.old.counts.print self.new.counts.print) }
-        ensures ok { OnOk result (self.new.counts ≡ self.old.counts) }
-        ensures err { OnErr result (self.new.counts ≡ print_fault self.old.counts) }
+        ensures not_failed { OnOk result (self.new.counts ≡ self.old.counts) }
+        ensures failed { OnErr result (self.new.counts ≡ print_fault self.old.counts) }
     {
         if self.rt.write_all(bytes).is_ok() {
             return Ok(());
@@ -83,34 +189,18 @@ impl<R: Files + Print> Host for RealHost<R> {
         self.counts.add_print();
         Err(Failed)
     }
-}
 
-/// What the input at a path holds.
-fn input_of<R: Files>(rt: &R, alloc: Global, path: &str, limit: u64) -> Result<Input, HostError> {
-    match opened(rt, path)? {
-        None => Ok(Input::Absent),
-        Some(mut file) => read_input(alloc, &mut file, limit),
+    /// Fails where `restarts.log` does not take the line, and where there is no memory for it.
+    fn restart(&mut self, service: &str) -> Result<(), Failed>
+        ensures counts { ServiceMayRise self.old.counts self.new.counts }
+        ensures cause { OnErr result (Rose self.old.counts.service self.new.counts.service) }
+        ensures not_failed { OnOk result (self.new.counts ≡ self.old.counts) }
+        ensures failed { OnErr result (self.new.counts ≡ service_fault self.old.counts) }
+    {
+        if log_restart(&self.rt, service).is_ok() {
+            return Ok(());
+        }
+        self.counts.add_service();
+        Err(Failed)
     }
-}
-
-/// The bytes of the file of a name, where there is one.
-fn file_of<R: Files>(rt: &R, alloc: Global, name: &str) -> Result<Option<Vec<u8>>, HostError> {
-    match opened(rt, name)? {
-        None => Ok(None),
-        Some(mut file) => Ok(Some(read_whole(alloc, &mut file)?)),
-    }
-}
-
-/// The file at a path, or None where there is none: where the path names nothing, or leads through
-/// something that is no folder.
-fn opened<R: Files>(rt: &R, path: &str) -> Result<Option<R::File>, HostError> {
-    match File::open(rt, path) {
-        Ok(file) => Ok(Some(file)),
-        Err(error) if is_missing(&error) => Ok(None),
-        Err(_) => Err(HostError::Failed),
-    }
-}
-
-fn is_missing(error: &io::Error) -> bool {
-    matches!(error.kind(), ErrorKind::NotFound | ErrorKind::NotADirectory)
 }

@@ -1,7 +1,12 @@
+//! Reading and the words of the command line, over fakes of the system.
 use crate::reading::read_input;
+use crate::words::words;
 use host_core::{HostError, Input};
+use std::alloc::Global;
+use std::env::{Env, FillError};
 use std::io;
 use std::io::{ErrorKind, Read};
+use std::process::Abort;
 use std::test::Fail;
 
 // A file whose reads end as listed: with some bytes, or with an error.
@@ -59,5 +64,59 @@ fn a_file_is_read_in_parts_and_a_fault_in_mid_stream_is_told(rt: HostRuntime) ->
         let got = name_of(read_input(rt.alloc(), &mut file, limit));
         assert_eq!(rt; got, want, "up to {limit}");
     }
+    Ok(())
+}
+
+// A command line of these words.
+#[derive(Drop)]
+struct CommandLine<'a> {
+    words: &'a [&'a [u8]],
+}
+
+impl Env for CommandLine<'_> {
+    fn arg(&self, i: usize, buffer: &mut [u8]) -> Result<usize, FillError> {
+        match self.words.get(i) {
+            None => Err(FillError::NotPresent),
+            Some(word) if word.len() > buffer.len() => Err(FillError::TooLong),
+            Some(word) => {
+                buffer[..word.len()].copy_from_slice(word);
+                Ok(word.len())
+            }
+        }
+    }
+
+    fn var(&self, _name: &str, _buffer: &mut [u8]) -> Result<usize, FillError> {
+        Err(FillError::NotPresent)
+    }
+
+    fn var_at(&self, _i: usize, _buffer: &mut [u8]) -> Result<usize, FillError> {
+        Err(FillError::NotPresent)
+    }
+}
+
+// Finds these words on a command line.
+fn finds(rt: &impl Abort, alloc: Global, line: &[&[u8]], want: &[&str]) -> Result<(), Fail> {
+    let got = words(&(CommandLine { words: line }, alloc))?;
+    assert_eq!(rt; got.len(), want.len());
+    for (word, text) in got.items().iter().zip(want) {
+        assert_eq!(rt; word.as_str(), *text);
+    }
+    Ok(())
+}
+
+#[test]
+fn words_are_those_behind_the_name(rt: HostRuntime) -> Result<(), Fail> {
+    let alloc = rt.alloc();
+    finds(&rt, alloc, &[], &[])?;
+    finds(&rt, alloc, &[b"gcu"], &[])?;
+    finds(
+        &rt,
+        alloc,
+        &[b"gcu", b"preview", b"p.json"],
+        &["preview", "p.json"],
+    )?;
+    finds(&rt, alloc, &[b"gcu", b"", "ä".as_bytes()], &["", "ä"])?;
+    // with one that is no UTF-8 there are none
+    finds(&rt, alloc, &[b"gcu", b"preview", b"\xff"], &[])?;
     Ok(())
 }

@@ -1,34 +1,15 @@
--- Which answers a command may give, and what it then has printed.
-use Rattle.std.specs.Prelude.{◌≡◌, ◌⊎◌, ◌≤◌, ℕ, List, ◌++◌, Option, Some, None, Result, Ok, Err, option_map, IfSome, ⊤}
-use Rattle.host_core.specs.State.{State, Counts, Rose, printed}
+-- Which answers a command may give to what is asked, what it then has printed, and what a fault needs.
+use Rattle.std.specs.Prelude.{◌≡◌, ◌⊎◌, ℕ, List, ◌++◌, Contains, Option, Some, None, Result, Ok, Err, option_map, ⊤}
+use Rattle.host_core.specs.Counts.{Counts, Rose}
+use Rattle.host_core.specs.Crashes.{Left, MayLeaveNow}
+use Rattle.host_core.specs.State.{State, printed}
 use Rattle.conf_doc.specs.Texts.{file_text}
-use Rattle.conf_doc.specs.declared.configuration.Config.{Config}
 use Rattle.gcu_engine.specs.Asked.{asked}
+use Rattle.gcu_engine.specs.Asking.{Asking, an_input, a_file}
 use Rattle.gcu_engine.specs.Lines.{last_line}
+use Rattle.gcu_engine.specs.Request.{Request, preview}
 use Rattle.gcu_engine.specs.declared.outcomes.Outcome.{Outcome}
 use Rattle.gcu_engine.specs.declared.outcomes.Outcome.TheVariants.{Done, Memory, Usage, InputFault, DiskFault, PrintFault}
-
--- no count falls
-pub record NoneFell (old new : Counts) : Type 0 where
-  pub input : old.input ≤ new.input
-  pub disk : old.disk ≤ new.disk
-  pub print : old.print ≤ new.print
-  pub service : old.service ≤ new.service
-
--- no count rose
-pub record NoneRose (old new : Counts) : Type 0 where
-  pub input : ¬ (Rose old.input new.input)
-  pub disk : ¬ (Rose old.disk new.disk)
-  pub print : ¬ (Rose old.print new.print)
-
--- the refusal that is asked for, or None for an answer with another cause
-abbrev pub refusal : Outcome → Option Outcome
-refusal Done = None
-refusal Memory = None
-refusal InputFault = None
-refusal (DiskFault step) = None
-refusal (PrintFault step) = None
-refusal other = Some other
 
 -- a fault is told only where its count rose, and after no acknowledgement
 abbrev pub HasCause : Counts → Counts → Outcome → Type 0
@@ -37,40 +18,66 @@ HasCause old new (DiskFault step) = (step ≡ 0) × Rose old.disk new.disk
 HasCause old new (PrintFault step) = (step ≡ 0) × Rose old.print new.print
 HasCause old new other = ⊤
 
--- an answer of a command's preparation: for want of memory, a fault, or a refusal of what it was given
-abbrev pub Refuses : Counts → Counts → Outcome → Type 0
-Refuses old new Done = ⊥
-Refuses old new Usage = ⊥
-Refuses old new (PrintFault step) = ⊥
-Refuses old new other = HasCause old new other
+-- what is printed where the command did all that was requested
+abbrev pub done_output : Request → List ℕ
+done_output (preview c) = file_text c ++ last_line Done
 
--- the same, with no fault among the causes
-abbrev pub RefusesAlways : Outcome → Type 0
-RefusesAlways result = (old new : Counts) → Refuses old new result
-
--- the whole output with that answer
-abbrev pub Says : Result Config Outcome → Outcome → List ℕ → Type 0
-Says wanted Done output = (c : Config) × (wanted ≡ Ok c) × (output ≡ file_text c ++ last_line Done)
-Says wanted Memory output = output ≡ last_line Memory
-Says wanted InputFault output = output ≡ last_line InputFault
-Says wanted (DiskFault step) output = output ≡ last_line (DiskFault step)
-Says wanted (PrintFault step) output = ⊥
-Says wanted other output = (wanted ≡ Err other) × (output ≡ last_line other)
+-- the whole output with that answer; a fault is answered only where a call of its kind stands
+abbrev pub Says : Asking Request → Outcome → List ℕ → Type 0
+Says asking Done output = (r : Request) × (asking.gives ≡ Ok r) × (output ≡ done_output r)
+Says asking Memory output = output ≡ last_line Memory
+Says asking InputFault output = Contains asking.calls an_input × (output ≡ last_line InputFault)
+Says asking (DiskFault step) output =
+    Contains asking.calls a_file × (output ≡ last_line (DiskFault step))
+Says asking (PrintFault step) output = ⊥
+Says asking other output = (asking.gives ≡ Err other) × (output ≡ last_line other)
 
 -- a front of what some other answer says
-abbrev pub SaysPart : Result Config Outcome → Counts → Counts → List ℕ → Type 0
-SaysPart wanted old new output = (other : Outcome) × (rest : List ℕ) × HasCause old new other × Says wanted other (output ++ rest)
+abbrev pub SaysPart : Asking Request → Counts → Counts → List ℕ → Type 0
+SaysPart asking old new output =
+    (other : Outcome) × (rest : List ℕ)
+    × HasCause old new other × Says asking other (output ++ rest)
 
 -- the output with that answer, which a print fault cuts short
-abbrev pub Prints : Result Config Outcome → Counts → Counts → Outcome → List ℕ → Type 0
-Prints wanted old new (PrintFault step) output = SaysPart wanted old new output
-Prints wanted old new other output = Says wanted other output
+abbrev pub Prints : Asking Request → Counts → Counts → Outcome → List ℕ → Type 0
+Prints asking old new (PrintFault step) output = SaysPart asking old new output
+Prints asking old new other output = Says asking other output
 
--- A command that changes nothing but its output, which is as its answer says.
-abbrev pub Answers : List (List ℕ) → Option State → Option State → Counts → Counts → Outcome → Type 0
-Answers words before after old new result =
-    (output : List ℕ) × (after ≡ option_map (printed output) before)
-    × IfSome before (λ s. Prints (asked words s) old new result output)
+-- nothing but the output is another one afterwards, and it is as the answer says
+abbrev pub PrintsAlone : Asking Request
+    → State → Option State → Counts → Counts → Outcome → Type 0
+PrintsAlone asking before after old new result =
+    (output : List ℕ) × (after ≡ Some (printed output before))
+    × Prints asking old new result output
+
+-- what a command leaves that was refused or that does this
+abbrev pub Leaves : Result Request Outcome → Asking Request
+    → State → Option State → Counts → Counts → Outcome → Type 0
+Leaves (Err refusal) = PrintsAlone
+Leaves (Ok (preview c)) = PrintsAlone
+
+-- What a command leaves of a host that tells its state, and which answer that is. It goes by what the words
+-- ask of that state.
+abbrev pub Answers : List (List ℕ)
+    → Option State → Option State → Counts → Counts → Outcome → Type 0
+Answers words None after old new result = after ≡ None
+Answers words (Some before) after old new result =
+    Leaves (asked words before).gives (asked words before) before after old new result
+
+-- what a crash leaves where nothing but the output changes: what was there, with a front of some output
+abbrev pub LeftWithOutput : Option State → Left → Type 0
+LeftWithOutput before left =
+    (part : List ℕ) × MayLeaveNow (option_map (printed part) before) left
+
+-- what a crash leaves in a command that is refused or that does this
+abbrev pub LeftIn : Result Request Outcome → State → Left → Type 0
+LeftIn (Err refusal) before = LeftWithOutput (Some before)
+LeftIn (Ok (preview c)) before = LeftWithOutput (Some before)
+
+-- What a crash leaves at a moment of a command, of a host that tells its state.
+abbrev pub LeftMeanwhile : List (List ℕ) → Option State → Left → Type 0
+LeftMeanwhile words None left = ⊤
+LeftMeanwhile words (Some before) left = LeftIn (asked words before).gives before left
 
 -- the answer to words that are no command, unless it can't be told
 abbrev pub TellsUsage : Outcome → Type 0
@@ -79,7 +86,11 @@ TellsUsage Memory = ⊤
 TellsUsage (PrintFault step) = ⊤
 TellsUsage other = ⊥
 
--- the answer where nothing failed: for want of memory, the refusal asked for, or done
-abbrev pub Complete : Result Config Outcome → Outcome → Type 0
-Complete (Ok c) result = (result ≡ Memory) ⊎ (result ≡ Done)
-Complete (Err e) result = (result ≡ Memory) ⊎ (result ≡ e)
+-- the answers to a request where nothing failed
+abbrev pub Finishes : Request → Outcome → Type 0
+Finishes (preview c) result = (result ≡ Memory) ⊎ (result ≡ Done)
+
+-- the answers where nothing failed: for want of memory, the refusal, or what the request says
+abbrev pub Complete : Result Request Outcome → Outcome → Type 0
+Complete (Ok request) result = Finishes request result
+Complete (Err refusal) result = (result ≡ Memory) ⊎ (result ≡ refusal)

@@ -3,6 +3,7 @@ use Rattle.std.specs.Prelude.{ℕ, List, [], ◌∷◌, codes, Bool, not, ◌&&�
 use Rattle.std.specs.Cmp.Lexicographic.{pointwise}
 use Rattle.std.specs.List.{starts_with}
 
+-- a command with its words
 pub data Form : Type 0 where
   -- with the path of the patch
   preview : List ℕ → Form
@@ -11,8 +12,17 @@ pub data Form : Type 0 where
 abbrev pub is_positional : List ℕ → Bool
 is_positional word = not (starts_with nat_eq word (codes "--"))
 
+abbrev is_word : List ℕ → List ℕ → Bool
+is_word word name = pointwise nat_eq word name
+
+abbrev form_of_two : List ℕ → List ℕ → Option Form
+form_of_two command word =
+    if is_word command (codes "preview") && is_positional word then Some (preview word)
+    else None
+
+-- the command that the words are
 abbrev pub form : List (List ℕ) → Option Form
 form [] = None
 form (a ∷ []) = None
-form (a ∷ b ∷ []) = if pointwise nat_eq a (codes "preview") && is_positional b then Some (preview b) else None
+form (a ∷ b ∷ []) = form_of_two a b
 form (a ∷ b ∷ c ∷ ws) = None

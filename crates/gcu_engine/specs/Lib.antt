@@ -1,6 +1,13 @@
+-- what public clauses cite
 pub mod Answers
 pub mod Asked
+pub mod Asking
 pub mod Form
-pub mod Forms
 pub mod Lines
+pub mod Request
+pub mod Stored
+-- what only private clauses cite
+pub mod FormView
+pub mod Preparing
 pub mod Printing
+pub mod ReadStored

@@ -2,10 +2,10 @@
 use Rattle.std.specs.Prelude.{ℕ, List, [], ◌∷◌, ◌++◌, codes, decimal}
 use Rattle.conf_doc.specs.Document.{text}
 use Rattle.conf_doc.specs.Texts.{compact}
-use Rattle.patch_core.specs.declared.applying.FailWhy.{FailWhy}
-use Rattle.patch_core.specs.declared.applying.FailWhy.TheVariants.{NoParent, BadIndex, NoTarget, RootRemove, TestFailed, IntoItself, TooLarge}
-use Rattle.patch_core.specs.declared.reading.PatchWhy.{PatchWhy}
-use Rattle.patch_core.specs.declared.reading.PatchWhy.TheVariants.{NotArray, NotObject, NoOp, UnknownOp, NoPath, BadPath, NoValue, BadValue, NoFrom, BadFrom}
+use Rattle.patch_core.specs.declared.errors.FailWhy.{FailWhy}
+use Rattle.patch_core.specs.declared.errors.FailWhy.TheVariants.{NoParent, BadIndex, NoTarget, RootRemove, TestFailed, IntoItself, TooLarge}
+use Rattle.patch_core.specs.declared.errors.PatchWhy.{PatchWhy}
+use Rattle.patch_core.specs.declared.errors.PatchWhy.TheVariants.{NotArray, NotObject, NoOp, UnknownOp, NoPath, BadPath, NoValue, BadValue, NoFrom, BadFrom}
 use Rattle.gcu_engine.specs.declared.outcomes.StoredWhy.{StoredWhy}
 use Rattle.gcu_engine.specs.declared.outcomes.StoredWhy.TheVariants as stored
 use Rattle.gcu_engine.specs.declared.outcomes.Outcome.{Outcome}
@@ -27,6 +27,7 @@ number (PatchFailed index why) = 14
 number (TargetShape place) = 15
 number (BadStored why) = 25
 
+-- what is wrong with an operation
 abbrev pub patch_why : PatchWhy → List ℕ
 patch_why NotArray = codes "NotArray"
 patch_why NotObject = codes "NotObject"
@@ -39,6 +40,7 @@ patch_why BadValue = codes "BadValue"
 patch_why NoFrom = codes "NoFrom"
 patch_why BadFrom = codes "BadFrom"
 
+-- why an operation can't be applied
 abbrev pub fail_why : FailWhy → List ℕ
 fail_why NoParent = codes "NoParent"
 fail_why BadIndex = codes "BadIndex"
@@ -48,6 +50,7 @@ fail_why TestFailed = codes "TestFailed"
 fail_why IntoItself = codes "IntoItself"
 fail_why TooLarge = codes "TooLarge"
 
+-- why a folder stands for no configuration
 abbrev pub stored_why : StoredWhy → List ℕ
 stored_why stored.NoFile = codes "NoFile"
 stored_why stored.BadJson = codes "BadJson"
@@ -58,21 +61,40 @@ stored_why stored.BadShape = codes "BadShape"
 abbrev pub quoted : List ℕ → List ℕ
 quoted s = compact (text s)
 
+-- what stands between the parts of a line
+abbrev pub space : List ℕ
+space = codes " "
+
+-- what ends a line
 abbrev pub line_feed : List ℕ
 line_feed = 10 ∷ []
 
--- what ends the output
+-- what stands behind the number of a refusal
+abbrev pub said : Outcome → List ℕ
+said Done = codes "done"
+said Memory = codes "memory"
+said Usage = codes "usage"
+said InputFault = codes "input fault"
+said (DiskFault step) = codes "disk fault after " ++ decimal step
+said (PrintFault step) = codes "print fault after " ++ decimal step
+said (NoInput path) = codes "no input " ++ quoted path
+said (TooBig path limit) = codes "too big " ++ quoted path ++ space ++ decimal limit
+said (BadJson path) = codes "bad json " ++ quoted path
+said (BadPatch index why) = codes "bad patch " ++ decimal index ++ space ++ patch_why why
+said (PatchFailed index why) = codes "patch failed " ++ decimal index ++ space ++ fail_why why
+said (TargetShape place) = codes "target shape " ++ quoted place
+said (BadStored why) = codes "bad stored " ++ stored_why why
+
+-- the line of a number and a text
+abbrev pub numbered_line : ℕ → List ℕ → List ℕ
+numbered_line status rest = codes "refused " ++ decimal status ++ space ++ rest ++ line_feed
+
+-- the line of a refusal: its number, and what it says
+abbrev pub refused_line : Outcome → List ℕ
+refused_line e = numbered_line (number e) (said e)
+
+-- what ends the output: nothing where printing failed
 abbrev pub last_line : Outcome → List ℕ
-last_line Done = codes "done" ++ line_feed
-last_line Memory = codes "refused 1 memory" ++ line_feed
-last_line Usage = codes "refused 2 usage" ++ line_feed
-last_line InputFault = codes "refused 3 input fault" ++ line_feed
-last_line (DiskFault step) = codes "refused 4 disk fault after " ++ decimal step ++ line_feed
+last_line Done = said Done ++ line_feed
 last_line (PrintFault step) = []
-last_line (NoInput path) = codes "refused 7 no input " ++ quoted path ++ line_feed
-last_line (TooBig path limit) = codes "refused 8 too big " ++ quoted path ++ codes " " ++ decimal limit ++ line_feed
-last_line (BadJson path) = codes "refused 9 bad json " ++ quoted path ++ line_feed
-last_line (BadPatch index why) = codes "refused 13 bad patch " ++ decimal index ++ codes " " ++ patch_why why ++ line_feed
-last_line (PatchFailed index why) = codes "refused 14 patch failed " ++ decimal index ++ codes " " ++ fail_why why ++ line_feed
-last_line (TargetShape place) = codes "refused 15 target shape " ++ quoted place ++ line_feed
-last_line (BadStored why) = codes "refused 25 bad stored " ++ stored_why why ++ line_feed
+last_line other = refused_line other

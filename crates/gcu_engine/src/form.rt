@@ -1,7 +1,7 @@
 //! Which words are a command.
 ghost use Rattle.std.specs.Prelude.{◌≡◌};
 ghost use Rattle.gcu_engine.specs.Form.{form};
-ghost use Rattle.gcu_engine.specs.Forms.{form_of};
+ghost use Rattle.gcu_engine.specs.FormView.{form_view};
 
 use host_core::Txt;
 
@@ -15,7 +15,7 @@ pub(crate) enum Form<'a> {
 
 /// The command that the words are.
 pub(crate) fn read_form(words: &[Txt]) -> Form<'_>
-    ensures { form_of result ≡ form words.now }
+    ensures { form_view result ≡ form words.now }
 {
     match words {
         [command, patch] if command.as_str() == "preview" && !patch.as_str().starts_with("--") => {

@@ -1,7 +1,6 @@
 //! What the program `gcu` does: its commands, their answers and what they print.
 #![tactic(auto)]
 
-mod answers;
 mod form;
 mod lines;
 mod outcomes;
@@ -9,8 +8,6 @@ mod preview;
 mod printing;
 mod run_command;
 mod stored;
-#[cfg(test)]
-mod tests;
 
 pub use outcomes::{Outcome, StoredWhy};
 pub use run_command::run;

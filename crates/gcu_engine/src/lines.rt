@@ -1,9 +1,8 @@
 //! The last line of each outcome.
-ghost use Rattle.std.specs.Prelude.{◌≡◌, ◌++◌, IfOk, string_bytes, codes, decimal};
-ghost use Rattle.gcu_engine.specs.Lines.{last_line, line_feed, quoted as quoted_text, patch_why, fail_why, stored_why};
+ghost use Rattle.std.specs.Prelude.{◌≡◌, ◌++◌, IfOk, string_bytes, decimal};
+ghost use Rattle.gcu_engine.specs.Lines.{last_line, numbered_line as numbered, refused_line as refused, said as said_text, space, quoted as quoted_text, patch_why, fail_why, stored_why};
 
 use crate::{Outcome, StoredWhy};
-use host_core::Memory;
 use patch_core::{FailWhy, PatchWhy};
 use serde_json::Value;
 use std::alloc::{AllocError, Global};
@@ -14,48 +13,75 @@ pub(crate) fn line(alloc: Global, outcome: &Outcome) -> Result<String, AllocErro
 {
     match outcome {
         Outcome::Done => String::from_str(alloc, "done\n"),
-        Outcome::Memory => String::from_str(alloc, "refused 1 memory\n"),
-        Outcome::Usage => String::from_str(alloc, "refused 2 usage\n"),
-        Outcome::InputFault => String::from_str(alloc, "refused 3 input fault\n"),
-        Outcome::DiskFault { step } => format!(in alloc; "refused 4 disk fault after {step}\n"),
         Outcome::PrintFault { .. } => Ok(String::new(alloc)),
+        refusal => refused_line(alloc, refusal),
+    }
+}
+
+/// The line of a refusal: its number, and what it says.
+fn refused_line(alloc: Global, outcome: &Outcome) -> Result<String, AllocError>
+    ensures { IfOk result (λ s. string_bytes s ≡ refused outcome.now) }
+{
+    let said = said(alloc, outcome)?;
+    numbered_line(alloc, outcome.status(), said.as_str())
+}
+
+/// A line of a number and a text.
+#[tactic(auto, using(std::proofs::Common::append_assoc))]
+fn numbered_line(alloc: Global, status: u8, said: &str) -> Result<String, AllocError>
+    ensures { IfOk result (λ s. string_bytes s ≡ numbered status said.now) }
+{
+    format!(in alloc; "refused {status} {said}\n")
+}
+
+/// What stands behind the number of a refusal.
+fn said(alloc: Global, outcome: &Outcome) -> Result<String, AllocError>
+    ensures { IfOk result (λ s. string_bytes s ≡ said_text outcome.now) }
+{
+    match outcome {
+        Outcome::Done => String::from_str(alloc, "done"),
+        Outcome::Memory => String::from_str(alloc, "memory"),
+        Outcome::Usage => String::from_str(alloc, "usage"),
+        Outcome::InputFault => String::from_str(alloc, "input fault"),
+        Outcome::DiskFault { step } => format!(in alloc; "disk fault after {step}"),
+        Outcome::PrintFault { step } => format!(in alloc; "print fault after {step}"),
         Outcome::NoInput { path } => {
             let path = quoted(alloc, path.as_str())?;
-            format!(in alloc; "refused 7 no input {path}\n")
+            format!(in alloc; "no input {path}")
         }
         Outcome::TooBig { path, limit } => {
             let path = quoted(alloc, path.as_str())?;
-            format!(in alloc; "refused 8 too big {path} {limit}\n")
+            format!(in alloc; "too big {path} {limit}")
         }
         Outcome::BadJson { path } => {
             let path = quoted(alloc, path.as_str())?;
-            format!(in alloc; "refused 9 bad json {path}\n")
+            format!(in alloc; "bad json {path}")
         }
         Outcome::BadPatch { index, why } => {
             let why = patch_why_name(*why);
-            numbered(alloc, "refused 13 bad patch ", *index, why)
+            numbered(alloc, "bad patch ", *index, why)
         }
         Outcome::PatchFailed { index, why } => {
             let why = fail_why_name(*why);
-            numbered(alloc, "refused 14 patch failed ", *index, why)
+            numbered(alloc, "patch failed ", *index, why)
         }
         Outcome::TargetShape { place } => {
             let place = quoted(alloc, place.as_str())?;
-            format!(in alloc; "refused 15 target shape {place}\n")
+            format!(in alloc; "target shape {place}")
         }
         Outcome::BadStored { why } => {
             let why = stored_why_name(*why);
-            format!(in alloc; "refused 25 bad stored {why}\n")
+            format!(in alloc; "bad stored {why}")
         }
     }
 }
 
-/// A line that ends with a number and a word.
+/// A text that ends with a number and a word.
 #[tactic(auto, using(std::proofs::Common::append_assoc))]
 fn numbered(alloc: Global, start: &str, index: usize, why: &str) -> Result<String, AllocError>
-    ensures { IfOk result (λ s. string_bytes s ≡ start.now ++ decimal index ++ codes " " ++ why.now ++ line_feed) }
+    ensures { IfOk result (λ s. string_bytes s ≡ start.now ++ decimal index ++ space ++ why.now) }
 {
-    format!(in alloc; "{start}{index} {why}\n")
+    format!(in alloc; "{start}{index} {why}")
 }
 
 /// A text as a compact JSON text.

@@ -2,7 +2,7 @@
 ghost use Rattle.std.specs.Prelude.{◌≡◌};
 ghost use Rattle.gcu_engine.specs.Lines.{number};
 
-use host_core::Txt;
+use host_core::{Memory, Txt};
 use patch_core::{FailWhy, PatchWhy};
 
 /// Why the folder stands for no configuration.
@@ -69,5 +69,15 @@ impl Outcome {
             Outcome::TargetShape { .. } => 15,
             Outcome::BadStored { .. } => 25,
         }
+    }
+}
+
+impl From<Memory> for Outcome {
+    ghost use Rattle.gcu_engine.specs.declared.outcomes.Outcome.TheVariants.{Memory as no_memory};
+
+    ghost from_gives = { λ _ e. e ≡ no_memory };
+
+    fn from(_: Memory) -> Outcome {
+        Outcome::Memory
     }
 }

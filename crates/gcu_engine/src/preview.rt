@@ -1,17 +1,20 @@
 //! `gcu preview PATCH`: what the patch would make of the stored configuration.
-ghost use Rattle.std.specs.Prelude.{◌≡◌, ◌≤◌, IfSome, IfErr, IfOk};
+ghost use Rattle.std.specs.Prelude.{◌≡◌, ◌≤◌, IfErr};
 ghost use Rattle.host_core.specs.Answers.{Gives};
-ghost use Rattle.host_core.specs.State.{InputMayRise};
-ghost use Rattle.gcu_engine.specs.Answers.{Refuses, RefusesAlways, NoneFell, refusal};
-ghost use Rattle.gcu_engine.specs.Asked.{preview_asked, patch_input, patch_read, patched, patch_limit};
+ghost use Rattle.host_core.specs.Counts.{InputMayRise, NoneFell};
+ghost use Rattle.host_core.specs.Crashes.{Elapses, MayLeaveNow};
+ghost use Rattle.host_core.specs.Names.{longest_scoped_name};
+ghost use Rattle.gcu_engine.specs.Asked.{preview_asked, patch_asked, patch_in, patch_answer, target};
+ghost use Rattle.gcu_engine.specs.Preparing.{Finds, Refuses, RefusesAlways, refusal};
+ghost use Rattle.gcu_engine.specs.Request.{preview as preview_of};
 ghost use Rattle.patch_core.specs.Operation.{operations};
-ghost use Rattle.patch_core.specs.Reading.{patch as patch_reading};
+ghost use Rattle.patch_core.specs.Reading.{patch as patch_of};
 
 use crate::Outcome;
 use crate::stored::read_stored;
-use conf_doc::{Config, ShapeError, config_of, tree_of};
-use host_core::{Host, HostError, Input, Memory, Txt};
-use patch_core::{ApplyError, Patch, PatchError, apply, read_patch};
+use conf_doc::{Config, ShapeError, config_of_tree, tree_of};
+use host_core::{Host, HostError, Input, Txt};
+use patch_core::{ApplyError, Patch, PatchError, apply_owned, read_patch};
 use std::alloc::Global;
 
 /// How many bytes a patch may have.
@@ -19,11 +22,13 @@ pub(crate) const PATCH_LIMIT: u64 = 1_048_576;
 
 /// The configuration that the patch would leave.
 pub(crate) fn preview<H: Host>(alloc: Global, path: &Txt, host: &mut H) -> Result<Config, Outcome>
-    requires { 80 ≤ H.longest_name }
-    ensures answer { IfSome (H.told host.old) (λ s. Gives (λ c. c) refusal result (preview_asked path.now s)) }
+    requires { longest_scoped_name ≤ H.longest_name }
+    ensures answer { Finds (H.told host.old) preview_of result (preview_asked path.now) }
     ensures told { H.told host.new ≡ H.told host.old }
     ensures counts { NoneFell (H.counts host.old) (H.counts host.new) }
-    ensures cause { IfErr result (λ e. Refuses (H.counts host.old) (H.counts host.new) e) }
+    ensures cause { IfErr result (Refuses (H.counts host.old) (H.counts host.new)) }
+    ensures time { Elapses H.moment H.left_since host.old host.new (MayLeaveNow (H.told host.old)) }
+    ensures goes { H.goes_on host.old host.new }
 {
     let start = read_stored(alloc, host)?;
     let patch = input_patch(alloc, path, host)?;
@@ -32,34 +37,46 @@ pub(crate) fn preview<H: Host>(alloc: Global, path: &Txt, host: &mut H) -> Resul
 
 /// The patch that an input holds.
 fn input_patch<H: Host>(alloc: Global, path: &Txt, host: &mut H) -> Result<Patch, Outcome>
-    ensures answer { IfSome (H.told host.old) (λ s. Gives operations refusal result (patch_input s path.now)) }
+    ensures answer { Finds (H.told host.old) operations result (patch_asked path.now) }
     ensures told { H.told host.new ≡ H.told host.old }
     ensures counts { InputMayRise (H.counts host.old) (H.counts host.new) }
-    ensures cause { IfErr result (λ e. Refuses (H.counts host.old) (H.counts host.new) e) }
+    ensures cause { IfErr result (Refuses (H.counts host.old) (H.counts host.new)) }
+    ensures time { Elapses H.moment H.left_since host.old host.new (MayLeaveNow (H.told host.new)) }
+    ensures goes { H.goes_on host.old host.new }
 {
     match host.input(alloc, path.as_str(), PATCH_LIMIT) {
-        Ok(Input::Absent) => Err(Outcome::NoInput {
-            path: copy(alloc, path)?,
-        }),
-        Ok(Input::TooBig) => Err(Outcome::TooBig {
-            path: copy(alloc, path)?,
-            limit: PATCH_LIMIT,
-        }),
-        Ok(Input::Bytes(bytes)) => patch_of_bytes(alloc, path, bytes.items()),
+        Ok(input) => patch_of_input(alloc, path, input),
         Err(HostError::Failed) => Err(Outcome::InputFault),
         Err(HostError::Memory) => Err(Outcome::Memory),
     }
 }
 
+/// The patch that was found at a path.
+fn patch_of_input(alloc: Global, path: &Txt, input: Input) -> Result<Patch, Outcome>
+    ensures answer { Gives operations refusal result (patch_in path.now input) }
+    ensures cause { IfErr result RefusesAlways }
+{
+    match input {
+        Input::Absent => Err(Outcome::NoInput {
+            path: path.copy(alloc)?,
+        }),
+        Input::TooBig => Err(Outcome::TooBig {
+            path: path.copy(alloc)?,
+            limit: PATCH_LIMIT,
+        }),
+        Input::Bytes(bytes) => patch_of_bytes(alloc, path, bytes.items()),
+    }
+}
+
 /// The patch that an input's bytes hold.
 fn patch_of_bytes(alloc: Global, path: &Txt, bytes: &[u8]) -> Result<Patch, Outcome>
-    ensures answer { Gives operations refusal result (patch_read path.now (patch_reading bytes.now)) }
+    ensures answer { Gives operations refusal result (patch_answer path.now (patch_of bytes.now)) }
     ensures cause { IfErr result RefusesAlways }
 {
     match read_patch(alloc, bytes) {
         Ok(patch) => Ok(patch),
         Err(PatchError::BadJson) => Err(Outcome::BadJson {
-            path: copy(alloc, path)?,
+            path: path.copy(alloc)?,
         }),
         Err(PatchError::BadPatch { index, why }) => Err(Outcome::BadPatch { index, why }),
         Err(PatchError::Memory) => Err(Outcome::Memory),
@@ -68,24 +85,18 @@ fn patch_of_bytes(alloc: Global, path: &Txt, bytes: &[u8]) -> Result<Patch, Outc
 
 /// The configuration after the patch.
 fn patched_config(alloc: Global, patch: &Patch, start: &Config) -> Result<Config, Outcome>
-    ensures answer { Gives (λ c. c) refusal result (patched (operations patch.now) start.now) }
+    ensures answer { Gives (λ c. c) refusal result (target (operations patch.now) start.now) }
     ensures cause { IfErr result RefusesAlways }
 {
     let tree = tree_of(alloc, start)?;
-    let tree = match apply(alloc, patch, &tree) {
+    let tree = match apply_owned(alloc, patch, tree) {
         Ok(tree) => tree,
         Err(ApplyError::Failed { index, why }) => return Err(Outcome::PatchFailed { index, why }),
         Err(ApplyError::Memory) => return Err(Outcome::Memory),
     };
-    match config_of(alloc, &tree) {
+    match config_of_tree(alloc, tree) {
         Ok(config) => Ok(config),
         Err(ShapeError::Shape { place }) => Err(Outcome::TargetShape { place }),
         Err(ShapeError::Memory) => Err(Outcome::Memory),
     }
-}
-
-fn copy(alloc: Global, text: &Txt) -> Result<Txt, Memory>
-    ensures { IfOk result (λ t. t ≡ text.now) }
-{
-    Txt::new(alloc, text.as_str())
 }

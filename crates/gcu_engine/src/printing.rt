@@ -1,10 +1,12 @@
 //! How an answer is printed.
 ghost use Rattle.std.specs.Prelude.{◌≡◌, ◌++◌, IfOk};
-ghost use Rattle.host_core.specs.State.{PrintMayRise};
+ghost use Rattle.host_core.specs.Counts.{PrintMayRise};
+ghost use Rattle.host_core.specs.Crashes.{Elapses};
 ghost use Rattle.conf_doc.specs.Texts.{file_text};
+ghost use Rattle.gcu_engine.specs.Answers.{LeftWithOutput};
 ghost use Rattle.gcu_engine.specs.Lines.{last_line};
 ghost use Rattle.gcu_engine.specs.Printing.{IsPrinted, IsSaid};
-ghost use Rattle.gcu_engine.specs.declared.outcomes.Outcome.TheVariants.{Done as done};
+ghost use Rattle.gcu_engine.specs.declared.outcomes.Outcome.TheVariants.{Done as done, Memory as no_memory};
 
 use crate::Outcome;
 use crate::lines::line;
@@ -14,26 +16,47 @@ use std::alloc::Global;
 
 /// Prints the last line of an outcome that isn't Done, and answers it.
 pub(crate) fn say<H: Host>(alloc: Global, outcome: Outcome, host: &mut H) -> Outcome
-    ensures said { IsSaid outcome (last_line outcome) (H.told host.old) (H.told host.new) (H.counts host.old) (H.counts host.new) result }
+    ensures said { IsSaid outcome (last_line outcome)
+        (H.told host.old) (H.told host.new) (H.counts host.old) (H.counts host.new) result }
     ensures counts { PrintMayRise (H.counts host.old) (H.counts host.new) }
+    ensures time { Elapses H.moment H.left_since host.old host.new
+        (LeftWithOutput (H.told host.old)) }
+    ensures goes { H.goes_on host.old host.new }
 {
     match line(alloc, &outcome) {
         Ok(text) => print(outcome, text.as_bytes(), host),
-        Err(_) => print(Outcome::Memory, b"refused 1 memory\n", host),
+        Err(_) => say_memory(host),
     }
 }
 
 /// Prints a configuration's file text and the last line of Done.
 pub(crate) fn show<H: Host>(alloc: Global, config: &Config, host: &mut H) -> Outcome
-    ensures said { IsSaid done (file_text config.now ++ last_line done) (H.told host.old) (H.told host.new) (H.counts host.old) (H.counts host.new) result }
+    ensures said { IsSaid done (file_text config.now ++ last_line done)
+        (H.told host.old) (H.told host.new) (H.counts host.old) (H.counts host.new) result }
     ensures counts { PrintMayRise (H.counts host.old) (H.counts host.new) }
+    ensures time { Elapses H.moment H.left_since host.old host.new
+        (LeftWithOutput (H.told host.old)) }
+    ensures goes { H.goes_on host.old host.new }
 {
     match shown(alloc, config) {
         Ok(text) => print(Outcome::Done, &text, host),
-        Err(Memory) => print(Outcome::Memory, b"refused 1 memory\n", host),
+        Err(Memory) => say_memory(host),
     }
 }
 
+/// Prints the last line of Memory, for which no memory is needed.
+fn say_memory<H: Host>(host: &mut H) -> Outcome
+    ensures printed { IsPrinted no_memory (last_line no_memory)
+        (H.told host.old) (H.told host.new) (H.counts host.old) (H.counts host.new) result }
+    ensures counts { PrintMayRise (H.counts host.old) (H.counts host.new) }
+    ensures time { Elapses H.moment H.left_since host.old host.new
+        (LeftWithOutput (H.told host.old)) }
+    ensures goes { H.goes_on host.old host.new }
+{
+    print(Outcome::Memory, b"refused 1 memory\n", host)
+}
+
+/// The whole output with a configuration.
 fn shown(alloc: Global, config: &Config) -> Result<Vec<u8>, Memory>
     ensures { IfOk result (λ b. b.items ≡ file_text config.now ++ last_line done) }
 {
@@ -46,8 +69,12 @@ fn shown(alloc: Global, config: &Config) -> Result<Vec<u8>, Memory>
 
 /// Prints the whole output of an outcome in one call.
 fn print<H: Host>(outcome: Outcome, text: &[u8], host: &mut H) -> Outcome
-    ensures printed { IsPrinted outcome text.now (H.told host.old) (H.told host.new) (H.counts host.old) (H.counts host.new) result }
+    ensures printed { IsPrinted outcome text.now
+        (H.told host.old) (H.told host.new) (H.counts host.old) (H.counts host.new) result }
     ensures counts { PrintMayRise (H.counts host.old) (H.counts host.new) }
+    ensures time { Elapses H.moment H.left_since host.old host.new
+        (LeftWithOutput (H.told host.old)) }
+    ensures goes { H.goes_on host.old host.new }
 {
     match host.print(text) {
         Ok(()) => outcome,

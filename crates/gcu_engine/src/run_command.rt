@@ -1,6 +1,9 @@
 //! The whole of the program: one command, its answer and its output.
 ghost use Rattle.std.specs.Prelude.{◌≡◌, ◌≤◌, IfSome, None};
-ghost use Rattle.gcu_engine.specs.Answers.{Answers, Complete, HasCause, NoneFell, NoneRose, TellsUsage};
+ghost use Rattle.host_core.specs.Counts.{NoneFell, NoneRose};
+ghost use Rattle.host_core.specs.Crashes.{LeavesOnly};
+ghost use Rattle.host_core.specs.Names.{longest_scoped_name};
+ghost use Rattle.gcu_engine.specs.Answers.{Answers, Complete, HasCause, LeftMeanwhile, TellsUsage};
 ghost use Rattle.gcu_engine.specs.Asked.{asked};
 ghost use Rattle.gcu_engine.specs.Form.{form};
 ghost use Rattle.gcu_engine.specs.declared.outcomes.Outcome.TheVariants.{Usage as usage};
@@ -15,17 +18,25 @@ use std::alloc::Global;
 /// Does the command that the words are, and prints its answer. `preview PATCH` prints the stored
 /// configuration as the patch would leave it.
 pub fn run<H: Host>(alloc: Global, words: &[Txt], host: &mut H) -> Outcome
-    requires { 80 ≤ H.longest_name }
+    requires { longest_scoped_name ≤ H.longest_name }
     // The answer is the first refusal, or what the command asks for, and nothing but the output changes.
-    ensures answers { Answers words.now (H.told host.old) (H.told host.new) (H.counts host.old) (H.counts host.new) result }
+    ensures answers { Answers words.now
+        (H.told host.old) (H.told host.new) (H.counts host.old) (H.counts host.new) result }
     // A fault is answered only where its count rose.
     ensures cause { HasCause (H.counts host.old) (H.counts host.new) result }
     ensures counts { NoneFell (H.counts host.old) (H.counts host.new) }
+    // A crash at a moment of it leaves the folder as it was, with a front of some output.
+    ensures crash { LeavesOnly H.moment H.left_since host.old host.new
+        (LeftMeanwhile words.now (H.told host.old)) }
+    // What the host's calls keep is kept.
+    ensures goes { H.goes_on host.old host.new }
     // The words alone tell whether they are a command.
     ensures usage { result ≡ usage → form words.now ≡ None }
     ensures only_usage { form words.now ≡ None → TellsUsage result }
     // Where nothing fails, memory alone may be wanting.
-    ensures complete { IfSome (H.told host.old) (λ s. NoneRose (H.counts host.old) (H.counts host.new) → Complete (asked words.now s) result) }
+    ensures complete { IfSome (H.told host.old)
+        (λ s. NoneRose (H.counts host.old) (H.counts host.new)
+        → Complete (asked words.now s).gives result) }
 {
     match read_form(words) {
         Form::Unknown => say(alloc, Outcome::Usage, host),

@@ -1,12 +1,16 @@
 //! The stored configuration.
-ghost use Rattle.std.specs.Prelude.{◌≡◌, ◌≤◌, IfSome, IfErr, Some};
+ghost use Rattle.std.specs.Prelude.{◌≡◌, ◌≤◌, IfErr};
 ghost use Rattle.host_core.specs.Answers.{Gives};
-ghost use Rattle.gcu_engine.specs.Answers.{Refuses, RefusesAlways, refusal};
-ghost use Rattle.gcu_engine.specs.Asked.{stored, stored_in};
-ghost use Rattle.host_core.specs.State.{DiskMayRise};
+ghost use Rattle.host_core.specs.Counts.{DiskMayRise};
+ghost use Rattle.host_core.specs.Crashes.{Elapses, MayLeaveNow};
+ghost use Rattle.host_core.specs.Names.{longest_scoped_name};
+ghost use Rattle.conf_doc.specs.Reading.{reading};
+ghost use Rattle.gcu_engine.specs.Asked.{stored_asked, stored_answer};
+ghost use Rattle.gcu_engine.specs.Preparing.{Finds, Refuses, RefusesAlways, refusal};
+ghost use Rattle.gcu_engine.specs.ReadStored.{read_stored as read_as};
 
 use crate::{Outcome, StoredWhy};
-use conf_doc::{Config, ReadError, ShapeError, config_of, read_tree};
+use conf_doc::{Config, ReadError, ShapeError, config_of_tree, read_tree};
 use host_core::{Host, HostError};
 use std::alloc::Global;
 
@@ -14,11 +18,13 @@ const CONFIG_FILE: &str = "config_db.json";
 
 /// Reads the configuration that the folder stands for.
 pub(crate) fn read_stored<H: Host>(alloc: Global, host: &mut H) -> Result<Config, Outcome>
-    requires { 80 ≤ H.longest_name }
-    ensures answer { IfSome (H.told host.old) (λ s. Gives (λ c. c) refusal result (stored s)) }
+    requires { longest_scoped_name ≤ H.longest_name }
+    ensures answer { Finds (H.told host.old) (λ c. c) result stored_asked }
     ensures told { H.told host.new ≡ H.told host.old }
     ensures counts { DiskMayRise (H.counts host.old) (H.counts host.new) }
-    ensures cause { IfErr result (λ e. Refuses (H.counts host.old) (H.counts host.new) e) }
+    ensures cause { IfErr result (Refuses (H.counts host.old) (H.counts host.new)) }
+    ensures time { Elapses H.moment H.left_since host.old host.new (MayLeaveNow (H.told host.new)) }
+    ensures goes { H.goes_on host.old host.new }
 {
     match host.read(alloc, CONFIG_FILE) {
         Ok(Some(bytes)) => stored_config(alloc, &bytes),
@@ -32,7 +38,7 @@ pub(crate) fn read_stored<H: Host>(alloc: Global, host: &mut H) -> Result<Config
 
 /// The configuration that a stored file's bytes hold.
 fn stored_config(alloc: Global, bytes: &[u8]) -> Result<Config, Outcome>
-    ensures answer { Gives (λ c. c) refusal result (stored_in (Some bytes.now)) }
+    ensures answer { Gives (λ c. c) refusal result (stored_answer (read_as (reading bytes.now))) }
     ensures cause { IfErr result RefusesAlways }
 {
     let tree = match read_tree(alloc, bytes) {
@@ -45,7 +51,7 @@ fn stored_config(alloc: Global, bytes: &[u8]) -> Result<Config, Outcome>
         }),
         Err(ReadError::Memory) => return Err(Outcome::Memory),
     };
-    match config_of(alloc, &tree) {
+    match config_of_tree(alloc, tree) {
         Ok(config) => Ok(config),
         Err(ShapeError::Shape { .. }) => Err(Outcome::BadStored {
             why: StoredWhy::BadShape,

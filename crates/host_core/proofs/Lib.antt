@@ -1,1 +1,5 @@
-pub mod LookUps
+pub mod EntriesOfFiles
+pub mod PickedImages
+pub mod Moments
+pub mod Runs
+pub mod Stepping

@@ -3,7 +3,10 @@ use Rattle.std.specs.Prelude.{◌≡◌, ◌⊎◌, ℕ, List, Option, Some, Non
 use mathlib.Core.Logic.{inl, inr}
 use Rattle.std.specs.FinMap as finmap
 use Rattle.std.specs.Coded.{Coded, code_by, coded_ℕ, coded_list, coded_option, coded×, coded⊎}
-use Rattle.host_core.specs.State.{State, Counts, Files, Pending, settled, dirty, listing}
+use Rattle.host_core.specs.Counts.{Counts}
+use Rattle.host_core.specs.Crashes.{Moment}
+use Rattle.host_core.specs.Steps.{History}
+use Rattle.host_core.specs.State.{State, Files, Pending, settled, dirty, listing}
 use Rattle.host_core.specs.MemoryHost.{MemoryHost}
 use Rattle.host_core.specs.declared.faults.Faults.{Faults}
 
@@ -50,10 +53,17 @@ counts_code =
 abbrev faults_code : Coded Faults
 faults_code = code_by (List ℕ × Option ℕ) (coded× bytes_code (coded_option coded_ℕ)) (λ f. (f.at, f.from)) (λ p. record { at = p.0; from = p.1 }) (λ _. refl)
 
+abbrev moments_code : Coded (List Moment)
+moments_code = coded_list (coded× state_code bytes_code)
+
+abbrev pub history_code : Coded History
+history_code =
+    code_by (State × List Moment) (coded× state_code moments_code) (λ h. (h.state, h.past)) (λ p. record { state = p.0; past = p.1 }) (λ _. refl)
+
 abbrev pub memory_host_code : Coded MemoryHost
 memory_host_code =
-    code_by (State × (Counts × (Faults × (ℕ × ℕ))))
-    (coded× state_code (coded× counts_code (coded× faults_code (coded× coded_ℕ coded_ℕ))))
-    (λ m. (m.state, (m.counts, (m.faults, (m.calls, m.starved)))))
-    (λ p. record { state = p.0; counts = p.1.0; faults = p.1.1.0; calls = p.1.1.1.0; starved = p.1.1.1.1 })
+    code_by (State × (List Moment × (Counts × (Faults × (ℕ × ℕ)))))
+    (coded× state_code (coded× moments_code (coded× counts_code (coded× faults_code (coded× coded_ℕ coded_ℕ)))))
+    (λ m. (m.state, (m.past, (m.counts, (m.faults, (m.calls, m.starved))))))
+    (λ p. record { state = p.0; past = p.1.0; counts = p.1.1.0; faults = p.1.1.1.0; calls = p.1.1.1.1.0; starved = p.1.1.1.1.1 })
     (λ _. refl)

@@ -1,8 +1,8 @@
 -- Which calls of a host in memory fail, and how the counts of faults go up.
-use Rattle.std.specs.Prelude.{ℕ, ◌+◌, min, Bool, false, ◌||◌, ◌==◌, nat_le}
+use Rattle.std.specs.Prelude.{ℕ, ◌+◌, min, max, Bool, false, ◌||◌, ◌==◌, nat_le}
 use Rattle.std.specs.List.{list_any}
 use Rattle.std.specs.Option.{option_map_or}
-use Rattle.host_core.specs.State.{Counts, last_count}
+use Rattle.host_core.specs.Counts.{Counts, last_count}
 use Rattle.host_core.specs.declared.faults.Faults.{Faults}
 
 -- The call of that number fails: it is listed, or not below the number from which on all calls do.
@@ -11,7 +11,7 @@ is_faulty faults number = list_any (λ n. n == number) faults.at || option_map_o
 
 -- one more, up to the last value
 abbrev pub raised : ℕ → ℕ
-raised n = min (n + 1) last_count
+raised n = max n (min (n + 1) last_count)
 
 abbrev pub no_faults : Counts
 no_faults = record { input = 0; disk = 0; print = 0; service = 0 }
@@ -24,3 +24,6 @@ disk_fault c = record c { disk = raised c.disk }
 
 abbrev pub print_fault : Counts → Counts
 print_fault c = record c { print = raised c.print }
+
+abbrev pub service_fault : Counts → Counts
+service_fault c = record c { service = raised c.service }

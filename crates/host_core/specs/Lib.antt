@@ -1,7 +1,15 @@
+-- what public clauses cite
 pub mod Answers
-pub mod Codes
+pub mod Counts
+pub mod Crashes
 pub mod Faults
 pub mod Inputs
 pub mod MemoryHost
 pub mod Names
+pub mod Picks
 pub mod State
+-- what only private clauses cite
+pub mod Codes
+pub mod Entries
+pub mod Laws
+pub mod Steps

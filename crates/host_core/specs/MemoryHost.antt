@@ -1,15 +1,17 @@
 -- What a host in memory holds, and what its calls change.
-use Rattle.std.specs.Prelude.{ℕ, ◌/◌, Bool, true, not, ◌&&◌, List, [], ◌∷◌, length, take, map, Vec}
+use Rattle.std.specs.Prelude.{◌≡◌, ◌⊎◌, ℕ, ◌/◌, ◌<◌, ◌≤◌, Bool, IsTrue, IsFalse, List, [], ◌∷◌, ◌++◌, length, take, map, Result, Ok, Err, Vec}
 use Rattle.std.specs.declared.alloc.Global.{Global}
 use Rattle.std.specs.FinMap as finmap
-use Rattle.std.specs.List.{list_any}
-use Rattle.std.specs.Str.{bytes_eq}
-use Rattle.host_core.specs.State.{State, Counts, Files, settled, printed}
-use Rattle.host_core.specs.Faults.{raised, no_faults, input_fault, disk_fault, print_fault}
+use Rattle.host_core.specs.Counts.{Counts, last_count}
+use Rattle.host_core.specs.Crashes.{Moment}
+use Rattle.host_core.specs.State.{State, Files, settled}
+use Rattle.host_core.specs.Faults.{is_faulty, raised, no_faults, input_fault, disk_fault, print_fault, service_fault}
 use Rattle.host_core.specs.declared.faults.Faults.{Faults}
 
 pub record MemoryHost : Type 0 where
   pub state : State
+  -- the moments so far, the first one first
+  pub past : List Moment
   pub counts : Counts
   pub faults : Faults
   -- the number of the next call
@@ -17,28 +19,34 @@ pub record MemoryHost : Type 0 where
   -- how often a call that has no other answer for it found no memory
   pub starved : ℕ
 
--- the files with these names and bytes
+-- the files with these names and bytes; at a name that stands twice the first one counts
 abbrev pub files_of : List (List ℕ × Vec ℕ Global) → Files
 files_of pairs = finmap.from_entries (map (λ p. (p.0, p.1.items)) pairs)
-
--- no name stands twice
-abbrev pub names_differ : List (List ℕ × Vec ℕ Global) → Bool
-names_differ [] = true
-names_differ (p ∷ ps) = not (list_any (λ q. bytes_eq q.0 p.0) ps) && names_differ ps
 
 -- a host of which nothing was asked yet
 abbrev pub fresh : Files → Files → Faults → MemoryHost
 fresh inputs files faults = record {
   state = record { inputs = inputs; files = files; pending = settled; output = []; restarts = [] };
+  past = [];
   counts = no_faults;
   faults = faults;
   calls = 0;
   starved = 0;
 }
 
+-- ---- what a call changes
+
 -- one more call
 abbrev pub called : MemoryHost → MemoryHost
 called m = record m { calls = raised m.calls }
+
+-- the state changes, and was the last one so far; these bytes are printed in between
+abbrev pub moved_by : (State → State) → List ℕ → MemoryHost → MemoryHost
+moved_by change bytes m = record m { state = change m.state; past = m.past ++ (m.state, bytes) ∷ [] }
+
+-- the state changes in what is pending, with no moment in between
+abbrev pub marked_by : (State → State) → MemoryHost → MemoryHost
+marked_by change m = record m { state = change m.state }
 
 -- a fault of the input
 abbrev pub input_failed : MemoryHost → MemoryHost
@@ -48,14 +56,49 @@ input_failed m = record m { counts = input_fault m.counts }
 abbrev pub disk_failed : MemoryHost → MemoryHost
 disk_failed m = record m { counts = disk_fault m.counts }
 
--- these bytes were appended to the output
-abbrev pub with_output : List ℕ → MemoryHost → MemoryHost
-with_output bytes m = record m { state = printed bytes m.state }
+-- a fault of the output
+abbrev pub print_failed : MemoryHost → MemoryHost
+print_failed m = record m { counts = print_fault m.counts }
 
--- a fault of the output, after the first half of the bytes
-abbrev pub half_printed : List ℕ → MemoryHost → MemoryHost
-half_printed bytes m = record m { state = printed (take (length bytes / 2) bytes) m.state; counts = print_fault m.counts }
+-- a fault of a restart
+abbrev pub service_failed : MemoryHost → MemoryHost
+service_failed m = record m { counts = service_fault m.counts }
 
--- a fault of the output for want of memory, which leaves it as it was
-abbrev pub print_starved : MemoryHost → MemoryHost
-print_starved m = record m { counts = print_fault m.counts; starved = raised m.starved }
+-- a call found no memory
+abbrev pub starving : MemoryHost → MemoryHost
+starving m = record m { starved = raised m.starved }
+
+-- the first half of the bytes
+abbrev pub half : List ℕ → List ℕ
+half bytes = take (length bytes / 2) bytes
+
+-- whether a fault has the number of the next call
+abbrev pub next_fails : MemoryHost → Bool
+next_fails m = is_faulty m.faults m.calls
+
+-- A call without an answer for want of memory: it did its work, or a fault has its number and it did what a
+-- failing call does, or it found no memory and did what is left then, as a fault.
+abbrev pub Ends : {F : Type 0} → Result (Unit {0}) F → MemoryHost → MemoryHost → (work failing starved fault : MemoryHost → MemoryHost) → Type 0
+Ends (Ok u) old new work failing starved fault = IsFalse (next_fails old) × (new ≡ called (work old))
+Ends (Err e) old new work failing starved fault =
+    (new ≡ called (starving (fault (starved old)))) ⊎ (IsTrue (next_fails old) × (new ≡ called (fault (failing old))))
+
+-- ---- what no call changes
+
+-- the number is past, which at the last count it is for good
+abbrev pub IsPast : ℕ → ℕ → Type 0
+IsPast number next = (number < next) ⊎ (last_count ≤ next)
+
+-- a fault has the number of a call between the two, or such a call found no memory
+abbrev pub HasFault : MemoryHost → MemoryHost → Type 0
+HasFault old new =
+    ((number : ℕ) × (old.calls ≤ number) × IsPast number new.calls × IsTrue (is_faulty old.faults number))
+    ⊎ IsPast old.starved new.starved
+
+-- the same host later: a count rose only by a fault of its own or for want of memory
+pub record GoesOn (old new : MemoryHost) : Type 0 where
+  pub faults : new.faults ≡ old.faults
+  pub inputs : new.state.inputs ≡ old.state.inputs
+  pub calls : old.calls ≤ new.calls
+  pub starved : old.starved ≤ new.starved
+  pub counts : (new.counts ≡ old.counts) ⊎ HasFault old new

@@ -1,7 +1,7 @@
 //! Faults: which calls of a host in memory fail, and the counts of those that did.
 ghost use Rattle.std.specs.Prelude.{◌≡◌};
-ghost use Rattle.host_core.specs.State.{Rose, InputMayRise, DiskMayRise, PrintMayRise};
-ghost use Rattle.host_core.specs.Faults.{is_faulty, no_faults, input_fault, disk_fault, print_fault};
+ghost use Rattle.host_core.specs.Counts.{Rose, InputMayRise, DiskMayRise, PrintMayRise, ServiceMayRise};
+ghost use Rattle.host_core.specs.Faults.{is_faulty, no_faults, input_fault, disk_fault, print_fault, service_fault};
 
 use crate::Sequence;
 use std::marker::Model;
@@ -34,7 +34,7 @@ pub struct FaultCounts {
 }
 
 impl Model for FaultCounts {
-    ghost use Rattle.host_core.specs.State.{Counts};
+    ghost use Rattle.host_core.specs.Counts.{Counts};
 
     ghost Value = { Counts };
 
@@ -79,5 +79,14 @@ impl FaultCounts {
         ensures rose { Rose self.old.print self.new.print }
     {
         self.print = self.print.saturating_add(1);
+    }
+
+    /// Counts a fault of a restart.
+    pub fn add_service(&mut self)
+        ensures after { self.new ≡ service_fault self.old }
+        ensures counts { ServiceMayRise self.old self.new }
+        ensures rose { Rose self.old.service self.new.service }
+    {
+        self.service = self.service.saturating_add(1);
     }
 }

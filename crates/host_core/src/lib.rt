@@ -1,17 +1,24 @@
 //! What every crate of gcu stands on: texts, lists, and the host that a command works on.
 #![tactic(auto)]
 
-mod failures;
+mod comparisons;
+mod crash;
+mod errors;
 mod faults;
+mod history;
 mod host_calls;
+mod images;
+mod mem_as_host;
+mod mem_calls;
 mod mem_host;
 mod named_bytes;
+mod pending;
 mod sequences;
-#[cfg(test)]
-mod tests;
+mod short_names;
 mod texts;
 
-pub use failures::{Failed, HostError, Memory};
+pub use crash::Pick;
+pub use errors::{Failed, HostError, Memory};
 pub use faults::{FaultCounts, Faults};
 pub use host_calls::{Host, Input};
 pub use mem_host::MemHost;

@@ -1,17 +1,18 @@
 //! Byte strings by name, as inputs and as files.
-ghost use Rattle.std.specs.Prelude.{◌≡◌, option_map, option_copied};
-ghost use Rattle.std.specs.List.{find};
-ghost use Rattle.std.specs.Str.{bytes_eq};
+ghost use Rattle.std.specs.Prelude.{◌≡◌, option_map, IfOk, OnOk, OnErr, Some, None};
 ghost use Rattle.std.specs.FinMap as finmap;
 ghost use Rattle.host_core.specs.MemoryHost.{files_of};
+ghost use Rattle.host_core.specs.State.{with_file};
 
-use crate::Txt;
+use crate::{Memory, Names, Sequence, Txt};
+use std::alloc::Global;
+use std::collections::BTreeMap;
 use std::marker::Model;
 
-/// Byte strings, each with its name. At a name that stands twice the first one counts.
+/// Byte strings, each with its name.
 #[derive(Drop)]
-pub struct NamedBytes {
-    entries: Vec<(Txt, Vec<u8>)>,
+pub(crate) struct NamedBytes {
+    entries: BTreeMap<String, Vec<u8>>,
 }
 
 impl Model for NamedBytes {
@@ -22,32 +23,69 @@ impl Model for NamedBytes {
 
     ghost coded = { files_code };
 
-    ghost use Rattle.host_core.specs.MemoryHost.{files_of};
+    ghost use Rattle.host_core.specs.Entries.{files_in};
 
-    ghost view = { λ n. files_of n.entries.items };
+    ghost view = { λ n. files_in n.entries.entries };
 }
 
 impl NamedBytes {
-    pub fn new(entries: Vec<(Txt, Vec<u8>)>) -> Self
-        ensures { result ≡ files_of entries.items }
+    /// None.
+    pub(crate) fn new(alloc: Global) -> Self
+        ensures { result ≡ finmap.empty }
     {
-        NamedBytes { entries }
-    }
-
-    /// The bytes at a name, found in as many steps as there are names.
-    #[tactic(auto, using(crate::proofs::LookUps::get_of_files))]
-    pub fn get(&self, name: &str) -> Option<&[u8]>
-        ensures { option_map (λ bytes. bytes.now) result ≡ finmap.get self.now name.now }
-    {
-        match first_of_name(&self.entries, name) {
-            None => None,
-            Some((_, bytes)) => Some(bytes.as_slice()),
+        NamedBytes {
+            entries: BTreeMap::new(alloc),
         }
     }
-}
 
-fn first_of_name<'a>(entries: &'a [(Txt, Vec<u8>)], name: &str) -> Option<&'a (Txt, Vec<u8>)>
-    ensures { option_copied result ≡ find (λ p. bytes_eq name.now p.0) entries.now }
-{
-    entries.iter().find(|entry| name == entry.0.as_str())
+    /// Those of a list. At a name that stands twice the first one counts.
+    pub(crate) fn of_pairs(alloc: Global, pairs: Vec<(Txt, Vec<u8>)>) -> Result<Self, Memory>
+        ensures { IfOk result (λ n. n ≡ files_of pairs.items) }
+    {
+        let mut pairs = pairs;
+        let mut all = NamedBytes::new(alloc);
+        while let Some((name, bytes)) = pairs.pop() {
+            let _ = all.put(name, bytes)?;
+        }
+        Ok(all)
+    }
+
+    /// The bytes at a name.
+    pub(crate) fn get(&self, name: &str) -> Option<&[u8]>
+        ensures { option_map (λ bytes. bytes.now) result ≡ finmap.get self.now name.now }
+    {
+        match self.entries.get(name) {
+            None => None,
+            Some(bytes) => Some(bytes.as_slice()),
+        }
+    }
+
+    /// Puts bytes at a name, and gives those that were there.
+    pub(crate) fn put(&mut self, name: Txt, bytes: Vec<u8>) -> Result<Option<Vec<u8>>, Memory>
+        ensures old { IfOk result (λ o. option_map (λ v. v.items) o ≡ finmap.get self.old name) }
+        ensures ok { OnOk result (self.new ≡ with_file name (Some bytes.items) self.old) }
+        ensures err { OnErr result (self.new ≡ self.old) }
+    {
+        Ok(self.entries.insert(name.into_string(), bytes)?)
+    }
+
+    /// Takes the bytes at a name out.
+    pub(crate) fn take(&mut self, name: &str) -> Option<Vec<u8>>
+        ensures old { option_map (λ v. v.items) result ≡ finmap.get self.old name.now }
+        ensures after { self.new ≡ with_file name.now None self.old }
+    {
+        let _ = self.entries.len();
+        self.entries.remove(name)
+    }
+
+    /// The names, in the order of their bytes.
+    pub(crate) fn names(&self, alloc: Global) -> Result<Names, Memory>
+        ensures { IfOk result (λ all. all ≡ finmap.keys self.now) }
+    {
+        let mut all = Sequence::new(alloc);
+        for name in self.entries.keys() {
+            all.push(Txt::new(alloc, name.as_str())?)?;
+        }
+        Ok(all)
+    }
 }

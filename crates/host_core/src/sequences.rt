@@ -1,5 +1,5 @@
 //! The list that stands in public types in the place of a vector.
-ghost use Rattle.std.specs.Prelude.{◌≡◌, ◌<◌, [], ◌∷◌, ◌++◌, length, slice_index_or, slice_get, Some, OnOk, OnErr};
+ghost use Rattle.std.specs.Prelude.{◌≡◌, ◌↔◌, ◌<◌, IsTrue, [], ◌∷◌, ◌++◌, length, slice_index_or, slice_get, Some, OnOk, OnErr};
 
 use crate::Memory;
 use std::alloc::Global;
@@ -34,6 +34,13 @@ impl<X> Sequence<X> {
         ensures { result ≡ length self.now }
     {
         self.items.len()
+    }
+
+    /// Whether there is none.
+    pub fn is_empty(&self) -> bool
+        ensures { IsTrue result ↔ (self.now ≡ []) }
+    {
+        self.items.is_empty()
     }
 
     /// The whole list.
@@ -73,9 +80,7 @@ impl<X: Drop> Sequence<X> {
         ensures ok { OnOk result (self.new ≡ self.old ++ item ∷ []) }
         ensures err { OnErr result (self.new ≡ self.old) }
     {
-        match self.items.push(item) {
-            Ok(()) => Ok(()),
-            Err(_) => Err(Memory),
-        }
+        self.items.push(item)?;
+        Ok(())
     }
 }

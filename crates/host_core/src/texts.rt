@@ -1,5 +1,5 @@
 //! A text that owns its bytes.
-ghost use Rattle.std.specs.Prelude.{◌≡◌, IfOk};
+ghost use Rattle.std.specs.Prelude.{◌≡◌, IfOk, IsUtf8, string_bytes};
 
 use crate::{Memory, Sequence};
 use std::alloc::Global;
@@ -27,17 +27,34 @@ impl Txt {
     pub fn new(alloc: Global, text: &str) -> Result<Txt, Memory>
         ensures { IfOk result (λ t. t ≡ text.now) }
     {
-        match String::from_str(alloc, text) {
-            Ok(text) => Ok(Txt { text }),
-            Err(_) => Err(Memory),
-        }
+        Ok(Txt {
+            text: String::from_str(alloc, text)?,
+        })
+    }
+
+    /// A copy of this text.
+    pub fn copy(&self, alloc: Global) -> Result<Txt, Memory>
+        ensures { IfOk result (λ t. t ≡ self.now) }
+    {
+        Txt::new(alloc, self.as_str())
+    }
+
+    /// The text as a string, with no copy.
+    pub fn into_string(self) -> String
+        ensures { string_bytes result ≡ self }
+    {
+        let Txt { text } = self;
+        text
     }
 
     /// The text itself.
     pub fn as_str(&self) -> &str
-        ensures { result.now ≡ self.now }
+        ensures text { result.now ≡ self.now }
+        ensures utf8 { IsUtf8 self.now }
     {
-        self.text.as_str()
+        let text = self.text.as_str();
+        let _ = text.as_bytes();
+        text
     }
 }
 

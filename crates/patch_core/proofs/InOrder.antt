@@ -1,21 +1,20 @@
 -- The elements of a patch, read in order.
-use Rattle.std.proofs.Common.{◌≡◌, ◌∷◌, ◌++◌, ℕ, zero, suc, ◌+◌, ◌<◌, List, [], length, get_or, take, map, Result, Ok, Err, Some, None, Bool, true, false, cond, refl, sym, ap, ◌∙◌, arith}
+use Rattle.std.proofs.Common.{◌≡◌, ◌∷◌, ◌++◌, ℕ, zero, suc, ◌+◌, ◌<◌, List, [], length, get_or, take, map, Option, Result, Ok, Err, Some, None, refl, sym, ap, ◌∙◌, arith}
 use Rattle.std.specs.List.{enumerate_from}
-use Rattle.std.specs.Str.{IsUtf8, is_utf8}
-use Rattle.std.proofs.lemmas.Str.{is_utf8-from_IsUtf8, IsUtf8-from_is_utf8}
-use Rattle.host_core.specs.Answers.{FailsAs}
+use Rattle.host_core.specs.Answers.{FailsAs, both}
 use Rattle.serde_json.specs.Data.{Data}
-use Rattle.serde_json.specs.Read.{read}
 use Rattle.serde_json.specs.View.{view, items_view}
 use Rattle.serde_json.specs.declared.value.Value.{Value}
-use Rattle.conf_doc.specs.Reading.{both, json}
+use Rattle.conf_doc.specs.Reading.{json_answer}
+use Rattle.conf_doc.specs.declared.errors.ReadError.{ReadError}
 use Rattle.patch_core.specs.Operation.{Operation}
-use Rattle.patch_core.specs.Reading.{at, operation, operations_from, patch_fault}
-use Rattle.patch_core.specs.declared.reading.PatchError.{PatchError}
-use Rattle.patch_core.specs.declared.reading.PatchError.TheVariants.{BadJson, BadPatch, Memory}
+use Rattle.patch_core.specs.Elements.{element}
+use Rattle.patch_core.specs.Reading.{at, operations_from, or_bad_json, patch_fault}
+use Rattle.patch_core.specs.declared.errors.PatchError.{PatchError}
+use Rattle.patch_core.specs.declared.errors.PatchError.TheVariants.{BadJson, BadPatch, Memory}
 
 abbrev pub read_at : ℕ × Value → Result Operation PatchError
-read_at e = at e.0 (operation (view e.1))
+read_at e = at e.0 (element (view e.1))
 
 -- `operations_from`, of elements with their indices
 abbrev pub all_read : List (ℕ × Value) → Result (List Operation) PatchError
@@ -59,15 +58,13 @@ fails_first Memory es n e ops below here before fails = tt
 
 -- ---- the JSON value of bytes
 
-pub json-some : (bytes : List ℕ) (d : Data) → IsUtf8 bytes → read bytes ≡ Some d → json bytes ≡ Some d
-json-some bytes d text is = rw (is_utf8-from_IsUtf8 bytes text) is
+pub value_there : (o : Option Data) (d : Data) → json_answer o ≡ Ok d → or_bad_json o ≡ Ok d
+value_there None d is = absurd (cc)
+value_there (Some e) d is = cc
 
-json-none_at : (b : Bool) (bytes : List ℕ) → is_utf8 bytes ≡ b → (IsUtf8 bytes → read bytes ≡ None) → cond b (read bytes) None ≡ None
-json-none_at true bytes is none = none (IsUtf8-from_is_utf8 bytes is)
-json-none_at false bytes is none = refl
-
-pub json-none : (bytes : List ℕ) → (IsUtf8 bytes → read bytes ≡ None) → json bytes ≡ None
-json-none bytes none = json-none_at _ bytes refl none
+pub value_none : (o : Option Data) (e : ReadError) → json_answer o ≡ Err e → or_bad_json o ≡ Err BadJson
+value_none None e is = refl
+value_none (Some d) e is = absurd (cc)
 
 -- ---- a walk over the elements
 

@@ -6,19 +6,19 @@ use Rattle.conf_doc.specs.Pairs.{IsRising, find, put, without}
 use Rattle.conf_doc.specs.Trees.{document}
 use Rattle.conf_doc.specs.declared.trees.Tree.{Tree}
 use Rattle.conf_doc.specs.declared.trees.Tree.TheVariants.{List as Listed, Map}
-use Rattle.patch_core.specs.Gaps.{IsGap, filled}
+use Rattle.patch_core.specs.Gaps.{IsGap, fill}
 use Rattle.patch_core.specs.Measures.{IsMeasured}
 use Rattle.patch_core.specs.declared.gaps.Gap.{Gap}
-use Rattle.patch_core.specs.declared.edits.Edit.{Edit}
-use Rattle.patch_core.specs.declared.edits.Edit.TheVariants.{Add, Remove, Replace}
-use Rattle.patch_core.specs.declared.edits.Edited.{Edited}
+use Rattle.patch_core.specs.declared.node_edits.Edit.{Edit}
+use Rattle.patch_core.specs.declared.node_edits.Edit.TheVariants.{Add, Remove, Replace}
+use Rattle.patch_core.specs.declared.node_edits.Change.{Change}
 use Rattle.patch_core.proofs.Measures.{weight_in, weight_of, depth_in, depth_of, weight-set, depth-set, weight-insert, depth-insert, weight-push, depth-push, weight-removed, depth-removed, weight-put_there, weight-put_new, depth-put, weight-without, depth-without}
 
-abbrev listed : List Document → Option Tree → Edited
-listed ds gone = record { tree = Listed ds; gone = gone; named = 0; unnamed = 0 }
+abbrev listed : List Document → Option Tree → Change
+listed ds out = record { tree = Listed ds; out = out; name_in = 0; name_out = 0 }
 
-abbrev mapped : List (List ℕ × Document) → Option Tree → ℕ → ℕ → Edited
-mapped ms gone named unnamed = record { tree = Map ms; gone = gone; named = named; unnamed = unnamed }
+abbrev of_pairs : List (List ℕ × Document) → Option Tree → ℕ → ℕ → Change
+of_pairs ms out name_in name_out = record { tree = Map ms; out = out; name_in = name_in; name_out = name_out }
 
 pub measured_insert : (value : Tree) (ds es : List Document) (i : ℕ) → es ≡ insert ds i (document value) → IsMeasured (Add value) (listed es None) 1 (list (items_of ds))
 measured_insert value ds es i is = record {
@@ -52,13 +52,13 @@ measured_replaced_item value gone ds es i there is =
     let changes = depth-set ds i (document gone) (document value) there in
     record {
       balances = omega (arith, ap weight_in is, weight-set ds i (document gone) (document value) there);
-      names = refl;
+      names = tt;
       part = omega (arith, weight-removed ds i (document gone) there);
       deep = omega (arith, ap depth_in is, changes.0);
       reaches = omega (arith, ap depth_in is, changes.1);
     }
 
-pub measured_added_there : (token : List ℕ) (value gone : Tree) (ms ns : List (List ℕ × Document)) → IsRising ms → find token ms ≡ Some (document gone) → ns ≡ put token (document value) ms → IsMeasured (Add value) (mapped ns (Some gone) 0 0) 1 (object (members_of ms))
+pub measured_added_there : (token : List ℕ) (value gone : Tree) (ms ns : List (List ℕ × Document)) → IsRising ms → find token ms ≡ Some (document gone) → ns ≡ put token (document value) ms → IsMeasured (Add value) (of_pairs ns (Some gone) 0 0) 1 (object (members_of ms))
 measured_added_there token value gone ms ns rising there is =
     let changes = depth-put token (document value) ms in
     record {
@@ -69,12 +69,12 @@ measured_added_there token value gone ms ns rising there is =
       reaches = omega (arith, ap depth_of is, changes.1);
     }
 
-pub measured_replaced_member : (token : List ℕ) (value gone : Tree) (ms ns : List (List ℕ × Document)) → IsRising ms → find token ms ≡ Some (document gone) → ns ≡ put token (document value) ms → IsMeasured (Replace value) (mapped ns (Some gone) 0 0) 1 (object (members_of ms))
+pub measured_replaced_member : (token : List ℕ) (value gone : Tree) (ms ns : List (List ℕ × Document)) → IsRising ms → find token ms ≡ Some (document gone) → ns ≡ put token (document value) ms → IsMeasured (Replace value) (of_pairs ns (Some gone) 0 0) 1 (object (members_of ms))
 measured_replaced_member token value gone ms ns rising there is =
     let added = measured_added_there token value gone ms ns rising there is in
-    record { balances = added.balances; names = refl; part = added.part; deep = added.deep; reaches = added.reaches }
+    record { balances = added.balances; names = tt; part = added.part; deep = added.deep; reaches = added.reaches }
 
-pub measured_added_new : (token : List ℕ) (value : Tree) (ms ns : List (List ℕ × Document)) (len : ℕ) → len ≡ length token → find token ms ≡ None → ns ≡ put token (document value) ms → IsMeasured (Add value) (mapped ns None len 0) 1 (object (members_of ms))
+pub measured_added_new : (token : List ℕ) (value : Tree) (ms ns : List (List ℕ × Document)) (len : ℕ) → len ≡ length token → find token ms ≡ None → ns ≡ put token (document value) ms → IsMeasured (Add value) (of_pairs ns None len 0) 1 (object (members_of ms))
 measured_added_new token value ms ns len counts none is =
     let changes = depth-put token (document value) ms in
     record {
@@ -85,7 +85,7 @@ measured_added_new token value ms ns len counts none is =
       reaches = omega (arith, ap depth_of is, changes.1);
     }
 
-pub measured_removed_member : (token : List ℕ) (gone : Tree) (ms ns : List (List ℕ × Document)) (len : ℕ) → len ≡ length token → IsRising ms → find token ms ≡ Some (document gone) → ns ≡ without token ms → IsMeasured Remove (mapped ns (Some gone) 0 len) 1 (object (members_of ms))
+pub measured_removed_member : (token : List ℕ) (gone : Tree) (ms ns : List (List ℕ × Document)) (len : ℕ) → len ≡ length token → IsRising ms → find token ms ≡ Some (document gone) → ns ≡ without token ms → IsMeasured Remove (of_pairs ns (Some gone) 0 len) 1 (object (members_of ms))
 measured_removed_member token gone ms ns len counts rising there is = record {
   balances = omega (arith, ap weight_of is, weight-without token (document gone) ms rising there);
   names = refl;
@@ -94,9 +94,9 @@ measured_removed_member token gone ms ns len counts rising there is = record {
   reaches = omega arith;
 }
 
--- the node whose child was edited
-pub measured_above : (edit : Edit) (e : Edited) (t : Tree) (gap : Gap) (token : List ℕ) (node child : Document) (n m : ℕ) → m ≡ suc n → IsGap gap token node child → IsMeasured edit e n child → document t ≡ filled gap token (document e.tree)
-    → IsMeasured edit (record { tree = t; gone = e.gone; named = e.named; unnamed = e.unnamed }) m node
+-- the node whose child was edit_below
+pub measured_above : (edit : Edit) (e : Change) (t : Tree) (gap : Gap) (token : List ℕ) (node child : Document) (n m : ℕ) → m ≡ suc n → IsGap gap token node child → IsMeasured edit e n child → document t ≡ fill gap token (document e.tree)
+    → IsMeasured edit (record { tree = t; out = e.out; name_in = e.name_in; name_out = e.name_out }) m node
 measured_above (Add v) e t gap token node child n m more there under is = record {
   balances = omega (arith, ap weight is, there.weighs (document e.tree), under.balances);
   names = under.names;

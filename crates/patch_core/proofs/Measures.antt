@@ -153,7 +153,7 @@ without_none k (m ∷ ms) none =
       | false ↦ λ n. ap (λ (ns : List (List ℕ × Document)). m ∷ ns) (without_none k ms n)
     ] none
 
--- behind its member a name comes no more
+-- in_front its member a name comes no more
 once : (k : List ℕ) (m : List ℕ × Document) (ms : List (List ℕ × Document)) → IsRising (m ∷ ms) → eq_by_cmp name_cmp k m.0 ≡ true → find k ms ≡ None
 once k m ms rising tie =
     let all = length_without name_cmp nat_list_cmp_total k (m ∷ ms) (T_from_true _ rising) in

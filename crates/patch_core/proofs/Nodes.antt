@@ -13,11 +13,12 @@ use Rattle.std.proofs.lemmas.Cmp.{tied_itself}
 use Rattle.host_core.specs.Names.{name_cmp}
 use Rattle.conf_doc.specs.Document.{Document, list, object, items_of, members_of, documents, pairs}
 use Rattle.conf_doc.specs.Pairs.{find, put, without}
-use Rattle.patch_core.specs.Apply.{◌>>=◌, below, with_below, cut, with_added}
-use Rattle.patch_core.specs.Places.{index, dash, no_place, place}
-use Rattle.patch_core.specs.declared.applying.FailWhy.{FailWhy}
-use Rattle.patch_core.specs.declared.applying.FailWhy.TheVariants.{BadIndex, NoTarget}
-use Rattle.patch_core.specs.Edits.{removed, replaced}
+use Rattle.host_core.specs.Answers.{◌>>=◌}
+use Rattle.patch_core.specs.Apply.{below, with_below, without_below, with_new}
+use Rattle.patch_core.specs.Indexes.{index, behind_last, list_token}
+use Rattle.patch_core.specs.declared.errors.FailWhy.{FailWhy}
+use Rattle.patch_core.specs.declared.errors.FailWhy.TheVariants.{BadIndex, NoTarget}
+use Rattle.patch_core.specs.Edits.{remove_below, replace_below}
 
 abbrev pub ok_of : Document → Result Document FailWhy
 ok_of d = Ok d
@@ -25,8 +26,8 @@ ok_of d = Ok d
 abbrev pub listed : List Document → Document
 listed ds = list (items_of ds)
 
-abbrev pub mapped : List (List ℕ × Document) → Document
-mapped ms = object (members_of ms)
+abbrev pub of_pairs : List (List ℕ × Document) → Document
+of_pairs ms = object (members_of ms)
 
 pub documents-items_of : (ds : List Document) → documents (items_of ds) ≡ ds
 documents-items_of [] = refl
@@ -38,17 +39,11 @@ pairs-members_of (m ∷ ms) = ap (λ (ns : List (List ℕ × Document)). m ∷ n
 
 -- ---- the child that a token names
 
-pub below_item : (missing : FailWhy) (token : List ℕ) (ds : List Document) (i : ℕ) (d : Document) → place token ≡ index i → slice_get ds i ≡ Some d → below missing token (list (items_of ds)) ≡ Ok d
+pub below_item : (missing : FailWhy) (token : List ℕ) (ds : List Document) (i : ℕ) (d : Document) → list_token token ≡ index i → slice_get ds i ≡ Some d → below missing token (list (items_of ds)) ≡ Ok d
 below_item missing token ds i d e g = rw (documents-items_of ds, e, g) refl
 
-pub below_past : (missing : FailWhy) (token : List ℕ) (ds : List Document) (i : ℕ) → place token ≡ index i → length ds ≤ i → below missing token (list (items_of ds)) ≡ Err missing
+pub below_past : (missing : FailWhy) (token : List ℕ) (ds : List Document) (i : ℕ) → list_token token ≡ index i → length ds ≤ i → below missing token (list (items_of ds)) ≡ Err missing
 below_past missing token ds i e past = rw (documents-items_of ds, e, slice_get_past ds i past) refl
-
-pub below_dash : (missing : FailWhy) (token : List ℕ) (ds : List Document) → place token ≡ dash → below missing token (list (items_of ds)) ≡ Err missing
-below_dash missing token ds e = rw e refl
-
-pub below_no_place : (missing : FailWhy) (token : List ℕ) (ds : List Document) → place token ≡ no_place → below missing token (list (items_of ds)) ≡ Err BadIndex
-below_no_place missing token ds e = rw e refl
 
 pub below_member : (missing : FailWhy) (token : List ℕ) (ms : List (List ℕ × Document)) (d : Document) → find token ms ≡ Some d → below missing token (object (members_of ms)) ≡ Ok d
 below_member missing token ms d e = rw (pairs-members_of ms, e) refl
@@ -56,9 +51,9 @@ below_member missing token ms d e = rw (pairs-members_of ms, e) refl
 pub below_no_member : (missing : FailWhy) (token : List ℕ) (ms : List (List ℕ × Document)) → find token ms ≡ None → below missing token (object (members_of ms)) ≡ Err missing
 below_no_member missing token ms e = rw (pairs-members_of ms, e) refl
 
--- ---- another child in its place
+-- ---- another child in its list_token
 
-pub with_below_item : (token : List ℕ) (d : Document) (ds : List Document) (i : ℕ) → place token ≡ index i → with_below token d (list (items_of ds)) ≡ list (items_of (slice_set ds i d))
+pub with_below_item : (token : List ℕ) (d : Document) (ds : List Document) (i : ℕ) → list_token token ≡ index i → with_below token d (list (items_of ds)) ≡ list (items_of (slice_set ds i d))
 with_below_item token d ds i e = rw (documents-items_of ds, e) refl
 
 pub with_below_member : (token : List ℕ) (d : Document) (ms : List (List ℕ × Document)) → with_below token d (object (members_of ms)) ≡ object (members_of (put token d ms))
@@ -66,31 +61,28 @@ with_below_member token d ms = rw (pairs-members_of ms) refl
 
 -- ---- without it
 
-pub cut_item : (token : List ℕ) (ds : List Document) (i : ℕ) → place token ≡ index i → cut token (list (items_of ds)) ≡ list (items_of (removed_at ds i))
+pub cut_item : (token : List ℕ) (ds : List Document) (i : ℕ) → list_token token ≡ index i → without_below token (list (items_of ds)) ≡ list (items_of (removed_at ds i))
 cut_item token ds i e = rw (documents-items_of ds, e) refl
 
-pub cut_member : (token : List ℕ) (ms : List (List ℕ × Document)) → cut token (object (members_of ms)) ≡ object (members_of (without token ms))
+pub cut_member : (token : List ℕ) (ms : List (List ℕ × Document)) → without_below token (object (members_of ms)) ≡ object (members_of (without token ms))
 cut_member token ms = rw (pairs-members_of ms) refl
 
 -- ---- one more
 
-pub with_added_at : (token : List ℕ) (d : Document) (ds : List Document) (i : ℕ) → place token ≡ index i → i ≤ length ds → with_added token d (list (items_of ds)) ≡ Ok (list (items_of (insert ds i d)))
-with_added_at token d ds i e within = rw (documents-items_of ds, e, le-leb i (length ds) within) refl
+pub with_new_at : (token : List ℕ) (d : Document) (ds : List Document) (i : ℕ) → list_token token ≡ index i → i ≤ length ds → with_new token d (list (items_of ds)) ≡ Ok (list (items_of (insert ds i d)))
+with_new_at token d ds i e within = rw (documents-items_of ds, e, le-leb i (length ds) within) refl
 
-pub with_added_end : (token : List ℕ) (d : Document) (ds : List Document) → place token ≡ index (length ds) → with_added token d (list (items_of ds)) ≡ Ok (list (items_of (ds ++ d ∷ [])))
-with_added_end token d ds e = with_added_at token d ds (length ds) e (omega arith) ∙ ap (λ (es : List Document). Ok (list (items_of es))) (insert_end ds d)
+pub with_new_end : (token : List ℕ) (d : Document) (ds : List Document) → list_token token ≡ index (length ds) → with_new token d (list (items_of ds)) ≡ Ok (list (items_of (ds ++ d ∷ [])))
+with_new_end token d ds e = with_new_at token d ds (length ds) e (omega arith) ∙ ap (λ (es : List Document). Ok (list (items_of es))) (insert_end ds d)
 
-pub with_added_past : (token : List ℕ) (d : Document) (ds : List Document) (i : ℕ) → place token ≡ index i → length ds < i → with_added token d (list (items_of ds)) ≡ Err BadIndex
-with_added_past token d ds i e past = rw (documents-items_of ds, e, lt-leb i (length ds) past) refl
+pub with_new_past : (token : List ℕ) (d : Document) (ds : List Document) (i : ℕ) → list_token token ≡ index i → length ds < i → with_new token d (list (items_of ds)) ≡ Err BadIndex
+with_new_past token d ds i e past = rw (documents-items_of ds, e, lt-leb i (length ds) past) refl
 
-pub with_added_dash : (token : List ℕ) (d : Document) (ds : List Document) → place token ≡ dash → with_added token d (list (items_of ds)) ≡ Ok (list (items_of (ds ++ d ∷ [])))
-with_added_dash token d ds e = rw (documents-items_of ds, e) refl
+pub with_new_dash : (token : List ℕ) (d : Document) (ds : List Document) → list_token token ≡ behind_last → with_new token d (list (items_of ds)) ≡ Ok (list (items_of (ds ++ d ∷ [])))
+with_new_dash token d ds e = rw (documents-items_of ds, e) refl
 
-pub with_added_no_place : (token : List ℕ) (d : Document) (ds : List Document) → place token ≡ no_place → with_added token d (list (items_of ds)) ≡ Err BadIndex
-with_added_no_place token d ds e = rw e refl
-
-pub with_added_member : (token : List ℕ) (d : Document) (ms : List (List ℕ × Document)) → with_added token d (object (members_of ms)) ≡ Ok (object (members_of (put token d ms)))
-with_added_member token d ms = rw (pairs-members_of ms) refl
+pub with_new_member : (token : List ℕ) (d : Document) (ms : List (List ℕ × Document)) → with_new token d (object (members_of ms)) ≡ Ok (object (members_of (put token d ms)))
+with_new_member token d ms = rw (pairs-members_of ms) refl
 
 -- ---- a child out of a node and another in
 
@@ -116,14 +108,14 @@ is_some_here {A = A} o x e = subst (λ (p : Option A). IsSome p) (sym e) refl
 
 -- ---- edits of a child that is there, or isn't
 
-pub removed_there : (token : List ℕ) (d child e : Document) → below NoTarget token d ≡ Ok child → cut token d ≡ e → removed token d ≡ Ok e
-removed_there token d child e there is = ap (λ (r : Result Document FailWhy). r >>= λ _. Ok (cut token d)) there ∙ ap ok_of is
+pub removed_there : (token : List ℕ) (d child e : Document) → below NoTarget token d ≡ Ok child → without_below token d ≡ e → remove_below token d ≡ Ok e
+removed_there token d child e there is = ap (λ (r : Result Document FailWhy). r >>= λ _. Ok (without_below token d)) there ∙ ap ok_of is
 
-pub removed_fails : (token : List ℕ) (d : Document) (why : FailWhy) → below NoTarget token d ≡ Err why → removed token d ≡ Err why
-removed_fails token d why fails = ap (λ (r : Result Document FailWhy). r >>= λ _. Ok (cut token d)) fails
+pub removed_fails : (token : List ℕ) (d : Document) (why : FailWhy) → below NoTarget token d ≡ Err why → remove_below token d ≡ Err why
+removed_fails token d why fails = ap (λ (r : Result Document FailWhy). r >>= λ _. Ok (without_below token d)) fails
 
-pub replaced_there : (token : List ℕ) (v d child e : Document) → below NoTarget token d ≡ Ok child → with_below token v d ≡ e → replaced token v d ≡ Ok e
+pub replaced_there : (token : List ℕ) (v d child e : Document) → below NoTarget token d ≡ Ok child → with_below token v d ≡ e → replace_below token v d ≡ Ok e
 replaced_there token v d child e there is = ap (λ (r : Result Document FailWhy). r >>= λ _. Ok (with_below token v d)) there ∙ ap ok_of is
 
-pub replaced_fails : (token : List ℕ) (v d : Document) (why : FailWhy) → below NoTarget token d ≡ Err why → replaced token v d ≡ Err why
+pub replaced_fails : (token : List ℕ) (v d : Document) (why : FailWhy) → below NoTarget token d ≡ Err why → replace_below token v d ≡ Err why
 replaced_fails token v d why fails = ap (λ (r : Result Document FailWhy). r >>= λ _. Ok (with_below token v d)) fails

@@ -4,13 +4,13 @@ use Rattle.std.proofs.Common.{sym, ap, ◌∙◌, arith, subst}
 use Rattle.std.proofs.lemmas.List.{length-set}
 use Rattle.conf_doc.specs.Document.{Document, list, object, items_of, members_of}
 use Rattle.conf_doc.specs.Pairs.{IsRising, find, put}
-use Rattle.patch_core.specs.Places.{index, place}
+use Rattle.patch_core.specs.Indexes.{index, list_token}
 use Rattle.patch_core.specs.Gaps.{IsGap}
 use Rattle.patch_core.specs.declared.gaps.Gap.TheVariants.{Item, Member}
 use Rattle.patch_core.proofs.Measures.{weight_in, weight_of, depth_in, depth_of, weight-set, weight-removed, weight-put_there, weight-without, depth-set, depth-put, depth_there}
 use Rattle.patch_core.proofs.Nodes.{with_below_item, with_below_member, set_again, put_again, find_put, is_some_here}
 
-pub gap_of_item : (token : List ℕ) (ds es : List Document) (i : ℕ) (h c : Document) → place token ≡ index i → i < length ds → es ≡ slice_set ds i h → slice_get ds i ≡ Some c → IsGap (Item es i) token (list (items_of ds)) c
+pub gap_of_item : (token : List ℕ) (ds es : List Document) (i : ℕ) (h c : Document) → list_token token ≡ index i → i < length ds → es ≡ slice_set ds i h → slice_get ds i ≡ Some c → IsGap (Item es i) token (list (items_of ds)) c
 gap_of_item token ds es i h c e within is there =
     subst (λ (fs : List Document). IsGap (Item fs i) token (list (items_of ds)) c) (sym is) (record {
       closes = omega (arith, length-set ds i h, within);

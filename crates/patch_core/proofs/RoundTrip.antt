@@ -4,9 +4,9 @@ use Rattle.std.specs.List.{AllByRecursion, flat_map, onto_first}
 use Rattle.std.proofs.lemmas.Bool.{eqb-false, eqb-true, ne_eqb}
 use Rattle.conf_doc.specs.Pointer.{pointer, escaped}
 use Rattle.patch_core.specs.Operation.{Tokens}
-use Rattle.patch_core.specs.Tokens.{behind, unescaped, all_unescaped, parts_of, tokens, or_malformed, pointer_fault}
-use Rattle.patch_core.specs.declared.pointers.PointerError.{PointerError}
-use Rattle.patch_core.specs.declared.pointers.PointerError.TheVariants.{Malformed, Memory}
+use Rattle.patch_core.specs.Tokens.{in_front, token_of, tokens_of_parts, parts_of, tokens, or_malformed, pointer_fault}
+use Rattle.patch_core.specs.declared.errors.PointerError.{PointerError}
+use Rattle.patch_core.specs.declared.errors.PointerError.TheVariants.{Malformed, Memory}
 use Rattle.host_core.specs.Answers.{FailsAs}
 use Rattle.patch_core.proofs.Escapes.{plain_byte, head_of, none_of}
 
@@ -15,16 +15,16 @@ use Rattle.patch_core.proofs.Escapes.{plain_byte, head_of, none_of}
 abbrev code : Bool → Bool → ℕ → List ℕ
 code is_tilde is_slash b = cond is_tilde (126 ∷ 48 ∷ []) (cond is_slash (126 ∷ 49 ∷ []) (b ∷ []))
 
-unescaped-code : (x y : Bool) (b : ℕ) (bs ds : List ℕ) → eqb b 126 ≡ x → eqb b 47 ≡ y → unescaped bs ≡ Some ds → unescaped (code x y b ++ bs) ≡ Some (b ∷ ds)
+unescaped-code : (x y : Bool) (b : ℕ) (bs ds : List ℕ) → eqb b 126 ≡ x → eqb b 47 ≡ y → token_of bs ≡ Some ds → token_of (code x y b ++ bs) ≡ Some (b ∷ ds)
 unescaped-code true y b bs ds is_tilde is_slash rest = rw (rest, eqb-true b 126 is_tilde)
 unescaped-code false true b bs ds is_tilde is_slash rest = rw (rest, eqb-true b 47 is_slash)
-unescaped-code false false b bs ds is_tilde is_slash rest = plain_byte b bs (eqb-false b 126 is_tilde) ∙ ap (behind b) rest
+unescaped-code false false b bs ds is_tilde is_slash rest = plain_byte b bs (eqb-false b 126 is_tilde) ∙ ap (in_front b) rest
 
-unescaped-escaped : (token : List ℕ) → unescaped (escaped token) ≡ Some token
+unescaped-escaped : (token : List ℕ) → token_of (escaped token) ≡ Some token
 unescaped-escaped [] = refl
 unescaped-escaped (b ∷ bs) = unescaped-code _ _ b (escaped bs) bs refl refl (unescaped-escaped bs)
 
-all_unescaped-escaped : (ts : Tokens) → all_unescaped (map escaped ts) ≡ Some ts
+all_unescaped-escaped : (ts : Tokens) → tokens_of_parts (map escaped ts) ≡ Some ts
 all_unescaped-escaped [] = refl
 all_unescaped-escaped (t ∷ ts) = rw (unescaped-escaped t, all_unescaped-escaped ts)
 
@@ -51,7 +51,7 @@ parts_of-pointer token (t ∷ ts) =
 
 pub tokens-pointer : (ts : Tokens) → tokens (pointer ts) ≡ Some ts
 tokens-pointer [] = refl
-tokens-pointer (t ∷ ts) = ap all_unescaped (parts_of-pointer t ts) ∙ all_unescaped-escaped (t ∷ ts)
+tokens-pointer (t ∷ ts) = ap tokens_of_parts (parts_of-pointer t ts) ∙ all_unescaped-escaped (t ∷ ts)
 
 -- ---- from text to tokens and back
 
@@ -70,7 +70,7 @@ parts_of-plain : (bs : List ℕ) → AllByRecursion HasNoSlash (parts_of bs)
 parts_of-plain [] = (tt, tt)
 parts_of-plain (b ∷ bs) = plain_at _ b (parts_of bs) refl (parts_of-plain bs)
 
--- each part behind a slash
+-- each part in_front a slash
 abbrev slashed : List (List ℕ) → List ℕ
 slashed parts = flat_map (λ part. 47 ∷ part) parts
 
@@ -86,7 +86,7 @@ joined : (bs : List ℕ) → 47 ∷ bs ≡ slashed (parts_of bs)
 joined [] = refl
 joined (b ∷ bs) = joined_at _ b bs (parts_of bs) refl (joined bs)
 
-behind-some : (b : ℕ) (o : Option (List ℕ)) (t : List ℕ) → behind b o ≡ Some t → (u : List ℕ) × (o ≡ Some u) × (t ≡ b ∷ u)
+behind-some : (b : ℕ) (o : Option (List ℕ)) (t : List ℕ) → in_front b o ≡ Some t → (u : List ℕ) × (o ≡ Some u) × (t ≡ b ∷ u)
 behind-some b None t h = absurd (cc)
 behind-some b (Some u) t h = (u, refl, cc)
 
@@ -95,33 +95,33 @@ escaped-one true b t is plain h = absurd (cc)
 escaped-one false b t is plain h = let e : t ≡ b ∷ [] = cc in rw (e, is, plain)
 
 escaped-more : (x y z : Bool) (b c : ℕ) (bs t : List ℕ) → eqb b 126 ≡ x → eqb c 48 ≡ y → eqb c 49 ≡ z → eqb b 47 ≡ false
-    → ((u : List ℕ) → unescaped bs ≡ Some u → bs ≡ escaped u) → ((u : List ℕ) → unescaped (c ∷ bs) ≡ Some u → c ∷ bs ≡ escaped u)
-    → cond x (cond y (behind 126 (unescaped bs)) (cond z (behind 47 (unescaped bs)) None)) (behind b (unescaped (c ∷ bs))) ≡ Some t → b ∷ c ∷ bs ≡ escaped t
+    → ((u : List ℕ) → token_of bs ≡ Some u → bs ≡ escaped u) → ((u : List ℕ) → token_of (c ∷ bs) ≡ Some u → c ∷ bs ≡ escaped u)
+    → cond x (cond y (in_front 126 (token_of bs)) (cond z (in_front 47 (token_of bs)) None)) (in_front b (token_of (c ∷ bs))) ≡ Some t → b ∷ c ∷ bs ≡ escaped t
 escaped-more true true z b c bs t is_tilde is_0 is_1 plain ih ih' h =
-    let u = behind-some 126 (unescaped bs) t h in
+    let u = behind-some 126 (token_of bs) t h in
     rw (u.2, eqb-true b 126 is_tilde, eqb-true c 48 is_0) (ap (λ ds. 126 ∷ 48 ∷ ds) (ih u.0 u.1))
 escaped-more true false true b c bs t is_tilde is_0 is_1 plain ih ih' h =
-    let u = behind-some 47 (unescaped bs) t h in
+    let u = behind-some 47 (token_of bs) t h in
     rw (u.2, eqb-true b 126 is_tilde, eqb-true c 49 is_1) (ap (λ ds. 126 ∷ 49 ∷ ds) (ih u.0 u.1))
 escaped-more true false false b c bs t is_tilde is_0 is_1 plain ih ih' h = absurd (cc)
 escaped-more false y z b c bs t is_tilde is_0 is_1 plain ih ih' h =
-    let u = behind-some b (unescaped (c ∷ bs)) t h in
+    let u = behind-some b (token_of (c ∷ bs)) t h in
     rw (u.2, is_tilde, plain) (ap (λ ds. b ∷ ds) (ih' u.0 u.1))
 
-escaped-unescaped : (bs : List ℕ) → HasNoSlash bs → (t : List ℕ) → unescaped bs ≡ Some t → bs ≡ escaped t
+escaped-unescaped : (bs : List ℕ) → HasNoSlash bs → (t : List ℕ) → token_of bs ≡ Some t → bs ≡ escaped t
 escaped-unescaped [] plain t h = let e : t ≡ [] = cc in rw e
 escaped-unescaped (b ∷ []) plain t h = escaped-one _ b t refl plain.0 h
 escaped-unescaped (b ∷ c ∷ bs) plain t h =
     escaped-more _ _ _ b c bs t refl refl refl plain.0 (escaped-unescaped bs plain.1.1) (escaped-unescaped (c ∷ bs) plain.1) h
 
-slashed-escaped : (parts : List (List ℕ)) (ts : Tokens) → AllByRecursion HasNoSlash parts → all_unescaped parts ≡ Some ts → slashed parts ≡ pointer ts
+slashed-escaped : (parts : List (List ℕ)) (ts : Tokens) → AllByRecursion HasNoSlash parts → tokens_of_parts parts ≡ Some ts → slashed parts ≡ pointer ts
 slashed-escaped [] ts plain h = let e : ts ≡ [] = cc in rw e
 slashed-escaped (part ∷ parts) ts plain h =
-    let head = head_of (unescaped part) (all_unescaped parts) ts h in
+    let head = head_of (token_of part) (tokens_of_parts parts) ts h in
     ap (λ p. 47 ∷ (p ++ slashed parts)) (escaped-unescaped part plain.0 head.0 head.2)
     ∙ ap (λ text. 47 ∷ (escaped head.0 ++ text)) (slashed-escaped parts head.1 plain.1 head.3) ∙ ap pointer (sym head.4)
 
-pointer-tokens_at : (x : Bool) (b : ℕ) (bs : List ℕ) (ts : Tokens) → eqb b 47 ≡ x → cond x (all_unescaped (parts_of bs)) None ≡ Some ts → b ∷ bs ≡ pointer ts
+pointer-tokens_at : (x : Bool) (b : ℕ) (bs : List ℕ) (ts : Tokens) → eqb b 47 ≡ x → cond x (tokens_of_parts (parts_of bs)) None ≡ Some ts → b ∷ bs ≡ pointer ts
 pointer-tokens_at true b bs ts is h = rw (eqb-true b 47 is) (joined bs ∙ slashed-escaped (parts_of bs) ts (parts_of-plain bs) h)
 pointer-tokens_at false b bs ts is h = absurd (cc)
 
@@ -138,11 +138,11 @@ tokens-none (b ∷ bs) some no_slash = rw (ne_eqb b 47 (λ e. no_slash bs (ap (�
 pub pointer-none : (text : List ℕ) → tokens text ≡ None → (ts : Tokens) → text ≡ pointer ts → ⊥
 pointer-none text none ts is = let some : tokens text ≡ Some ts = ap tokens is ∙ tokens-pointer ts in absurd (cc)
 
--- ---- a text behind its first slash
+-- ---- a text in_front its first slash
 
-pub tokens-slash : (text rest : List ℕ) → text ≡ 47 ∷ rest → tokens text ≡ all_unescaped (parts_of rest)
+pub tokens-slash : (text rest : List ℕ) → text ≡ 47 ∷ rest → tokens text ≡ tokens_of_parts (parts_of rest)
 tokens-slash text rest is = rw is
 
-pub malformed_below : (e : PointerError) (text rest : List ℕ) → text ≡ 47 ∷ rest → FailsAs (pointer_fault e) (or_malformed (all_unescaped (parts_of rest))) → e ≡ Malformed → tokens text ≡ None
-malformed_below Malformed text rest is h same = tokens-slash text rest is ∙ none_of (all_unescaped (parts_of rest)) h
+pub malformed_below : (e : PointerError) (text rest : List ℕ) → text ≡ 47 ∷ rest → FailsAs (pointer_fault e) (or_malformed (tokens_of_parts (parts_of rest))) → e ≡ Malformed → tokens text ≡ None
+malformed_below Malformed text rest is h same = tokens-slash text rest is ∙ none_of (tokens_of_parts (parts_of rest)) h
 malformed_below Memory text rest is h same = absurd (cc)

@@ -72,3 +72,6 @@ same_decided false d e h =
   where
     true_of_false : IsTrue false → ⊥
     true_of_false p = cc
+
+pub same_is_equal : (d e : Document) → IsTrue (same d e) ↔ (d ≡ e)
+same_is_equal d e = (same_tells d e, λ is. subst (λ (x : Document). same d x ≡ true) is (same_itself d))

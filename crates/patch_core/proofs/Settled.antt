@@ -3,10 +3,10 @@ use Rattle.std.specs.Prelude.{◌≡◌, ◌<◌, ◌≤◌, Bool, true, false, 
 use Rattle.std.proofs.Common.{refl, ap, ◌∙◌, arith}
 use Rattle.std.proofs.lemmas.Bool.{lt-leb}
 use Rattle.conf_doc.specs.Document.{Document, text, list, object, Items, no_items, item, Members, no_members, member, weight, items_weight, members_weight, depth, items_depth, members_depth}
-use Rattle.patch_core.specs.Apply.{◌>>=◌, fits}
-use Rattle.patch_core.specs.Limits.{limit}
-use Rattle.patch_core.specs.declared.applying.FailWhy.{FailWhy}
-use Rattle.patch_core.specs.declared.applying.FailWhy.TheVariants.{TooLarge}
+use Rattle.host_core.specs.Answers.{◌>>=◌}
+use Rattle.patch_core.specs.Apply.{fits, most_levels, most_weight, within_limit}
+use Rattle.patch_core.specs.declared.errors.FailWhy.{FailWhy}
+use Rattle.patch_core.specs.declared.errors.FailWhy.TheVariants.{TooLarge}
 
 -- each level has a node
 mutual
@@ -27,7 +27,7 @@ and_false : (b : Bool) → (b && false) ≡ false
 and_false true = refl
 and_false false = refl
 
-pub too_heavy : (r : Result Document FailWhy) (d : Document) → r ≡ Ok d → 8388608 < weight d → (r >>= limit) ≡ Err TooLarge
+pub too_heavy : (r : Result Document FailWhy) (d : Document) → r ≡ Ok d → most_weight < weight d → (r >>= within_limit) ≡ Err TooLarge
 too_heavy r d is heavy =
-    let no : fits d ≡ false = ap (λ (b : Bool). nat_le (depth d) 127 && b) (lt-leb (weight d) 8388608 heavy) ∙ and_false (nat_le (depth d) 127) in
+    let no : fits d ≡ false = ap (λ (b : Bool). nat_le (depth d) most_levels && b) (lt-leb (weight d) most_weight heavy) ∙ and_false (nat_le (depth d) most_levels) in
     rw (is, no) refl

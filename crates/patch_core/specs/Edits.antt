@@ -3,31 +3,31 @@ use Rattle.std.specs.Prelude.{◌≡◌, ℕ, List, Option, Some, None, Result, 
 use Rattle.conf_doc.specs.Document.{Document}
 use Rattle.conf_doc.specs.Trees.{document}
 use Rattle.conf_doc.specs.declared.trees.Tree.{Tree}
-use Rattle.patch_core.specs.Apply.{◌>>=◌, below, with_below, cut, with_added, after_add, after_remove, after_replace}
+use Rattle.patch_core.specs.Apply.{with_below, without_below, with_new, edit_there, after_add, after_remove, after_replace}
 use Rattle.patch_core.specs.Operation.{Tokens}
-use Rattle.patch_core.specs.declared.applying.FailWhy.{FailWhy}
-use Rattle.patch_core.specs.declared.applying.FailWhy.TheVariants.{NoTarget}
-use Rattle.patch_core.specs.declared.edits.Edit.{Edit}
-use Rattle.patch_core.specs.declared.edits.Edit.TheVariants.{Add, Remove, Replace}
+use Rattle.patch_core.specs.declared.errors.FailWhy.{FailWhy}
+use Rattle.patch_core.specs.declared.node_edits.Edit.{Edit}
+use Rattle.patch_core.specs.declared.node_edits.Edit.TheVariants.{Add, Remove, Replace}
 
--- the node without what the last token names
-abbrev pub removed : List ℕ → Document → Result Document FailWhy
-removed token d = below NoTarget token d >>= λ _. Ok (cut token d)
+-- the node without what the token names
+abbrev pub remove_below : List ℕ → Document → Result Document FailWhy
+remove_below token d = edit_there without_below token d
 
 -- the node with another document in its place
-abbrev pub replaced : List ℕ → Document → Document → Result Document FailWhy
-replaced token v d = below NoTarget token d >>= λ _. Ok (with_below token v d)
+abbrev pub replace_below : List ℕ → Document → Document → Result Document FailWhy
+replace_below token v d = edit_there (λ last node. with_below last v node) token d
 
-abbrev pub edited : Edit → List ℕ → Document → Result Document FailWhy
-edited (Add t) token d = with_added token (document t) d
-edited Remove token d = removed token d
-edited (Replace t) token d = replaced token (document t) d
+-- the node after an edit of what the token names
+abbrev pub edit_below : Edit → List ℕ → Document → Result Document FailWhy
+edit_below (Add t) token d = with_new token (document t) d
+edit_below Remove token d = remove_below token d
+edit_below (Replace t) token d = replace_below token (document t) d
 
 -- the document after an edit of what a path leads to
-abbrev pub after : Edit → Tokens → Document → Result Document FailWhy
-after (Add t) path d = after_add path (document t) d
-after Remove path d = after_remove path d
-after (Replace t) path d = after_replace path (document t) d
+abbrev pub after_edit : Edit → Tokens → Document → Result Document FailWhy
+after_edit (Add t) path d = after_add path (document t) d
+after_edit Remove path d = after_remove path d
+after_edit (Replace t) path d = after_replace path (document t) d
 
 -- there was this document
 abbrev pub IsTaken : Option Tree → Result Document FailWhy → Type 0
@@ -36,6 +36,6 @@ IsTaken (Some t) there = there ≡ Ok (document t)
 
 -- a remove and a replace hand out what was there
 abbrev pub HandsOut : Edit → Option Tree → Result Document FailWhy → Type 0
-HandsOut (Add t) taken there = Unit {0}
-HandsOut Remove taken there = IsTaken taken there
-HandsOut (Replace t) taken there = IsTaken taken there
+HandsOut (Add t) out there = Unit {0}
+HandsOut Remove out there = IsTaken out there
+HandsOut (Replace t) out there = IsTaken out there

@@ -1,12 +1,17 @@
-pub mod Apply
-pub mod Edits
-pub mod Gaps
-pub mod Limits
-pub mod Measures
+-- what public contracts cite
 pub mod Operation
-pub mod Places
-pub mod Reading
-pub mod Same
-pub mod Spots
-pub mod Stops
 pub mod Tokens
+pub mod Indexes
+pub mod Same
+pub mod Apply
+pub mod Elements
+pub mod Reading
+pub mod Writing
+-- what private contracts alone cite
+pub mod Edits
+pub mod Escapes
+pub mod Gaps
+pub mod ListSpots
+pub mod Measures
+pub mod MemberReading
+pub mod Stops

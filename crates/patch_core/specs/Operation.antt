@@ -4,11 +4,13 @@ use Rattle.conf_doc.specs.Document.{Document}
 use Rattle.conf_doc.specs.Trees.{document}
 use Rattle.patch_core.specs.declared.operations.Op.{Op}
 use Rattle.patch_core.specs.declared.operations.Op.TheVariants.{Add, Remove, Replace, Move, Copy, Test}
-use Rattle.patch_core.specs.declared.operations.Patch.{Patch}
+use Rattle.patch_core.specs.declared.patches.Patch.{Patch}
 
+-- what a pointer leads along
 abbrev pub Tokens : Type 0
 Tokens = List (List ℕ)
 
+-- what a patch has a list of
 pub data Operation : Type 0 where
   add : Tokens → Document → Operation
   remove : Tokens → Operation
@@ -17,6 +19,7 @@ pub data Operation : Type 0 where
   copy_to : (from path : Tokens) → Operation
   test : Tokens → Document → Operation
 
+-- the operation that an `Op` is
 abbrev pub operation_of : Op → Operation
 operation_of (Add path tree) = add path.tokens (document tree)
 operation_of (Remove path) = remove path.tokens
@@ -25,5 +28,6 @@ operation_of (Move from path) = move_to from.tokens path.tokens
 operation_of (Copy from path) = copy_to from.tokens path.tokens
 operation_of (Test path tree) = test path.tokens (document tree)
 
+-- the operations of a patch in order
 abbrev pub operations : Patch → List Operation
 operations patch = map operation_of patch.ops

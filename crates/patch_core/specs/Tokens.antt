@@ -1,40 +1,50 @@
--- JSON Pointer (RFC 6901, sections 3 and 4): from text to tokens. That it undoes `pointer` is a clause of
--- `read_pointer`.
-use Rattle.std.specs.Prelude.{◌≡◌, ◌++◌, ℕ, List, [], ◌∷◌, ◌==◌, if◌then◌else◌, Option, Some, None, option_map, option_and_then, Result, Ok, Err}
+-- JSON Pointer (RFC 6901, sections 3 and 4): from text to tokens. It undoes `pointer`, by a law.
+use Rattle.std.specs.Prelude.{ℕ, List, [], ◌∷◌, ◌==◌, if◌then◌else◌, Option, Some, None, option_map, option_and_then, Result, Ok, Err}
 use Rattle.std.specs.List.{slice_split}
+use Rattle.conf_doc.specs.Pointer.{slash, tilde}
 use Rattle.patch_core.specs.Operation.{Tokens}
-use Rattle.patch_core.specs.declared.pointers.PointerError.{PointerError}
-use Rattle.patch_core.specs.declared.pointers.PointerError.TheVariants.{Malformed, Memory}
+use Rattle.patch_core.specs.declared.errors.PointerError.{PointerError}
+use Rattle.patch_core.specs.declared.errors.PointerError.TheVariants.{Malformed, Memory}
 
--- a byte in front
-abbrev pub behind : ℕ → Option (List ℕ) → Option (List ℕ)
-behind b rest = option_map (λ bs. b ∷ bs) rest
+-- the digit `0`
+abbrev pub digit_0 : ℕ
+digit_0 = 48
 
--- `~0` stands for `~` and `~1` for `/`; a `~` before anything else stands for nothing
-abbrev pub unescaped : List ℕ → Option (List ℕ)
-unescaped [] = Some []
-unescaped (b ∷ []) = if b == 126 then None else Some (b ∷ [])
-unescaped (b ∷ c ∷ bs) =
-    if b == 126 then (if c == 48 then behind 126 (unescaped bs) else (if c == 49 then behind 47 (unescaped bs) else None))
-    else behind b (unescaped (c ∷ bs))
+-- the digit `1`
+abbrev pub digit_1 : ℕ
+digit_1 = 49
 
--- a `~` before a text, of which after is left, is read as what the token gained
-abbrev pub Escapes : (text after old new : List ℕ) → Type 0
-Escapes text after old new = (code : List ℕ) × (new ≡ old ++ code) × (unescaped (126 ∷ text) ≡ option_map (λ bs. code ++ bs) (unescaped after))
+-- a character in front
+abbrev pub in_front : ℕ → Option (List ℕ) → Option (List ℕ)
+in_front b rest = option_map (λ bs. b ∷ bs) rest
+
+-- the token that a part between slashes stands for: `~0` is `~`, and `~1` is `/`; a `~` before
+-- anything else stands for nothing
+abbrev pub token_of : List ℕ → Option (List ℕ)
+token_of [] = Some []
+token_of (b ∷ []) = if b == tilde then None else Some (b ∷ [])
+token_of (b ∷ c ∷ bs) =
+    if b == tilde then (
+    if c == digit_0 then in_front tilde (token_of bs)
+    else if c == digit_1 then in_front slash (token_of bs)
+    else None)
+    else in_front b (token_of (c ∷ bs))
 
 -- the tokens that the parts stand for, if each stands for one
-abbrev pub all_unescaped : List (List ℕ) → Option Tokens
-all_unescaped [] = Some []
-all_unescaped (part ∷ parts) = option_and_then (λ token. option_map (λ more. token ∷ more) (all_unescaped parts)) (unescaped part)
+abbrev pub tokens_of_parts : List (List ℕ) → Option Tokens
+tokens_of_parts [] = Some []
+tokens_of_parts (part ∷ parts) =
+    option_and_then (λ token. option_map (λ more. token ∷ more) (tokens_of_parts parts))
+    (token_of part)
 
 -- the parts of a text between its slashes
 abbrev pub parts_of : List ℕ → List (List ℕ)
-parts_of text = slice_split (λ b. b == 47) text
+parts_of text = slice_split (λ b. b == slash) text
 
 -- nothing, or a `/` before each token
 abbrev pub tokens : List ℕ → Option Tokens
 tokens [] = Some []
-tokens (b ∷ bs) = if b == 47 then all_unescaped (parts_of bs) else None
+tokens (b ∷ bs) = if b == slash then tokens_of_parts (parts_of bs) else None
 
 -- a text without tokens is malformed
 abbrev pub or_malformed : {A : Type 0} → Option A → Result A PointerError

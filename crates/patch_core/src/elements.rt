@@ -6,21 +6,15 @@ ghost use Rattle.host_core.specs.Answers.{Gives};
 ghost use Rattle.serde_json.specs.Find.{get_member};
 ghost use Rattle.serde_json.specs.View.{view, members_view};
 ghost use Rattle.patch_core.specs.Operation.{operation_of};
-ghost use Rattle.patch_core.specs.Reading.{text_in, pointer_in, value_in, document_in, from_in, kind, completed, operation_in, operation, element_fault};
-ghost use Rattle.patch_core.specs.declared.reading.PatchWhy.TheVariants.{BadValue};
+ghost use Rattle.patch_core.specs.Elements.{element};
+ghost use Rattle.patch_core.specs.MemberReading.{element_fault, kind, or_bad_value, read_element, read_from, read_members, read_path, read_rest, read_text, read_tokens, read_value};
+ghost use Rattle.patch_core.specs.declared.errors.PatchWhy.TheVariants.{BadValue};
 
-use crate::{Op, PatchWhy, Pointer, PointerError, read_pointer};
+use crate::errors::{ElementError, PatchWhy, PointerError};
+use crate::{Op, Pointer, read_pointer};
 use conf_doc::{ReadError, Tree, tree_of_value};
 use serde_json::{Map, Value};
 use std::alloc::Global;
-
-/// Why an element is no operation.
-#[derive(Clone, Copy, Debug, PartialEq, Eq)]
-pub(crate) enum ElementError {
-    /// Its first fault.
-    Malformed(PatchWhy),
-    Memory,
-}
 
 /// What `op` names.
 #[derive(Clone, Copy)]
@@ -34,49 +28,56 @@ enum Kind {
 }
 
 /// The operation that a value is.
-pub(crate) fn operation(alloc: Global, element: Value) -> Result<Op, ElementError>
-    ensures { Gives operation_of element_fault result (operation (view element)) }
+pub(crate) fn operation_of(alloc: Global, value: Value) -> Result<Op, ElementError>
+    ensures { Gives operation_of element_fault result (element (view value)) }
 {
-    match element {
-        Value::Object(members) => operation_in(alloc, members),
+    read_element(alloc, value)
+}
+
+/// The same, as it is read from member to member.
+fn read_element(alloc: Global, value: Value) -> Result<Op, ElementError>
+    ensures { Gives operation_of element_fault result (read_element (view value)) }
+{
+    match value {
+        Value::Object(members) => read_members(alloc, members),
         _ => Err(ElementError::Malformed(PatchWhy::NotObject)),
     }
 }
 
 /// The operation that the members of an object tell.
-fn operation_in(alloc: Global, members: Map<String, Value>) -> Result<Op, ElementError>
+fn read_members(alloc: Global, members: Map<String, Value>) -> Result<Op, ElementError>
     ensures { Gives operation_of element_fault result
-        (operation_in (members_view members.entries)) }
+        (read_members (members_view members.entries)) }
 {
-    let name = text_in(&members, "op", PatchWhy::NoOp)?;
+    let name = read_text(&members, "op", PatchWhy::NoOp)?;
     let kind = kind_of(name)?;
-    let path = pointer_in(alloc, &members, "path", PatchWhy::NoPath, PatchWhy::BadPath)?;
-    completed(alloc, kind, path, members)
+    let path = read_path(alloc, &members)?;
+    read_rest(alloc, kind, path, members)
 }
 
 /// The operation of a kind at a path. What it needs besides is read from the members.
-fn completed(
+fn read_rest(
     alloc: Global,
     kind: Kind,
     path: Pointer,
     members: Map<String, Value>,
 ) -> Result<Op, ElementError>
     ensures { Gives operation_of element_fault result
-        (completed kind path.tokens (members_view members.entries)) }
+        (read_rest kind path.tokens (members_view members.entries)) }
 {
     match kind {
-        Kind::Add => Ok(Op::Add(path, value_in(alloc, members)?)),
+        Kind::Add => Ok(Op::Add(path, read_value(alloc, members)?)),
         Kind::Remove => Ok(Op::Remove(path)),
-        Kind::Replace => Ok(Op::Replace(path, value_in(alloc, members)?)),
+        Kind::Replace => Ok(Op::Replace(path, read_value(alloc, members)?)),
         Kind::Move => {
-            let from = from_in(alloc, &members)?;
+            let from = read_from(alloc, &members)?;
             Ok(Op::Move { from, path })
         }
         Kind::Copy => {
-            let from = from_in(alloc, &members)?;
+            let from = read_from(alloc, &members)?;
             Ok(Op::Copy { from, path })
         }
-        Kind::Test => Ok(Op::Test(path, value_in(alloc, members)?)),
+        Kind::Test => Ok(Op::Test(path, read_value(alloc, members)?)),
     }
 }
 
@@ -96,18 +97,18 @@ fn kind_of(name: &str) -> Result<Kind, ElementError>
 }
 
 /// The tree of the member `value`, which is taken over and not copied.
-fn value_in(alloc: Global, mut members: Map<String, Value>) -> Result<Tree, ElementError>
-    ensures { Gives document element_fault result (value_in (members_view members.entries)) }
+fn read_value(alloc: Global, mut members: Map<String, Value>) -> Result<Tree, ElementError>
+    ensures { Gives document element_fault result (read_value (members_view members.entries)) }
 {
     let Some(value) = members.remove("value") else {
         return Err(ElementError::Malformed(PatchWhy::NoValue));
     };
-    tree_in(alloc, value)
+    read_tree(alloc, value)
 }
 
 /// The tree of a value in an operation.
-fn tree_in(alloc: Global, value: Value) -> Result<Tree, ElementError>
-    ensures { Gives document element_fault result (document_in (document_of (view value))) }
+fn read_tree(alloc: Global, value: Value) -> Result<Tree, ElementError>
+    ensures { Gives document element_fault result (or_bad_value (document_of (view value))) }
 {
     match tree_of_value(alloc, value) {
         Ok(tree) => Ok(tree),
@@ -129,16 +130,24 @@ impl ElementError {
     }
 }
 
-/// The pointer in the member `from`.
-fn from_in(alloc: Global, members: &Map<String, Value>) -> Result<Pointer, ElementError>
+/// The pointer in the member `path`.
+fn read_path(alloc: Global, members: &Map<String, Value>) -> Result<Pointer, ElementError>
     ensures { Gives (λ p. p.tokens) element_fault result
-        (from_in (members_view members.now.entries)) }
+        (read_path (members_view members.now.entries)) }
 {
-    pointer_in(alloc, members, "from", PatchWhy::NoFrom, PatchWhy::BadFrom)
+    read_tokens(alloc, members, "path", PatchWhy::NoPath, PatchWhy::BadPath)
+}
+
+/// The pointer in the member `from`.
+fn read_from(alloc: Global, members: &Map<String, Value>) -> Result<Pointer, ElementError>
+    ensures { Gives (λ p. p.tokens) element_fault result
+        (read_from (members_view members.now.entries)) }
+{
+    read_tokens(alloc, members, "from", PatchWhy::NoFrom, PatchWhy::BadFrom)
 }
 
 /// The pointer in a member.
-fn pointer_in(
+fn read_tokens(
     alloc: Global,
     members: &Map<String, Value>,
     name: &str,
@@ -146,9 +155,9 @@ fn pointer_in(
     malformed: PatchWhy,
 ) -> Result<Pointer, ElementError>
     ensures { Gives (λ p. p.tokens) element_fault result
-        (pointer_in missing malformed name.now (members_view members.now.entries)) }
+        (read_tokens missing malformed name.now (members_view members.now.entries)) }
 {
-    let text = text_in(members, name, missing)?;
+    let text = read_text(members, name, missing)?;
     match read_pointer(alloc, text) {
         Ok(pointer) => Ok(pointer),
         Err(PointerError::Malformed) => Err(ElementError::Malformed(malformed)),
@@ -157,13 +166,13 @@ fn pointer_in(
 }
 
 /// The text in a member.
-fn text_in<'m>(
+fn read_text<'m>(
     members: &'m Map<String, Value>,
     name: &str,
     missing: PatchWhy,
 ) -> Result<&'m str, ElementError>
     ensures { Gives (λ s. s.now) element_fault result
-        (text_in missing name.now (members_view members.now.entries)) }
+        (read_text missing name.now (members_view members.now.entries)) }
 {
     match member(members, name) {
         Some(Value::String(text)) => Ok(text.as_str()),

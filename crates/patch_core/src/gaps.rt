@@ -4,51 +4,60 @@ ghost use Rattle.conf_doc.specs.Document.{list, object, items_of, members_of};
 ghost use Rattle.conf_doc.specs.Trees.{document};
 ghost use Rattle.host_core.specs.Answers.{Gives};
 ghost use Rattle.patch_core.specs.Apply.{below};
-ghost use Rattle.patch_core.specs.Gaps.{IsGap, CanClose, filled};
-ghost use Rattle.patch_core.specs.declared.applying.FailWhy.TheVariants.{NoParent};
+ghost use Rattle.patch_core.specs.Gaps.{IsGap, CanClose, fill};
+ghost use Rattle.patch_core.specs.declared.errors.FailWhy.TheVariants.{NoParent};
 
-use crate::FailWhy;
-use crate::walking::item_place;
+use crate::errors::FailWhy;
+use crate::walks::item_index;
 use conf_doc::{Items, Members, Tree};
 use host_core::Txt;
 use std::alloc::Global;
 
-/// A node without one of its children, in whose place an empty list stands.
+/// A node without one of its children, in whose stead an empty list stands.
 #[derive(Drop)]
-pub enum Gap {
-    /// The items, and the place of the child.
+pub(crate) enum Gap {
+    /// The items, and the index of the child.
     Item(Items, usize),
     Member(Members),
 }
 
+/// What stands in a child's stead.
 fn hole(alloc: Global) -> Tree {
     Tree::List(Items::new(alloc))
 }
 
 /// Takes out the child that a token names.
-pub fn opened(alloc: Global, token: &Txt, tree: Tree) -> Result<(Gap, Tree), FailWhy>
-    ensures child { Gives (λ x. document x.1) Some result (below NoParent token.now (document tree)) }
-    ensures gap { IfOk result (λ x. IsGap x.0 token.now (document tree) (document x.1)) }
+pub(crate) fn open_gap(alloc: Global, token: &Txt, tree: Tree) -> Result<(Gap, Tree), FailWhy>
+    ensures child { Gives (λ x. document x.1) Some result
+        (below NoParent token.now (document tree)) }
+    ensures gap { IfOk result (λ x.
+        IsGap x.0 token.now (document tree) (document x.1)) }
 {
     match tree {
         Tree::Text(_) => Err(FailWhy::NoParent),
-        Tree::List(items) => opened_list(alloc, token, items),
-        Tree::Map(members) => opened_map(alloc, token, members),
+        Tree::List(items) => open_item(alloc, token, items),
+        Tree::Map(members) => open_member(alloc, token, members),
     }
 }
 
-fn opened_list(alloc: Global, token: &Txt, mut items: Items) -> Result<(Gap, Tree), FailWhy>
-    ensures child { Gives (λ x. document x.1) Some result (below NoParent token.now (list (items_of items))) }
-    ensures gap { IfOk result (λ x. IsGap x.0 token.now (list (items_of items)) (document x.1)) }
+/// Takes out the item that a token names.
+fn open_item(alloc: Global, token: &Txt, mut items: Items) -> Result<(Gap, Tree), FailWhy>
+    ensures child { Gives (λ x. document x.1) Some result
+        (below NoParent token.now (list (items_of items))) }
+    ensures gap { IfOk result (λ x.
+        IsGap x.0 token.now (list (items_of items)) (document x.1)) }
 {
-    let i = item_place(FailWhy::NoParent, token, &items)?;
+    let i = item_index(FailWhy::NoParent, token, &items)?;
     let child = items.replace(i, hole(alloc));
     Ok((Gap::Item(items, i), child))
 }
 
-fn opened_map(alloc: Global, token: &Txt, mut members: Members) -> Result<(Gap, Tree), FailWhy>
-    ensures child { Gives (λ x. document x.1) Some result (below NoParent token.now (object (members_of members))) }
-    ensures gap { IfOk result (λ x. IsGap x.0 token.now (object (members_of members)) (document x.1)) }
+/// Takes out the member that a token names.
+fn open_member(alloc: Global, token: &Txt, mut members: Members) -> Result<(Gap, Tree), FailWhy>
+    ensures child { Gives (λ x. document x.1) Some result
+        (below NoParent token.now (object (members_of members))) }
+    ensures gap { IfOk result (λ x.
+        IsGap x.0 token.now (object (members_of members)) (document x.1)) }
 {
     match members.replace(token.as_str(), hole(alloc)) {
         Ok(child) => Ok((Gap::Member(members), child)),
@@ -57,9 +66,9 @@ fn opened_map(alloc: Global, token: &Txt, mut members: Members) -> Result<(Gap, 
 }
 
 /// Puts a child in.
-pub fn closed(token: &Txt, gap: Gap, child: Tree) -> Tree
+pub(crate) fn close_gap(token: &Txt, gap: Gap, child: Tree) -> Tree
     requires { CanClose gap token.now }
-    ensures { document result ≡ filled gap token.now (document child) }
+    ensures { document result ≡ fill gap token.now (document child) }
 {
     match gap {
         Gap::Item(mut items, i) => {

@@ -1,25 +1,26 @@
 //! JSON Patch (RFC 6902) and JSON Pointer (RFC 6901) over trees of texts, lists and maps.
 #![tactic(auto)]
 
-mod applying;
-mod changing;
-mod edits;
 mod elements;
+mod errors;
 mod gaps;
-mod limiting;
-mod operating;
+mod indexes;
+mod laws;
+mod limits;
+mod node_edits;
 mod operations;
-mod places;
+mod patches;
+mod path_edits;
 mod pointers;
 mod reading;
-mod stopping;
-mod walking;
-mod weighing;
+mod walks;
+mod weights;
+mod writing;
 
-pub use applying::{ApplyError, FailWhy, apply, apply_plain};
-pub use operations::{Op, Patch};
-pub use pointers::{Pointer, PointerError, read_pointer};
-pub use reading::{PatchError, PatchWhy, read_patch};
-
-#[cfg(test)]
-mod tests;
+pub use errors::{ApplyError, FailWhy, PatchError, PatchWhy, PointerError};
+pub use laws::{patch_of_elements, patch_reads_back, same_is_equality, tokens_of_pointer};
+pub use operations::Op;
+pub use patches::{Patch, apply, apply_owned, apply_plain, apply_plain_owned};
+pub use pointers::{Pointer, read_pointer};
+pub use reading::read_patch;
+pub use writing::{operation_bytes, operation_tree, step_bytes};

@@ -216,14 +216,14 @@ items_end false n (range ∷ ranges) back items rest ts (x, y, e, item, more) so
 pub class_complete : (y : Bool × List (ℕ × ℕ)) (x rest : List Letter) (ts : List Token) → IsClass y x → lex Outside rest ≡ Some ts → lex Outside (x ++ rest) ≡ Some (Symbol y ∷ ts)
 class_complete y x rest ts k h =
     let end = λ (v : List Letter). k.items ++ (dash k.back ++ v) in
-    let moved : plain 91 ∷ (caret y.0 ++ (dash k.front ++ (k.items ++ (dash k.back ++ plain 93 ∷ [])))) ++ rest ≡ plain 91 ∷ (caret y.0 ++ (dash k.front ++ (k.items ++ (dash k.back ++ plain 93 ∷ rest)))) =
+    let shift : plain 91 ∷ (caret y.0 ++ (dash k.front ++ (k.items ++ (dash k.back ++ plain 93 ∷ [])))) ++ rest ≡ plain 91 ∷ (caret y.0 ++ (dash k.front ++ (k.items ++ (dash k.back ++ plain 93 ∷ rest)))) =
     ap (λ v. plain 91 ∷ v)
     (append_assoc (caret y.0) (dash k.front ++ (k.items ++ (dash k.back ++ plain 93 ∷ []))) rest
     ∙ ap (λ v. caret y.0 ++ v)
     (append_assoc (dash k.front) (k.items ++ (dash k.back ++ plain 93 ∷ [])) rest
     ∙ ap (λ v. dash k.front ++ v) (append_assoc k.items (dash k.back ++ plain 93 ∷ []) rest ∙ ap (λ v. k.items ++ v) (append_assoc (dash k.back) (plain 93 ∷ []) rest)))) in
     ap (λ v. lex Outside (v ++ rest)) k.letters
-    ∙ (ap (λ v. lex Outside v) moved
+    ∙ (ap (λ v. lex Outside v) shift
     ∙ (begin_run y.0 (dash k.front ++ (k.items ++ (dash k.back ++ plain 93 ∷ rest)))
     ∙ (items_end k.front y.0 k.middle k.back k.items rest ts k.are_items (λ z. k.some (k.ranges ∙ z)) k.unnegated h
     ∙ ap (λ v. Some (Symbol (y.0, v) ∷ ts)) (sym k.ranges))))

@@ -1,5 +1,5 @@
 -- Frames and what they stand for, by cases.
-use Rattle.std.proofs.Common.{◌≡◌, ◌<◌, ◌≤◌, ℕ, suc, Bool, List, [], ◌∷◌, ◌++◌, reverse, Option, Some, None, refl, sym, ap, ◌∙◌, subst, IsSomeAnd, length, arith}
+use Rattle.std.proofs.Common.{◌≡◌, ◌<◌, ◌≤◌, ℕ, suc, Bool, List, [], ◌∷◌, ◌++◌, reverse, Option, Some, None, refl, sym, ap, ◌∙◌, subst, IsSomeAnd, length}
 use Rattle.std.proofs.lemmas.List.{reverse-append, length-reverse}
 use Rattle.std.proofs.lemmas.Bool.{le-ltb, lt-ltb}
 use Rattle.yang_pattern.specs.declared.symbols.Quantifier.{Quantifier}
@@ -7,16 +7,16 @@ use Rattle.yang_pattern.specs.declared.parts.Part.{Part}
 use Rattle.yang_pattern.specs.declared.frames.Frame.{Frame}
 use Rattle.yang_pattern.specs.Pattern.{Branches, Branch, times, Atom, followed}
 use Rattle.yang_pattern.specs.Parts.{IsPatternPart, IsBranchPart, IsAtomPart}
-use Rattle.yang_pattern.specs.Reading.{Opened, Progress, joined, quantified, fresh, enter, finish, closed, AreChoices, IsLast, IsFrame, AreFrames}
+use Rattle.yang_pattern.specs.Reading.{Opened, Progress, join_branches, quantify, fresh, enter, finish, AreChoices, IsLast, IsFrame, AreFrames}
 
 pub joined_none : (r : ℕ → ℕ → Bool) (cs : Option Part) (os : Option Branches) (part : Part) (b : Branch) → cs ≡ None → AreChoices r cs os → IsBranchPart r part b
-    → IsPatternPart r part (joined os b)
+    → IsPatternPart r part (join_branches os b)
 joined_none r cs None part b e h is = is
 joined_none r cs (Some bs) part b e h is = absurd (subst (λ (x : Option Part). AreChoices r x (Some bs)) e h)
 
 pub quantified_some : (r : ℕ → ℕ → Bool) (last : Option Part) (atom : Part) (choices : Option Part) (part : Part) (os : Option Branches) (b : Branch) (a : Option Atom) (q : Quantifier)
     → last ≡ Some atom → AreChoices r choices os → IsLast r last a → ((d : Atom) → IsAtomPart r atom d → IsBranchPart r part (followed b (times d q)))
-    → IsSomeAnd (quantified os b q a) (λ n. IsFrame r (record { choices = choices; branch = part; last = None }) n)
+    → IsSomeAnd (quantify os b q a) (λ n. IsFrame r (record { choices = choices; branch = part; last = None }) n)
 quantified_some r last atom choices part os b None q e c h more = absurd (subst (λ (x : Option Part). IsLast r x None) e h)
 quantified_some r last atom choices part os b (Some d) q e c h more =
     record { choices = c; branch = more d (subst (λ (x : Option Part). IsLast r x (Some d)) e h); last = tt }
@@ -43,7 +43,3 @@ stack_push r fs new f os o e is h = rw (e, reverse-append fs (f ∷ [])) (is, h)
 pub finish_open : (r : ℕ → ℕ → Bool) (fs : List Frame) (os : List Opened) (o : Opened) → (length fs ≡ 0 → ⊥) → AreFrames r (reverse fs) os → finish o os ≡ None
 finish_open r fs [] o full h = absurd (full (stack_length r fs [] h))
 finish_open r fs (p ∷ os) o full h = refl
-
-pub finish_closed : (r : ℕ → ℕ → Bool) (fs : List Frame) (os : List Opened) (o : Opened) → length fs ≡ 0 → AreFrames r (reverse fs) os → finish o os ≡ Some (closed o)
-finish_closed r fs [] o empty h = refl
-finish_closed r fs (p ∷ os) o empty h = let e = stack_length r fs (p ∷ os) h in absurd (omega arith)

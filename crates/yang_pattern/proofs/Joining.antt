@@ -3,7 +3,7 @@ use Rattle.std.proofs.Common.{◌≡◌, ℕ, ◌+◌, ◌-◌, ◌<◌, ◌≤�
 use Rattle.std.proofs.lemmas.Bool.{cases_lt, le-leb, lt-leb}
 use Rattle.yang_pattern.specs.declared.fragments.Place.{Place}
 use Rattle.yang_pattern.specs.declared.sets.Places.{Places}
-use Rattle.yang_pattern.specs.PlaceSets.{contains, place_at, IsAppended, IsMoved, IsLinked, IsWithin}
+use Rattle.yang_pattern.specs.PlaceSets.{contains, place_at, IsAppended, IsShifted, IsLedOn, IsWithin}
 use Rattle.yang_pattern.specs.Machine.{machine_from}
 use Rattle.yang_pattern.proofs.Languages.{IsJoined, IsEither, IsAgain}
 
@@ -20,14 +20,14 @@ or_false true = refl
 or_false false = refl
 
 -- a set moved up by n has nothing below n, and beyond n what the set has
-module _ (n : ℕ) (old new : ℕ → Bool) (moved : (q : ℕ) → q < 1024 → new q ≡ (leb n q && old (q - n))) where
+module _ (n : ℕ) (old new : ℕ → Bool) (shift : (q : ℕ) → q < 1024 → new q ≡ (leb n q && old (q - n))) where
   pub moved_low : (q : ℕ) → n ≤ 1024 → q < n → new q ≡ false
-  moved_low q top h = moved q (omega arith) ∙ ap (λ b. b && old (q - n)) (lt-leb n q h)
+  moved_low q top h = shift q (omega arith) ∙ ap (λ b. b && old (q - n)) (lt-leb n q h)
 
   pub moved_high : (q : ℕ) → n + q < 1024 → new (n + q) ≡ old q
   moved_high q h =
       let back : n + q - n ≡ q = omega arith in
-      moved (n + q) h ∙ ap (λ b. b && old (n + q - n)) (le-leb n (n + q) (omega arith)) ∙ ap old back
+      shift (n + q) h ∙ ap (λ b. b && old (n + q - n)) (le-leb n (n + q) (omega arith)) ∙ ap old back
 
 -- the places of two fragments, the second moved behind the first, which may have been linked
 module _ (a b : List Place) (fits : length a + length b ≤ 1024) (linked : List Place) (same : length linked ≡ length a) (c : List Place) (appended : IsAppended linked b c) where
@@ -37,8 +37,8 @@ module _ (a b : List Place) (fits : length a + length b ≤ 1024) (linked : List
   pub left_is : (p : ℕ) → p < length a → place_at c p ≡ place_at linked p
   left_is p h = appended.before p (omega arith)
 
-  pub right_is : (p : ℕ) → p < length b → IsMoved (length a) (place_at b p) (place_at c (length a + p))
-  right_is p h = subst (λ n. IsMoved n (place_at b p) (place_at c (n + p))) same (appended.behind p h)
+  pub right_is : (p : ℕ) → p < length b → IsShifted (length a) (place_at b p) (place_at c (length a + p))
+  right_is p h = subst (λ n. IsShifted n (place_at b p) (place_at c (n + p))) same (appended.behind p h)
 
   pub right_at : (p q : ℕ) → p < length b → length a + q < 1024 → contains (place_at c (length a + p)).follow (length a + q) ≡ contains (place_at b p).follow q
   right_at p q h l = moved_high (length a) (contains (place_at b p).follow) (contains (place_at c (length a + p)).follow) (right_is p h).follow q l
@@ -59,7 +59,7 @@ module _ (a b : List Place) (fits : length a + length b ≤ 1024) (fa fb : Place
       let e : length a + (q - length a) ≡ q = omega arith in
       subst (λ n. contains entered n ≡ false) e (entered_high (q - length a) (omega arith) ∙ wb.0 (q - length a) (omega arith) (omega arith))
 
-  module _ (eb : Bool) (linked : List Place) (same : length linked ≡ length a) (links : (k : ℕ) → k < length a → IsLinked entered eb (place_at a k) (place_at linked k)) (c : List Place) (appended : IsAppended linked b c) where
+  module _ (eb : Bool) (linked : List Place) (same : length linked ≡ length a) (links : (k : ℕ) → k < length a → IsLedOn entered eb (place_at a k) (place_at linked k)) (c : List Place) (appended : IsAppended linked b c) where
     linked_at : (p q : ℕ) → p < length a → q < 1024 → contains (place_at c p).follow q ≡ (contains (place_at a p).follow q || ((place_at a p).last && contains entered q))
     linked_at p q h l = ap (λ (x : Place). contains x.follow q) (left_is a b fits linked same c appended p h) ∙ (links p h).follow q l
 
@@ -137,7 +137,7 @@ module _ (a b : List Place) (fits : length a + length b ≤ 1024) (fa fb : Place
         )
 
 -- places that may begin again
-module _ (a : List Place) (fa : Places) (wa : IsWithin a fa) (c : List Place) (same : length c ≡ length a) (small : length a ≤ 1024) (links : (k : ℕ) → k < length a → IsLinked fa true (place_at a k) (place_at c k)) where
+module _ (a : List Place) (fa : Places) (wa : IsWithin a fa) (c : List Place) (same : length c ≡ length a) (small : length a ≤ 1024) (links : (k : ℕ) → k < length a → IsLedOn fa true (place_at a k) (place_at c k)) where
   pub again : (r : ℕ → ℕ → Bool) (e : Bool) → IsAgain (machine_from r a fa e) (machine_from r c fa e)
   again r e = record {
     count = same;

@@ -1,5 +1,5 @@
 -- One character of a text.
-use Rattle.std.proofs.Common.{◌≡◌, ℕ, Bool, true, false, ◌&&◌, not, eqb, List, [], ◌∷◌, ◌++◌, Option, Some, None, option_map, option_and_then, refl, sym, ap, ◌∙◌, append_assoc, append-nil, length, chars, arith}
+use Rattle.std.proofs.Common.{◌≡◌, ℕ, Bool, true, false, ◌&&◌, not, eqb, List, [], ◌∷◌, ◌++◌, Option, Some, None, option_map, option_and_then, refl, sym, ap, ◌∙◌, append-nil, length, chars, arith}
 use Rattle.std.proofs.lemmas.Str.{chars-nil}
 use Rattle.yang_pattern.specs.declared.errors.PatternError.{PatternError}
 use Rattle.yang_pattern.specs.declared.errors.PatternError.TheVariants.{Bad, Memory}
@@ -19,21 +19,6 @@ not_both false a h = refl
 pub letters_other : (a : Bool) (c : ℕ) (cs : List ℕ) → (c ≡ 92 → a ≡ false → ⊥)
     → letters_from a (c ∷ cs) ≡ option_and_then (λ l. option_map (λ ls. l ∷ ls) (letters_from false cs)) (letter_of a c)
 letters_other a c cs h = rw (not_both (eqb c 92) a (λ e. h (eqb-true c 92 e))) refl
-
-map_pushed : (old new : List Letter) (l : Letter) (o : Option (List Letter)) → new ≡ old ++ l ∷ [] → option_map (λ ls. new ++ ls) o ≡ option_map (λ ls. old ++ ls) (option_map (λ ls. l ∷ ls) o)
-map_pushed old new l None e = refl
-map_pushed old new l (Some xs) e = ap Some (ap (λ v. v ++ xs) e ∙ append_assoc old (l ∷ []) xs)
-
--- a letter more
-pub letter_pushed : (a : Bool) (c : ℕ) (l : Letter) (old new : List Letter) (cs : List ℕ) → (c ≡ 92 → a ≡ false → ⊥) → letter_of a c ≡ Some l → new ≡ old ++ l ∷ []
-    → option_map (λ ls. new ++ ls) (letters_from false cs) ≡ option_map (λ ls. old ++ ls) (letters_from a (c ∷ cs))
-letter_pushed a c l old new cs other is e =
-    map_pushed old new l (letters_from false cs) e
-    ∙ ap (λ o. option_map (λ ls. old ++ ls) o) (sym (letters_other a c cs other ∙ ap (λ o. option_and_then (λ l. option_map (λ ls. l ∷ ls) (letters_from false cs)) o) is))
-
--- no letter
-pub no_letter : (a : Bool) (c : ℕ) (cs : List ℕ) → (c ≡ 92 → a ≡ false → ⊥) → letter_of a c ≡ None → letters_from a (c ∷ cs) ≡ None
-no_letter a c cs other is = letters_other a c cs other ∙ ap (λ o. option_and_then (λ l. option_map (λ ls. l ∷ ls) (letters_from false cs)) o) is
 
 pub chars_none : (bs : List ℕ) → length bs ≡ 0 → chars bs ≡ []
 chars_none [] e = chars-nil

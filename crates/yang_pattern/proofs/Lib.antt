@@ -8,10 +8,10 @@ pub mod FrameLemmas
 pub mod Parsing
 pub mod Written
 pub mod LetterSteps
-pub mod LexSteps
 pub mod Unique
 pub mod TextLetters
 pub mod LexRuns
 pub mod CountLetters
 pub mod ClassLetters
 pub mod TokenLetters
+pub mod Nothing

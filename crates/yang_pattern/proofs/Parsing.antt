@@ -4,10 +4,8 @@ use Rattle.std.proofs.lemmas.Bool.{lt-ltb}
 use Rattle.yang_pattern.specs.declared.symbols.Token.{Token}
 use Rattle.yang_pattern.specs.declared.symbols.Token.TheVariants.{Open, Close, Bar, Times}
 use Rattle.yang_pattern.specs.Pattern.{Branches, one, or, Branch, none, followed, once, times, Atom, symbol, group, nesting, branch_nesting, atom_nesting, tokens_of, branch_tokens, atom_tokens}
-use Rattle.yang_pattern.specs.Reading.{Opened, Progress, fresh, settled, closed, with_atom, read, run, start, IsReader}
-use Rattle.yang_pattern.specs.declared.parts.Part.{Part}
+use Rattle.yang_pattern.specs.Reading.{Opened, Progress, fresh, settle, close, with_atom, read, run, start, IsReader}
 use Rattle.yang_pattern.specs.declared.frames.Reader.{Reader}
-use Rattle.yang_pattern.specs.Parts.{IsPatternPart}
 
 abbrev at : Opened → List Opened → Progress
 at o outer = record { current = o; outer = outer }
@@ -23,7 +21,7 @@ opened_choices cs none = refl
 opened_choices cs (followed b (once a)) = refl
 opened_choices cs (followed b (times a q)) = refl
 
-opened_settled : (cs : Option Branches) (b : Branch) → settled (opened_branch cs b).branch (opened_branch cs b).last ≡ b
+opened_settled : (cs : Option Branches) (b : Branch) → settle (opened_branch cs b).branch (opened_branch cs b).last ≡ b
 opened_settled cs none = refl
 opened_settled cs (followed b (once a)) = refl
 opened_settled cs (followed b (times a q)) = refl
@@ -32,7 +30,7 @@ abbrev opened_branches : Branches → Opened
 opened_branches (one b) = opened_branch None b
 opened_branches (or bs b) = opened_branch (Some bs) b
 
-opened_closed : (bs : Branches) → closed (opened_branches bs) ≡ bs
+opened_closed : (bs : Branches) → close (opened_branches bs) ≡ bs
 opened_closed (one b) = rw (opened_choices None b, opened_settled None b) refl
 opened_closed (or bs b) = rw (opened_choices (Some bs) b, opened_settled (Some bs) b) refl
 
@@ -46,7 +44,7 @@ mutual
   read_branches (or bs b) rest outer h =
       rw (append_assoc (tokens_of bs) (Bar ∷ branch_tokens b) rest)
       (read_branches bs (Bar ∷ (branch_tokens b ++ rest)) outer (omega arith)
-      ∙ (let closes : closed (opened_branches bs) ≡ bs = opened_closed bs in
+      ∙ (let closes : close (opened_branches bs) ≡ bs = opened_closed bs in
       ap (λ cs. run (branch_tokens b ++ rest) (at (record { choices = Some cs; branch = none; last = None }) outer)) closes
       ∙ read_branch b rest (Some bs) outer (omega arith)))
 
@@ -91,10 +89,6 @@ module _ (r : ℕ → ℕ → Bool) (t : Token) (rest : List Token) (s : Progres
   -- it can't stand here
   pub run_stop : read t s ≡ None → whole ≡ None
   run_stop h = sym is ∙ ap (λ o. option_and_then (λ n. run rest n) o) h
-
-pub finish_some : (r : ℕ → ℕ → Bool) (part : Part) (o whole : Option Branches) → o ≡ whole → IsSomeAnd o (λ bs. IsPatternPart r part bs) → (bs : Branches) × (whole ≡ Some bs) × IsPatternPart r part bs
-finish_some r part None whole e h = absurd h
-finish_some r part (Some bs) whole e h = (bs, sym e, h)
 
 -- the element of a list at a place
 pub element_at : {A : Type 0} (xs : List A) (i : ℕ) (d : A) → i < length xs → slice_get xs i ≡ Some (get_or xs i d)

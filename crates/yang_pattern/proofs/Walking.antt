@@ -1,6 +1,6 @@
 -- One step of a walk: what may follow the places that read a character.
-use Rattle.std.proofs.Common.{◌≡◌, ℕ, ◌+◌, ◌<◌, Bool, false, ◌||◌, ◌⊎◌, List, [], ◌∷◌, sym, ◌∙◌, subst, inl, inr, arith, ◌↔◌, IsTrue}
-use Rattle.std.proofs.lemmas.Bool.{cases_lt, or_cases, or_left, or_right, false≢true}
+use Rattle.std.proofs.Common.{◌≡◌, ℕ, ◌+◌, ◌<◌, Bool, ◌||◌, ◌⊎◌, List, [], ◌∷◌, sym, ◌∙◌, subst, inl, inr, arith, ◌↔◌, IsTrue}
+use Rattle.std.proofs.lemmas.Bool.{cases_lt, or_cases, or_left, or_right}
 use Rattle.yang_pattern.specs.Machine.{Machine, After, From}
 
 -- the places below i that read the character, each with what follows it
@@ -54,8 +54,3 @@ module _ (m : Machine) (next old : ℕ → Bool) (e : Bool) (c i : ℕ) (so_far 
               absurd (not (subst (λ k. IsTrue (next k)) same there) (subst (λ k. IsTrue (m.reads k c)) same reads))
         ],
   )
-
--- before the first place nothing is reached
-pub visited_none : (m : Machine) (next none : ℕ → Bool) (c : ℕ) → ((q : ℕ) → none q ≡ false) → (u : List ℕ) → From m none false u ↔ Visited m next c 0 u
-visited_none m next none c is [] = (λ h. absurd (false≢true h), λ (p, low, there, reads, more). absurd (omega arith))
-visited_none m next none c is (d ∷ u) = (λ (q, within, here, read, more). absurd (false≢true (sym (is q) ∙ here)), λ (p, low, there, reads, more). absurd (omega arith))

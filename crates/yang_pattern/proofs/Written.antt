@@ -5,7 +5,7 @@ use Rattle.yang_pattern.specs.declared.symbols.Quantifier.{Quantifier}
 use Rattle.yang_pattern.specs.declared.symbols.Token.{Token}
 use Rattle.yang_pattern.specs.declared.symbols.Token.TheVariants.{Open, Close, Bar, Times, Symbol}
 use Rattle.yang_pattern.specs.Pattern.{Branches, Branch, followed, times, Atom, symbol, group, nesting, branch_nesting, atom_nesting, tokens_of, branch_tokens, atom_tokens}
-use Rattle.yang_pattern.specs.Reading.{Opened, Progress, fresh, settled, joined, closed, with_atom, with_bar, quantified, with_times, leave, enter, read, finish, run, start}
+use Rattle.yang_pattern.specs.Reading.{Opened, Progress, fresh, settle, join_branches, close, with_atom, with_bar, quantify, with_times, leave, enter, read, finish, run, start}
 
 abbrev choices_tokens : Option Branches → List Token
 choices_tokens None = []
@@ -25,16 +25,16 @@ all_written (o ∷ os) = (all_written os ++ written o) ++ Open ∷ []
 abbrev so_far : Progress → List Token
 so_far s = all_written s.outer ++ written s.current
 
-settled_tokens : (b : Branch) (l : Option Atom) → branch_tokens (settled b l) ≡ branch_tokens b ++ last_tokens l
+settled_tokens : (b : Branch) (l : Option Atom) → branch_tokens (settle b l) ≡ branch_tokens b ++ last_tokens l
 settled_tokens b None = sym (append-nil (branch_tokens b))
 settled_tokens b (Some a) = refl
 
-joined_tokens : (cs : Option Branches) (b : Branch) → tokens_of (joined cs b) ≡ choices_tokens cs ++ branch_tokens b
+joined_tokens : (cs : Option Branches) (b : Branch) → tokens_of (join_branches cs b) ≡ choices_tokens cs ++ branch_tokens b
 joined_tokens None b = refl
 joined_tokens (Some bs) b = sym (append_assoc (tokens_of bs) (Bar ∷ []) (branch_tokens b))
 
-closed_tokens : (o : Opened) → tokens_of (closed o) ≡ written o
-closed_tokens o = joined_tokens o.choices (settled o.branch o.last) ∙ ap (λ ts. choices_tokens o.choices ++ ts) (settled_tokens o.branch o.last)
+closed_tokens : (o : Opened) → tokens_of (close o) ≡ written o
+closed_tokens o = joined_tokens o.choices (settle o.branch o.last) ∙ ap (λ ts. choices_tokens o.choices ++ ts) (settled_tokens o.branch o.last)
 
 atom_written : (o : Opened) (a : Atom) → written (with_atom o a) ≡ written o ++ atom_tokens a
 atom_written o a =
@@ -42,9 +42,9 @@ atom_written o a =
     ∙ sym (append_assoc (choices_tokens o.choices) (branch_tokens o.branch ++ last_tokens o.last) (atom_tokens a))
 
 bar_written : (o : Opened) → written (with_bar o) ≡ written o ++ Bar ∷ []
-bar_written o = append-nil (tokens_of (closed o) ++ Bar ∷ []) ∙ ap (λ ts. ts ++ Bar ∷ []) (closed_tokens o)
+bar_written o = append-nil (tokens_of (close o) ++ Bar ∷ []) ∙ ap (λ ts. ts ++ Bar ∷ []) (closed_tokens o)
 
-times_written : (cs : Option Branches) (b : Branch) (q : Quantifier) (l : Option Atom) (n : Opened) → quantified cs b q l ≡ Some n
+times_written : (cs : Option Branches) (b : Branch) (q : Quantifier) (l : Option Atom) (n : Opened) → quantify cs b q l ≡ Some n
     → written n ≡ (choices_tokens cs ++ (branch_tokens b ++ last_tokens l)) ++ Times q ∷ []
 times_written cs b q None n e = cc e
 times_written cs b q (Some a) n e =
@@ -55,9 +55,9 @@ times_written cs b q (Some a) n e =
 leave_written : (o : Opened) (outer : List Opened) (n : Progress) → leave o outer ≡ Some n → so_far n ≡ (all_written outer ++ written o) ++ Close ∷ []
 leave_written o [] n e = cc e
 leave_written o (p ∷ outer) n e =
-    let is : record { current = with_atom p (group (closed o)); outer = outer } ≡ n = cc e in
+    let is : record { current = with_atom p (group (close o)); outer = outer } ≡ n = cc e in
     subst (λ (m : Progress). so_far m ≡ (all_written (p ∷ outer) ++ written o) ++ Close ∷ []) is
-    (ap (λ ts. all_written outer ++ ts) (atom_written p (group (closed o)) ∙ ap (λ ts. written p ++ Open ∷ (ts ++ Close ∷ [])) (closed_tokens o))
+    (ap (λ ts. all_written outer ++ ts) (atom_written p (group (close o)) ∙ ap (λ ts. written p ++ Open ∷ (ts ++ Close ∷ [])) (closed_tokens o))
     ∙ simp append_assoc refl)
 
 entered_by : (b : Bool) (m n : Progress) → cond b (Some m) None ≡ Some n → (b ≡ true) × (n ≡ m)
@@ -98,7 +98,7 @@ read_written (Symbol y) s n e =
 
 finish_written : (o : Opened) (outer : List Opened) (bs : Branches) → finish o outer ≡ Some bs → tokens_of bs ≡ all_written outer ++ written o
 finish_written o [] bs e =
-    let is : closed o ≡ bs = cc e in
+    let is : close o ≡ bs = cc e in
     subst (λ (x : Branches). tokens_of x ≡ written o) is (closed_tokens o)
 finish_written o (p ∷ outer) bs e = cc e
 
@@ -130,21 +130,21 @@ AllShallow (o ∷ os) = IsShallow o (length os) × AllShallow os
 abbrev Shallow : Progress → Type 0
 Shallow s = IsShallow s.current (length s.outer) × AllShallow s.outer
 
-settled_shallow : (b : Branch) (l : Option Atom) (n : ℕ) → branch_nesting b + n ≤ 32 → last_nesting l + n ≤ 32 → branch_nesting (settled b l) + n ≤ 32
+settled_shallow : (b : Branch) (l : Option Atom) (n : ℕ) → branch_nesting b + n ≤ 32 → last_nesting l + n ≤ 32 → branch_nesting (settle b l) + n ≤ 32
 settled_shallow b None n h k = h
 settled_shallow b (Some a) n h k = omega arith
 
-joined_shallow : (cs : Option Branches) (b : Branch) (n : ℕ) → choices_nesting cs + n ≤ 32 → branch_nesting b + n ≤ 32 → nesting (joined cs b) + n ≤ 32
+joined_shallow : (cs : Option Branches) (b : Branch) (n : ℕ) → choices_nesting cs + n ≤ 32 → branch_nesting b + n ≤ 32 → nesting (join_branches cs b) + n ≤ 32
 joined_shallow None b n h k = k
 joined_shallow (Some bs) b n h k = omega arith
 
-closed_shallow : (o : Opened) (n : ℕ) → IsShallow o n → nesting (closed o) + n ≤ 32
-closed_shallow o n h = joined_shallow o.choices (settled o.branch o.last) n h.choices (settled_shallow o.branch o.last n h.branch h.last)
+closed_shallow : (o : Opened) (n : ℕ) → IsShallow o n → nesting (close o) + n ≤ 32
+closed_shallow o n h = joined_shallow o.choices (settle o.branch o.last) n h.choices (settled_shallow o.branch o.last n h.branch h.last)
 
 atom_shallow : (o : Opened) (a : Atom) (n : ℕ) → IsShallow o n → atom_nesting a + n ≤ 32 → IsShallow (with_atom o a) n
 atom_shallow o a n h k = record { choices = h.choices; branch = settled_shallow o.branch o.last n h.branch h.last; last = k }
 
-times_shallow : (cs : Option Branches) (b : Branch) (q : Quantifier) (l : Option Atom) (m : Opened) (n : ℕ) → quantified cs b q l ≡ Some m
+times_shallow : (cs : Option Branches) (b : Branch) (q : Quantifier) (l : Option Atom) (m : Opened) (n : ℕ) → quantify cs b q l ≡ Some m
     → choices_nesting cs + n ≤ 32 → branch_nesting b + n ≤ 32 → last_nesting l + n ≤ 32 → IsShallow m n
 times_shallow cs b q None m n e h k j = cc e
 times_shallow cs b q (Some a) m n e h k j =
@@ -154,9 +154,9 @@ times_shallow cs b q (Some a) m n e h k j =
 leave_shallow : (o : Opened) (outer : List Opened) (n : Progress) → leave o outer ≡ Some n → IsShallow o (length outer) → AllShallow outer → Shallow n
 leave_shallow o [] n e h k = cc e
 leave_shallow o (p ∷ outer) n e h k =
-    let is : record { current = with_atom p (group (closed o)); outer = outer } ≡ n = cc e in
+    let is : record { current = with_atom p (group (close o)); outer = outer } ≡ n = cc e in
     let deep = closed_shallow o (suc (length outer)) h in
-    subst Shallow is (atom_shallow p (group (closed o)) (length outer) k.0 (omega arith), k.1)
+    subst Shallow is (atom_shallow p (group (close o)) (length outer) k.0 (omega arith), k.1)
 
 read_shallow : (t : Token) (s n : Progress) → read t s ≡ Some n → Shallow s → Shallow n
 read_shallow Open s n e h =
@@ -177,7 +177,7 @@ read_shallow (Symbol y) s n e h =
 
 finish_shallow : (o : Opened) (outer : List Opened) (bs : Branches) → finish o outer ≡ Some bs → IsShallow o (length outer) → nesting bs ≤ 32
 finish_shallow o [] bs e h =
-    let is : closed o ≡ bs = cc e in
+    let is : close o ≡ bs = cc e in
     let deep = closed_shallow o 0 h in
     subst (λ (x : Branches). nesting x ≤ 32) is (omega arith)
 finish_shallow o (p ∷ outer) bs e h = cc e

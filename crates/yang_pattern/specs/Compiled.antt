@@ -8,4 +8,6 @@ use Rattle.yang_pattern.specs.Language.{SpellsWithin}
 
 -- the machine takes what the pattern of the text matches
 abbrev pub IsCompiled : Inside → Type 0
-IsCompiled p = (bs : Branches) × SpellsWithin (chars (string_bytes p.text)) bs × ((u : List ℕ) → Takes (machine_of (reads_token p.tokens.items) p.whole) u ↔ Matches bs u)
+IsCompiled p =
+    (bs : Branches) × SpellsWithin (chars (string_bytes p.text)) bs
+    × ((u : List ℕ) → Takes (machine_of (reads_token p.tokens.items) p.whole) u ↔ Matches bs u)

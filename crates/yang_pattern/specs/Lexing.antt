@@ -11,21 +11,61 @@ use Rattle.yang_pattern.specs.declared.counts.OpenCount.TheVariants.{First}
 use Rattle.yang_pattern.specs.declared.tokens.Mode.{Mode}
 use Rattle.yang_pattern.specs.declared.tokens.Mode.TheVariants.{Outside, Class, Count}
 use Rattle.yang_pattern.specs.declared.tokens.Step.{Step}
+use Rattle.yang_pattern.specs.Characters.{line_feed, carriage_return, open_group, close_group, bar, star, plus, question_mark}
+use Rattle.yang_pattern.specs.Characters.{full_stop, open_bracket, close_bracket, open_brace, close_brace}
 use Rattle.yang_pattern.specs.Classes.{class_with, class_close}
 use Rattle.yang_pattern.specs.Counts.{count_with, count_close}
 
+-- the symbol of one character
+abbrev pub single : ℕ → Bool × List (ℕ × ℕ)
+single c = (false, (c, c) ∷ [])
+
+-- the symbol of `.`: all characters but line feed and carriage return
+abbrev pub any : Bool × List (ℕ × ℕ)
+any = (true, (line_feed, line_feed) ∷ (carriage_return, carriage_return) ∷ [])
+
 -- a character that is a token
 abbrev pub token_at : ℕ → Token
-token_at c = if c == 40 then Open else (if c == 41 then Close else (if c == 124 then Bar else (if c == 42 then Times (AtLeast 0) else (if c == 43 then Times OneOrMore else (if c == 63 then Times (Between 0 1) else (if c == 46 then Symbol (true, (10, 10) ∷ (13, 13) ∷ []) else Symbol (false, (c, c) ∷ [])))))))
+token_at c =
+    if c == open_group then Open
+    else if c == close_group then Close
+    else if c == bar then Bar
+    else if c == star then Times (AtLeast 0)
+    else if c == plus then Times OneOrMore
+    else if c == question_mark then Times (Between 0 1)
+    else if c == full_stop then Symbol any
+    else Symbol (single c)
 
+-- a letter that opens something and is no token yet
+abbrev pub begins : Mode → Option Step
+begins mode = Some (record { mode = mode; token = None })
+
+-- a letter that ends a token
+abbrev pub ends : Token → Option Step
+ends token = Some (record { mode = Outside; token = Some token })
+
+-- a letter outside classes and braces
 abbrev pub outside : Letter → Option Step
-outside l = if l.escaped then Some (record { mode = Outside; token = Some (Symbol (false, (l.character, l.character) ∷ [])) }) else (if l.character == 91 then Some (record { mode = Class (false, [], Start); token = None }) else (if l.character == 123 then Some (record { mode = Count (First None); token = None }) else (if (l.character == 93 || l.character == 125) then None else Some (record { mode = Outside; token = Some (token_at l.character) }))))
+outside l =
+    if l.escaped then ends (Symbol (single l.character))
+    else if l.character == open_bracket then begins (Class (false, [], Start))
+    else if l.character == open_brace then begins (Count (First None))
+    else if l.character == close_bracket || l.character == close_brace then None
+    else ends (token_at l.character)
 
+-- a letter in a class
 abbrev pub in_class : Bool × List (ℕ × ℕ) × Item → Letter → Option Step
-in_class k l = if (l.character == 93 && not l.escaped) then option_map (λ y. record { mode = Outside; token = Some (Symbol y) }) (class_close k) else option_map (λ n. record { mode = Class n; token = None }) (class_with k l)
+in_class k l =
+    if l.character == close_bracket && not l.escaped
+    then option_map (λ y. record { mode = Outside; token = Some (Symbol y) }) (class_close k)
+    else option_map (λ n. record { mode = Class n; token = None }) (class_with k l)
 
+-- a letter in braces
 abbrev pub in_count : OpenCount → Letter → Option Step
-in_count k l = if (l.character == 125 && not l.escaped) then option_map (λ q. record { mode = Outside; token = Some (Times q) }) (count_close k) else option_map (λ n. record { mode = Count n; token = None }) (count_with k l)
+in_count k l =
+    if l.character == close_brace && not l.escaped
+    then option_map (λ q. record { mode = Outside; token = Some (Times q) }) (count_close k)
+    else option_map (λ n. record { mode = Count n; token = None }) (count_with k l)
 
 -- one letter
 abbrev pub advance : Mode → Letter → Option Step
@@ -42,4 +82,7 @@ lex_end (Count k) = None
 -- all letters
 abbrev pub lex : Mode → List Letter → Option (List Token)
 lex m [] = lex_end m
-lex m (l ∷ ls) = option_and_then (λ step. option_map (λ ts. option_to_list step.token ++ ts) (lex step.mode ls)) (advance m l)
+lex m (l ∷ ls) =
+    option_and_then
+    (λ step. option_map (λ ts. option_to_list step.token ++ ts) (lex step.mode ls))
+    (advance m l)

@@ -1,15 +1,19 @@
-pub mod Symbols
-pub mod PlaceSets
-pub mod Machine
-pub mod Pattern
-pub mod Parts
-pub mod Reading
+-- What public clauses cite.
+pub mod Characters
 pub mod Errors
 pub mod Escapes
-pub mod Letters
 pub mod Grammar
-pub mod Classes
-pub mod Counts
-pub mod Lexing
 pub mod Language
+pub mod Limits
+pub mod Pattern
+pub mod Symbols
+-- What only private clauses and the models cite.
+pub mod Classes
 pub mod Compiled
+pub mod Counts
+pub mod Letters
+pub mod Lexing
+pub mod Machine
+pub mod Parts
+pub mod PlaceSets
+pub mod Reading

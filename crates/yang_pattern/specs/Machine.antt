@@ -1,5 +1,5 @@
 -- Machines that read a text place by place, and the texts that they take.
-use Rattle.std.specs.Prelude.{◌≡◌, ℕ, ◌<◌, Bool, IsTrue, List, [], ◌∷◌, ◌++◌, length}
+use Rattle.std.specs.Prelude.{◌≡◌, ◌↔◌, ◌⊎◌, ℕ, suc, ◌<◌, Bool, false, IsTrue, List, [], ◌∷◌, ◌++◌, length}
 use Rattle.yang_pattern.specs.declared.sets.Places.{Places}
 use Rattle.yang_pattern.specs.declared.fragments.Place.{Place}
 use Rattle.yang_pattern.specs.declared.fragments.Fragment.{Fragment}
@@ -21,12 +21,14 @@ pub record Machine : Type 0 where
 -- what may be read after the place p
 abbrev pub After : Machine → ℕ → List ℕ → Type 0
 After m p [] = IsTrue (m.last p)
-After m p (c ∷ u) = (q : ℕ) × (q < m.count) × IsTrue (m.follow p q) × IsTrue (m.reads q c) × After m q u
+After m p (c ∷ u) =
+    (q : ℕ) × (q < m.count) × IsTrue (m.follow p q) × IsTrue (m.reads q c) × After m q u
 
 -- what may be read where the places of a set come next, and `ended` says whether the text may end
 abbrev pub From : Machine → (ℕ → Bool) → Bool → List ℕ → Type 0
 From m next ended [] = IsTrue ended
-From m next ended (c ∷ u) = (q : ℕ) × (q < m.count) × IsTrue (next q) × IsTrue (m.reads q c) × After m q u
+From m next ended (c ∷ u) =
+    (q : ℕ) × (q < m.count) × IsTrue (next q) × IsTrue (m.reads q c) × After m q u
 
 -- the texts that a machine takes
 abbrev pub Takes : Machine → List ℕ → Type 0
@@ -54,3 +56,32 @@ Both P Q u = (x : List ℕ) × (y : List ℕ) × (u ≡ x ++ y) × P x × Q y
 -- as often as a quantifier allows, a text of P
 abbrev pub Times : (List ℕ → Type 0) → Quantifier → List ℕ → Type 0
 Times P quantifier u = (n : ℕ) × Allows quantifier n × Repeated P n u
+
+-- the texts that a fragment takes
+abbrev pub texts_of : (ℕ → ℕ → Bool) → Fragment → List ℕ → Type 0
+texts_of r f = Takes (machine_of r f)
+
+-- a fragment takes the texts of a language
+abbrev pub HasLanguage : Fragment → ((ℕ → ℕ → Bool) → List ℕ → Type 0) → Type 0
+HasLanguage f language = (r : ℕ → ℕ → Bool) (u : List ℕ) → Takes (machine_of r f) u ↔ language r u
+
+-- one character, which the symbol of a token accepts
+abbrev pub OneOf : ℕ → (ℕ → ℕ → Bool) → List ℕ → Type 0
+OneOf token r u = (c : ℕ) × (u ≡ c ∷ []) × IsTrue (r token c)
+
+-- one or more texts of P, one after another
+abbrev pub SomeOf : (List ℕ → Type 0) → List ℕ → Type 0
+SomeOf P u = (n : ℕ) × Repeated P (suc n) u
+
+-- the empty text, or one of P
+abbrev pub OrNothing : (List ℕ → Type 0) → List ℕ → Type 0
+OrNothing P u = (u ≡ []) ⊎ P u
+
+-- a text of P or one of Q
+abbrev pub Either : (List ℕ → Type 0) → (List ℕ → Type 0) → List ℕ → Type 0
+Either P Q u = P u ⊎ Q u
+
+-- the texts behind a character are those that may come next
+abbrev pub IsStep : (ℕ → ℕ → Bool) → Fragment → (ℕ → Bool) → ℕ → (ℕ → Bool) → Bool → Type 0
+IsStep r f before c next ended =
+    (u : List ℕ) → From (machine_of r f) next ended u ↔ From (machine_of r f) before false (c ∷ u)

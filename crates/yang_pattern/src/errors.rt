@@ -9,7 +9,8 @@ use thiserror::Error;
 /// Why `Pattern::read` gives no pattern.
 #[derive(Debug, Drop, Error)]
 pub enum PatternError {
-    /// The text is no pattern. `at` is at most the length of the text, and not behind the fault.
+    /// The text is no pattern. `at` is at most the length of the text: how many letters, tokens or
+    /// bytes were read before reading stopped.
     #[error("not a pattern, at {at}")]
     Bad { at: usize },
     /// No memory was left.

@@ -19,12 +19,12 @@ pub struct Place {
 }
 
 impl Place {
-    ghost use Rattle.yang_pattern.specs.PlaceSets.{IsLinked, IsMoved};
+    ghost use Rattle.yang_pattern.specs.PlaceSets.{IsLedOn, IsShifted};
 
     /// The place with what follows when another fragment comes behind its own: where a text could
     /// end, it goes on with `entered`, and ends only if the other one takes the empty text.
-    fn linked(&self, entered: &Places, empty: bool) -> Place
-        ensures { IsLinked entered.now empty self.now result }
+    fn lead_on(&self, entered: &Places, empty: bool) -> Place
+        ensures { IsLedOn entered.now empty self.now result }
     {
         Place {
             token: self.token,
@@ -34,13 +34,13 @@ impl Place {
     }
 
     /// The place among others, `by` places further on.
-    fn moved(&self, by: usize) -> Place
+    fn shift(&self, by: usize) -> Place
         requires { by ≤ 1024 }
-        ensures { IsMoved by self.now result }
+        ensures { IsShifted by self.now result }
     {
         Place {
             token: self.token,
-            follow: self.follow.moved(by),
+            follow: self.follow.shift(by),
             last: self.last,
         }
     }
@@ -58,15 +58,16 @@ pub struct Fragment {
     ghost small: { length places.items ≤ 1024 },
 }
 
-ghost use Rattle.yang_pattern.specs.PlaceSets.{place_at, IsAppended, IsLinked};
+ghost use Rattle.yang_pattern.specs.PlaceSets.{place_at, IsAppended, IsLedOn};
 
 /// Links each of the places to the fragment that comes behind them.
 fn link(places: &mut Vec<Place>, entered: &Places, empty: bool)
     ensures count { length places.new.items ≡ length places.old.items }
-    ensures linked { (k : ℕ) → k < length places.old.items → IsLinked entered.now empty (place_at places.old.items k) (place_at places.new.items k) }
+    ensures linked { (k : ℕ) → k < length places.old.items
+        → IsLedOn entered.now empty (place_at places.old.items k) (place_at places.new.items k) }
 {
     for place in places.iter_mut() {
-        *place = place.linked(entered, empty);
+        *place = place.lead_on(entered, empty);
     }
 }
 
@@ -77,19 +78,20 @@ fn append(places: &mut Vec<Place>, more: &[Place]) -> Result<(), AllocError>
 {
     let count = places.len();
     for place in more {
-        places.push(place.moved(count))?;
+        places.push(place.shift(count))?;
     }
     Ok(())
 }
 
 impl Fragment {
-    ghost use Rattle.yang_pattern.specs.Machine.{machine_of, Takes, Both, Times};
+    ghost use Rattle.yang_pattern.specs.Machine.{HasLanguage, texts_of, OneOf, Both, Either, SomeOf, OrNothing, Times};
+    ghost use Rattle.yang_pattern.specs.declared.symbols.Quantifier.TheVariants.{AtLeast, Between};
     ghost use Rattle.yang_pattern.specs.Symbols.{Repeated, factor};
 
     /// Takes the empty text alone.
     pub fn nothing(alloc: Global) -> Fragment
         ensures count { vec_len result.places ≡ 0 }
-        ensures language { (r : ℕ → ℕ → Bool) (u : List ℕ) → Takes (machine_of r result) u ↔ (u ≡ []) }
+        ensures language { HasLanguage result (λ _ u. u ≡ []) }
     {
         Fragment {
             places: Vec::new(alloc),
@@ -101,7 +103,7 @@ impl Fragment {
     /// Takes one character, which the symbol of the token accepts.
     pub fn one(alloc: Global, token: usize) -> Result<Fragment, AllocError>
         ensures count { IfOk result (λ f. vec_len f.places ≡ 1) }
-        ensures language { IfOk result (λ f. (r : ℕ → ℕ → Bool) (u : List ℕ) → Takes (machine_of r f) u ↔ ((c : ℕ) × (u ≡ c ∷ []) × IsTrue (r token c))) }
+        ensures language { IfOk result (λ f. HasLanguage f (OneOf token)) }
     {
         let mut places = Vec::new(alloc);
         places.push(Place {
@@ -121,11 +123,28 @@ impl Fragment {
     /// Takes a text of the one and then a text of the other.
     pub fn join(self, right: &Fragment) -> Result<Fragment, AllocError>
         requires { vec_len self.places + vec_len right.now.places ≤ 1024 }
-        ensures count { IfOk result (λ f. vec_len f.places ≡ vec_len self.places + vec_len right.now.places) }
-        ensures language { IfOk result (λ f. (r : ℕ → ℕ → Bool) (u : List ℕ) → Takes (machine_of r f) u ↔ Both (Takes (machine_of r self)) (Takes (machine_of r right.now)) u) }
+        ensures count { IfOk result
+            (λ f. vec_len f.places ≡ vec_len self.places + vec_len right.now.places) }
+        ensures language { IfOk result
+            (λ f. HasLanguage f (λ r. Both (texts_of r self) (texts_of r right.now))) }
+    {
+        // nothing behind, and so no link to make
+        if right.empty && right.places.is_empty() {
+            return Ok(self);
+        }
+        self.join_places(right)
+    }
+
+    /// The same, where each place that may end is linked to the first places behind it.
+    fn join_places(self, right: &Fragment) -> Result<Fragment, AllocError>
+        requires { vec_len self.places + vec_len right.now.places ≤ 1024 }
+        ensures count { IfOk result
+            (λ f. vec_len f.places ≡ vec_len self.places + vec_len right.now.places) }
+        ensures language { IfOk result
+            (λ f. HasLanguage f (λ r. Both (texts_of r self) (texts_of r right.now))) }
     {
         let mut places = self.places;
-        let entered = right.first.moved(places.len());
+        let entered = right.first.shift(places.len());
         link(&mut places, &entered, right.empty);
         append(&mut places, &right.places)?;
         Ok(Fragment {
@@ -138,11 +157,13 @@ impl Fragment {
     /// Takes what one of the two takes.
     pub fn either(self, right: &Fragment) -> Result<Fragment, AllocError>
         requires { vec_len self.places + vec_len right.now.places ≤ 1024 }
-        ensures count { IfOk result (λ f. vec_len f.places ≡ vec_len self.places + vec_len right.now.places) }
-        ensures language { IfOk result (λ f. (r : ℕ → ℕ → Bool) (u : List ℕ) → Takes (machine_of r f) u ↔ (Takes (machine_of r self) u ⊎ Takes (machine_of r right.now) u)) }
+        ensures count { IfOk result
+            (λ f. vec_len f.places ≡ vec_len self.places + vec_len right.now.places) }
+        ensures language { IfOk result
+            (λ f. HasLanguage f (λ r. Either (texts_of r self) (texts_of r right.now))) }
     {
         let mut places = self.places;
-        let entered = right.first.moved(places.len());
+        let entered = right.first.shift(places.len());
         append(&mut places, &right.places)?;
         Ok(Fragment {
             places,
@@ -154,7 +175,7 @@ impl Fragment {
     /// Takes one or more texts in a row.
     fn again(self) -> Fragment
         ensures count { vec_len result.places ≡ vec_len self.places }
-        ensures language { (r : ℕ → ℕ → Bool) (u : List ℕ) → Takes (machine_of r result) u ↔ ((n : ℕ) × Repeated (Takes (machine_of r self)) (suc n) u) }
+        ensures language { HasLanguage result (λ r. SomeOf (texts_of r self)) }
     {
         let mut places = self.places;
         link(&mut places, &self.first, true);
@@ -168,7 +189,7 @@ impl Fragment {
     /// Takes the empty text too.
     fn or_nothing(self) -> Fragment
         ensures count { vec_len result.places ≡ vec_len self.places }
-        ensures language { (r : ℕ → ℕ → Bool) (u : List ℕ) → Takes (machine_of r result) u ↔ ((u ≡ []) ⊎ Takes (machine_of r self) u) }
+        ensures language { HasLanguage result (λ r. OrNothing (texts_of r self)) }
     {
         Fragment {
             places: self.places,
@@ -180,8 +201,10 @@ impl Fragment {
     /// Takes a text of its own and then `n` texts of the other, one after another.
     fn followed_by(self, part: &Fragment, n: u8) -> Result<Fragment, AllocError>
         requires { vec_len self.places + n * vec_len part.now.places ≤ 1024 }
-        ensures count { IfOk result (λ f. vec_len f.places ≡ vec_len self.places + n * vec_len part.now.places) }
-        ensures language { IfOk result (λ f. (r : ℕ → ℕ → Bool) (u : List ℕ) → Takes (machine_of r f) u ↔ Both (Takes (machine_of r self)) (Repeated (Takes (machine_of r part.now)) n) u) }
+        ensures count { IfOk result
+            (λ f. vec_len f.places ≡ vec_len self.places + n * vec_len part.now.places) }
+        ensures language { IfOk result
+            (λ f. HasLanguage f (λ r. Both (texts_of r self) (Repeated (texts_of r part.now) n))) }
     {
         let mut whole = self;
         for _i in 0..n {
@@ -194,7 +217,8 @@ impl Fragment {
     fn at_least(self, alloc: Global, least: u8) -> Result<Fragment, AllocError>
         requires { vec_len self.places * (least + 1) ≤ 1024 }
         ensures count { IfOk result (λ f. vec_len f.places ≡ vec_len self.places * (least + 1)) }
-        ensures language { IfOk result (λ f. (r : ℕ → ℕ → Bool) (u : List ℕ) → Takes (machine_of r f) u ↔ ((n : ℕ) × (least ≤ n) × Repeated (Takes (machine_of r self)) n u)) }
+        ensures language { IfOk result
+            (λ f. HasLanguage f (λ r. Times (texts_of r self) (AtLeast least))) }
     {
         let whole = Fragment::nothing(alloc).followed_by(&self, least)?;
         whole.join(&self.again().or_nothing())
@@ -204,7 +228,8 @@ impl Fragment {
     fn between(self, alloc: Global, least: u8, more: u8) -> Result<Fragment, AllocError>
         requires { vec_len self.places * (least + more) ≤ 1024 }
         ensures count { IfOk result (λ f. vec_len f.places ≡ vec_len self.places * (least + more)) }
-        ensures language { IfOk result (λ f. (r : ℕ → ℕ → Bool) (u : List ℕ) → Takes (machine_of r f) u ↔ ((n : ℕ) × ((least ≤ n) × (n ≤ least + more)) × Repeated (Takes (machine_of r self)) n u)) }
+        ensures language { IfOk result
+            (λ f. HasLanguage f (λ r. Times (texts_of r self) (Between least more))) }
     {
         let whole = Fragment::nothing(alloc).followed_by(&self, least)?;
         whole.followed_by(&self.or_nothing(), more)
@@ -213,8 +238,10 @@ impl Fragment {
     /// Takes as many texts in a row as the quantifier allows.
     pub fn times(self, alloc: Global, quantifier: Quantifier) -> Result<Fragment, AllocError>
         requires { vec_len self.places * factor quantifier ≤ 1024 }
-        ensures count { IfOk result (λ f. vec_len f.places ≡ vec_len self.places * factor quantifier) }
-        ensures language { IfOk result (λ f. (r : ℕ → ℕ → Bool) (u : List ℕ) → Takes (machine_of r f) u ↔ Times (Takes (machine_of r self)) quantifier u) }
+        ensures count { IfOk result
+            (λ f. vec_len f.places ≡ vec_len self.places * factor quantifier) }
+        ensures language { IfOk result
+            (λ f. HasLanguage f (λ r. Times (texts_of r self) quantifier)) }
     {
         match quantifier {
             Quantifier::OneOrMore => Ok(self.again()),

@@ -4,7 +4,7 @@ ghost use Rattle.std.specs.Prelude.{◌≡◌, ℕ, Bool, List, Option, IfOk, Ma
 ghost use Rattle.yang_pattern.specs.Symbols.{symbol_accepts, accepts};
 ghost use Rattle.yang_pattern.specs.Pattern.{Branch, Atom, followed, times, symbol};
 ghost use Rattle.yang_pattern.specs.Parts.{IsPatternPart, IsBranchPart, IsAtomPart};
-ghost use Rattle.yang_pattern.specs.Reading.{Opened, Progress, fresh, settled, closed, with_atom, with_bar, with_times, enter, leave, read, finish, start, IsLast, IsFrame, IsReader};
+ghost use Rattle.yang_pattern.specs.Reading.{Opened, Progress, fresh, settle, close, with_atom, with_bar, with_times, enter, leave, read, finish, start, IsLast, IsFrame, IsReader, FrameFollows, ReaderFollows};
 
 use crate::parts::Part;
 use crate::symbols::{Quantifier, Token};
@@ -30,8 +30,9 @@ pub struct Reader {
 }
 
 /// The branch, with the atom that no quantifier follows.
-fn settled(branch: Part, last: Option<Part>) -> Result<Part, AllocError>
-    ensures { IfOk result (λ part. (r : ℕ → ℕ → Bool) (b : Branch) (a : Option Atom) → IsBranchPart r branch b → IsLast r last a → IsBranchPart r part (settled b a)) }
+fn settle(branch: Part, last: Option<Part>) -> Result<Part, AllocError>
+    ensures { IfOk result (λ part. (r : ℕ → ℕ → Bool) (b : Branch) (a : Option Atom)
+        → IsBranchPart r branch b → IsLast r last a → IsBranchPart r part (settle b a)) }
 {
     match last {
         None => Ok(branch),
@@ -40,13 +41,15 @@ fn settled(branch: Part, last: Option<Part>) -> Result<Part, AllocError>
 }
 
 /// The branch, with an atom as often as the quantifier allows.
-fn quantified(
+fn quantify(
     branch: Part,
     atom: Part,
     alloc: Global,
     quantifier: Quantifier,
 ) -> Result<Part, AllocError>
-    ensures { IfOk result (λ part. (r : ℕ → ℕ → Bool) (b : Branch) (a : Atom) → IsBranchPart r branch b → IsAtomPart r atom a → IsBranchPart r part (followed b (times a quantifier))) }
+    ensures { IfOk result (λ part. (r : ℕ → ℕ → Bool) (b : Branch) (a : Atom)
+        → IsBranchPart r branch b → IsAtomPart r atom a
+        → IsBranchPart r part (followed b (times a quantifier))) }
 {
     let piece = atom.times(alloc, quantifier)?;
     branch.followed_by(&piece)
@@ -64,10 +67,11 @@ impl Frame {
     }
 
     /// All branches, where the group ends.
-    fn closed(self) -> Result<Part, AllocError>
-        ensures { IfOk result (λ part. (r : ℕ → ℕ → Bool) (o : Opened) → IsFrame r self o → IsPatternPart r part (closed o)) }
+    fn close(self) -> Result<Part, AllocError>
+        ensures { IfOk result (λ part. (r : ℕ → ℕ → Bool) (o : Opened)
+            → IsFrame r self o → IsPatternPart r part (close o)) }
     {
-        let branch = settled(self.branch, self.last)?;
+        let branch = settle(self.branch, self.last)?;
         match self.choices {
             None => Ok(branch),
             Some(choices) => choices.or(&branch),
@@ -75,20 +79,22 @@ impl Frame {
     }
 
     fn with_atom(self, atom: Part) -> Result<Frame, AllocError>
-        ensures { IfOk result (λ frame. (r : ℕ → ℕ → Bool) (o : Opened) (a : Atom) → IsFrame r self o → IsAtomPart r atom a → IsFrame r frame (with_atom o a)) }
+        ensures { IfOk result (λ frame. (r : ℕ → ℕ → Bool) (o : Opened) (a : Atom)
+            → IsFrame r self o → IsAtomPart r atom a → IsFrame r frame (with_atom o a)) }
     {
         Ok(Frame {
             choices: self.choices,
-            branch: settled(self.branch, self.last)?,
+            branch: settle(self.branch, self.last)?,
             last: Some(atom),
         })
     }
 
     fn with_bar(self, alloc: Global) -> Result<Frame, AllocError>
-        ensures { IfOk result (λ frame. (r : ℕ → ℕ → Bool) (o : Opened) → IsFrame r self o → IsFrame r frame (with_bar o)) }
+        ensures { IfOk result (λ frame. (r : ℕ → ℕ → Bool) (o : Opened)
+            → IsFrame r self o → IsFrame r frame (with_bar o)) }
     {
         Ok(Frame {
-            choices: Some(self.closed()?),
+            choices: Some(self.close()?),
             branch: Part::nothing(alloc),
             last: None,
         })
@@ -96,7 +102,7 @@ impl Frame {
 
     /// None where no atom stands before the quantifier.
     fn with_times(self, alloc: Global, quantifier: Quantifier) -> Result<Option<Frame>, AllocError>
-        ensures { IfOk result (λ found. MatchOption found ((r : ℕ → ℕ → Bool) (o : Opened) → IsFrame r self o → with_times o quantifier ≡ None) (λ frame. (r : ℕ → ℕ → Bool) (o : Opened) → IsFrame r self o → IsSomeAnd (with_times o quantifier) (λ n. IsFrame r frame n))) }
+        ensures { IfOk result (FrameFollows self (λ o. with_times o quantifier)) }
     {
         let Frame {
             choices,
@@ -106,7 +112,7 @@ impl Frame {
         match last {
             None => Ok(None),
             Some(atom) => {
-                let branch = quantified(branch, atom, alloc, quantifier)?;
+                let branch = quantify(branch, atom, alloc, quantifier)?;
                 Ok(Some(Frame {
                     choices,
                     branch,
@@ -129,7 +135,7 @@ impl Reader {
 
     /// A group begins. None where too many are open.
     fn enter(self, alloc: Global) -> Result<Option<Reader>, AllocError>
-        ensures { IfOk result (λ found. MatchOption found ((r : ℕ → ℕ → Bool) (s : Progress) → IsReader r self s → enter s ≡ None) (λ reader. (r : ℕ → ℕ → Bool) (s : Progress) → IsReader r self s → IsSomeAnd (enter s) (λ n. IsReader r reader n))) }
+        ensures { IfOk result (ReaderFollows self enter) }
     {
         let Reader { mut outer, current } = self;
         if outer.len() >= MOST_GROUPS {
@@ -144,13 +150,13 @@ impl Reader {
 
     /// A group ends. None where none is open.
     fn leave(self) -> Result<Option<Reader>, AllocError>
-        ensures { IfOk result (λ found. MatchOption found ((r : ℕ → ℕ → Bool) (s : Progress) → IsReader r self s → leave s.current s.outer ≡ None) (λ reader. (r : ℕ → ℕ → Bool) (s : Progress) → IsReader r self s → IsSomeAnd (leave s.current s.outer) (λ n. IsReader r reader n))) }
+        ensures { IfOk result (ReaderFollows self (λ s. leave s.current s.outer)) }
     {
         let Reader { mut outer, current } = self;
         match outer.pop() {
             None => Ok(None),
             Some(frame) => {
-                let group = current.closed()?;
+                let group = current.close()?;
                 Ok(Some(Reader {
                     outer,
                     current: frame.with_atom(group)?,
@@ -166,7 +172,11 @@ impl Reader {
         number: usize,
         token: &Token,
     ) -> Result<Option<Reader>, AllocError>
-        ensures { IfOk result (λ found. MatchOption found ((r : ℕ → ℕ → Bool) (s : Progress) → IsReader r self s → read token.now s ≡ None) (λ reader. (r : ℕ → ℕ → Bool) (s : Progress) → ((c : ℕ) → r number c ≡ symbol_accepts (Some token.now) c) → IsReader r self s → IsSomeAnd (read token.now s) (λ n. IsReader r reader n))) }
+        ensures { IfOk result (λ found. MatchOption found
+            ((r : ℕ → ℕ → Bool) (s : Progress) → IsReader r self s → read token.now s ≡ None)
+            (λ reader. (r : ℕ → ℕ → Bool) (s : Progress)
+            → ((c : ℕ) → r number c ≡ symbol_accepts (Some token.now) c) → IsReader r self s
+            → IsSomeAnd (read token.now s) (λ n. IsReader r reader n))) }
     {
         match token {
             Token::Open => self.enter(alloc),
@@ -178,7 +188,8 @@ impl Reader {
     }
 
     fn bar(self, alloc: Global) -> Result<Reader, AllocError>
-        ensures { IfOk result (λ reader. (r : ℕ → ℕ → Bool) (s : Progress) → IsReader r self s → IsReader r reader (record { current = with_bar s.current; outer = s.outer })) }
+        ensures { IfOk result (λ reader. (r : ℕ → ℕ → Bool) (s : Progress) → IsReader r self s
+            → IsReader r reader (record { current = with_bar s.current; outer = s.outer })) }
     {
         let Reader { outer, current } = self;
         Ok(Reader {
@@ -188,7 +199,12 @@ impl Reader {
     }
 
     fn times(self, alloc: Global, quantifier: Quantifier) -> Result<Option<Reader>, AllocError>
-        ensures { IfOk result (λ found. MatchOption found ((r : ℕ → ℕ → Bool) (s : Progress) → IsReader r self s → with_times s.current quantifier ≡ None) (λ reader. (r : ℕ → ℕ → Bool) (s : Progress) → IsReader r self s → IsSomeAnd (with_times s.current quantifier) (λ n. IsReader r reader (record { current = n; outer = s.outer })))) }
+        ensures { IfOk result (λ found. MatchOption found
+            ((r : ℕ → ℕ → Bool) (s : Progress) → IsReader r self s
+            → with_times s.current quantifier ≡ None)
+            (λ reader. (r : ℕ → ℕ → Bool) (s : Progress) → IsReader r self s
+            → IsSomeAnd (with_times s.current quantifier)
+            (λ n. IsReader r reader (record { current = n; outer = s.outer })))) }
     {
         let Reader { outer, current } = self;
         match current.with_times(alloc, quantifier)? {
@@ -198,7 +214,10 @@ impl Reader {
     }
 
     fn symbol(self, alloc: Global, number: usize) -> Result<Reader, AllocError>
-        ensures { IfOk result (λ reader. (r : ℕ → ℕ → Bool) (s : Progress) (y : Bool × List (ℕ × ℕ)) → ((c : ℕ) → r number c ≡ accepts y c) → IsReader r self s → IsReader r reader (record { current = with_atom s.current (symbol y); outer = s.outer })) }
+        ensures { IfOk result (λ reader. (r : ℕ → ℕ → Bool) (s : Progress)
+            (y : Bool × List (ℕ × ℕ)) → ((c : ℕ) → r number c ≡ accepts y c) → IsReader r self s
+            → IsReader r reader
+            (record { current = with_atom s.current (symbol y); outer = s.outer })) }
     {
         let Reader { outer, current } = self;
         let atom = Part::symbol(alloc, number)?;
@@ -210,11 +229,15 @@ impl Reader {
 
     /// The whole pattern, where no group is open.
     pub fn finish(self) -> Result<Option<Part>, AllocError>
-        ensures { IfOk result (λ found. MatchOption found ((r : ℕ → ℕ → Bool) (s : Progress) → IsReader r self s → finish s.current s.outer ≡ None) (λ part. (r : ℕ → ℕ → Bool) (s : Progress) → IsReader r self s → IsSomeAnd (finish s.current s.outer) (λ bs. IsPatternPart r part bs))) }
+        ensures { IfOk result (λ found. MatchOption found
+            ((r : ℕ → ℕ → Bool) (s : Progress) → IsReader r self s
+            → finish s.current s.outer ≡ None)
+            (λ part. (r : ℕ → ℕ → Bool) (s : Progress) → IsReader r self s
+            → IsSomeAnd (finish s.current s.outer) (λ bs. IsPatternPart r part bs))) }
     {
         let Reader { outer, current } = self;
         if outer.is_empty() {
-            Ok(Some(current.closed()?))
+            Ok(Some(current.close()?))
         } else {
             Ok(None)
         }

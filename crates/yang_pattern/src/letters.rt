@@ -76,9 +76,12 @@ fn read_character(
     after_backslash: bool,
     c: char,
 ) -> Result<bool, PatternError>
-    ensures ok { IfOk result (λ after. (cs : List ℕ) → option_map (λ ls. letters.new.items ++ ls) (letters_from after cs) ≡ option_map (λ ls. letters.old.items ++ ls) (letters_from after_backslash (c ∷ cs))) }
+    ensures ok { IfOk result (λ after. (cs : List ℕ)
+        → option_map (λ ls. letters.new.items ++ ls) (letters_from after cs)
+        ≡ option_map (λ ls. letters.old.items ++ ls) (letters_from after_backslash (c ∷ cs))) }
     ensures count { IfOk result (λ _. length letters.new.items ≤ length letters.old.items + 1) }
-    ensures bad { IfErr result (λ e. IfBad e ((cs : List ℕ) → letters_from after_backslash (c ∷ cs) ≡ None)) }
+    ensures bad { IfErr result
+        (λ e. IfBad e ((cs : List ℕ) → letters_from after_backslash (c ∷ cs) ≡ None)) }
     ensures place { IfErr result (IsPlaceUpTo (length letters.old.items)) }
 {
     if c == '\\' && !after_backslash {

@@ -17,6 +17,3 @@ mod walks;
 
 pub use errors::PatternError;
 pub use patterns::Pattern;
-
-#[cfg(test)]
-mod tests;

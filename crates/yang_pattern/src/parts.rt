@@ -31,8 +31,10 @@ fn factor(quantifier: Quantifier) -> usize
 }
 
 /// The part for an atom's machine as often as the quantifier allows.
-fn repeated(alloc: Global, atom: Fragment, quantifier: Quantifier) -> Result<Part, AllocError>
-    ensures { IfOk result (λ part. (r : ℕ → ℕ → Bool) (a : Atom) → IsFragmentOf r (Some atom) (MatchesAtom a) (atom_size a) → IsPiecePart r part (times a quantifier)) }
+fn repeat(alloc: Global, atom: Fragment, quantifier: Quantifier) -> Result<Part, AllocError>
+    ensures { IfOk result (λ part. (r : ℕ → ℕ → Bool) (a : Atom)
+        → IsFragmentOf r (Some atom) (MatchesAtom a) (atom_size a)
+        → IsPiecePart r part (times a quantifier)) }
 {
     if atom.places.len() * factor(quantifier) > MOST_PLACES {
         return Ok(Part { fragment: None });
@@ -54,7 +56,8 @@ impl Part {
 
     /// The symbol of a token.
     pub fn symbol(alloc: Global, number: usize) -> Result<Part, AllocError>
-        ensures { IfOk result (λ part. (r : ℕ → ℕ → Bool) (s : Bool × List (ℕ × ℕ)) → ((c : ℕ) → r number c ≡ accepts s c) → IsAtomPart r part (symbol s)) }
+        ensures { IfOk result (λ part. (r : ℕ → ℕ → Bool) (s : Bool × List (ℕ × ℕ))
+            → ((c : ℕ) → r number c ≡ accepts s c) → IsAtomPart r part (symbol s)) }
     {
         Ok(Part {
             fragment: Some(Fragment::one(alloc, number)?),
@@ -63,7 +66,9 @@ impl Part {
 
     /// A branch and one piece more.
     pub fn followed_by(self, piece: &Part) -> Result<Part, AllocError>
-        ensures { IfOk result (λ part. (r : ℕ → ℕ → Bool) (b : Branch) (p : Piece) → IsBranchPart r self b → IsPiecePart r piece.now p → IsBranchPart r part (followed b p)) }
+        ensures { IfOk result (λ part. (r : ℕ → ℕ → Bool) (b : Branch) (p : Piece)
+            → IsBranchPart r self b → IsPiecePart r piece.now p
+            → IsBranchPart r part (followed b p)) }
     {
         match self.fragment {
             None => Ok(Part { fragment: None }),
@@ -83,7 +88,9 @@ impl Part {
 
     /// Branches and one more.
     pub fn or(self, branch: &Part) -> Result<Part, AllocError>
-        ensures { IfOk result (λ part. (r : ℕ → ℕ → Bool) (bs : Branches) (b : Branch) → IsPatternPart r self bs → IsBranchPart r branch.now b → IsPatternPart r part (or bs b)) }
+        ensures { IfOk result (λ part. (r : ℕ → ℕ → Bool) (bs : Branches) (b : Branch)
+            → IsPatternPart r self bs → IsBranchPart r branch.now b
+            → IsPatternPart r part (or bs b)) }
     {
         match self.fragment {
             None => Ok(Part { fragment: None }),
@@ -103,7 +110,8 @@ impl Part {
 
     /// An atom as often as the quantifier allows.
     pub fn times(self, alloc: Global, quantifier: Quantifier) -> Result<Part, AllocError>
-        ensures { IfOk result (λ part. (r : ℕ → ℕ → Bool) (a : Atom) → IsAtomPart r self a → IsPiecePart r part (times a quantifier)) }
+        ensures { IfOk result (λ part. (r : ℕ → ℕ → Bool) (a : Atom)
+            → IsAtomPart r self a → IsPiecePart r part (times a quantifier)) }
     {
         let factor = factor(quantifier);
         match self.fragment {
@@ -115,7 +123,7 @@ impl Part {
                     fragment: Some(Fragment::nothing(alloc)),
                 })
             }
-            Some(atom) => repeated(alloc, atom, quantifier),
+            Some(atom) => repeat(alloc, atom, quantifier),
         }
     }
 }

@@ -65,7 +65,8 @@ impl Pattern {
     pub fn matches(&self, text: &str) -> bool
         ensures language { IsTrue result ↔ MatchesText self.now text.now }
         // the pattern's text spells no second pattern
-        ensures once { (a b : Branches) → SpellsWithin (chars self.now) a → SpellsWithin (chars self.now) b → a ≡ b }
+        ensures once { (a b : Branches) → SpellsWithin (chars self.now) a
+            → SpellsWithin (chars self.now) b → a ≡ b }
     {
         takes(&self.tokens, &self.whole, text)
     }

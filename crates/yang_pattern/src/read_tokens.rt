@@ -15,7 +15,8 @@ use std::alloc::Global;
 
 /// The whole pattern of the tokens.
 pub fn read_tokens(alloc: Global, tokens: &[Token]) -> Result<Part, PatternError>
-    ensures ok { IfOk result (λ part. (bs : Branches) × (run tokens.now start ≡ Some bs) × IsPatternPart (reads_token tokens.now) part bs) }
+    ensures ok { IfOk result (λ part. (bs : Branches) × (run tokens.now start ≡ Some bs)
+        × IsPatternPart (reads_token tokens.now) part bs) }
     ensures bad { IfErr result (λ e. IfBad e (run tokens.now start ≡ None)) }
     ensures place { IfErr result (IsPlaceUpTo (length tokens.now)) }
 {

@@ -40,7 +40,8 @@ impl Places {
 
     /// Adds each place of the other set.
     pub fn insert_all(&mut self, other: &Places)
-        ensures { (q : ℕ) → q < 1024 → contains self.new q ≡ (contains self.old q || contains other.now q) }
+        ensures { (q : ℕ) → q < 1024
+            → contains self.new q ≡ (contains self.old q || contains other.now q) }
     {
         for i in 0..WORDS {
             self.words[i] |= other.words[i];
@@ -49,7 +50,8 @@ impl Places {
 
     /// The set, and if `added` each place of the other set too.
     pub fn with(&self, other: &Places, added: bool) -> Places
-        ensures { (q : ℕ) → q < 1024 → contains result q ≡ (contains self.now q || (added && contains other.now q)) }
+        ensures { (q : ℕ) → q < 1024
+            → contains result q ≡ (contains self.now q || (added && contains other.now q)) }
     {
         let mut joined = *self;
         if added {
@@ -71,9 +73,10 @@ impl Places {
     }
 
     /// Each place of the set, `by` further on.
-    pub fn moved(&self, by: usize) -> Places
+    pub fn shift(&self, by: usize) -> Places
         requires { by ≤ 1024 }
-        ensures { (q : ℕ) → q < 1024 → contains result q ≡ (nat_le by q && contains self.now (q - by)) }
+        ensures { (q : ℕ) → q < 1024
+            → contains result q ≡ (nat_le by q && contains self.now (q - by)) }
     {
         if self.is_empty() {
             return *self;

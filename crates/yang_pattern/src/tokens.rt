@@ -3,7 +3,7 @@
 ghost use Rattle.std.specs.Prelude.{◌≡◌, ◌≤◌, ◌+◌, ◌∷◌, ◌++◌, List, [], length, IfOk, IfErr, Some, None, true, false, option_map};
 ghost use Rattle.yang_pattern.specs.declared.letters.Letter.{Letter};
 ghost use Rattle.yang_pattern.specs.declared.tokens.Mode.TheVariants.{Outside};
-ghost use Rattle.yang_pattern.specs.Lexing.{token_at, outside, in_class, in_count, advance, lex};
+ghost use Rattle.yang_pattern.specs.Lexing.{single, any, token_at, outside, in_class, in_count, advance, lex};
 ghost use Rattle.yang_pattern.specs.Errors.{IfBad, IsPlaceUpTo};
 
 use crate::classes::OpenClass;
@@ -30,7 +30,7 @@ struct Step {
 
 /// The symbol of one character.
 fn single(alloc: Global, c: char) -> Result<Symbol, AllocError>
-    ensures { IfOk result (λ y. y ≡ (false, (c, c) ∷ [])) }
+    ensures { IfOk result (λ y. y ≡ single c) }
 {
     let mut ranges = Vec::new(alloc);
     ranges.push((c, c))?;
@@ -39,7 +39,7 @@ fn single(alloc: Global, c: char) -> Result<Symbol, AllocError>
 
 /// The symbol of `.`: all characters but line feed and carriage return.
 fn any(alloc: Global) -> Result<Symbol, AllocError>
-    ensures { IfOk result (λ y. y ≡ (true, (10, 10) ∷ (13, 13) ∷ [])) }
+    ensures { IfOk result (λ y. y ≡ any) }
 {
     let mut ranges = Vec::new(alloc);
     ranges.push(('\n', '\n'))?;
@@ -163,7 +163,9 @@ fn read_letter(
     mode: Mode,
     letter: Letter,
 ) -> Result<Mode, PatternError>
-    ensures ok { IfOk result (λ next. (ls : List Letter) → option_map (λ ts. tokens.new.items ++ ts) (lex next ls) ≡ option_map (λ ts. tokens.old.items ++ ts) (lex mode (letter ∷ ls))) }
+    ensures ok { IfOk result (λ next. (ls : List Letter)
+        → option_map (λ ts. tokens.new.items ++ ts) (lex next ls)
+        ≡ option_map (λ ts. tokens.old.items ++ ts) (lex mode (letter ∷ ls))) }
     ensures count { IfOk result (λ _. length tokens.new.items ≤ length tokens.old.items + 1) }
     ensures bad { IfErr result (λ e. IfBad e ((ls : List Letter) → lex mode (letter ∷ ls) ≡ None)) }
     ensures place { IfErr result (IsPlaceUpTo (length tokens.old.items)) }

@@ -14,7 +14,7 @@ struct Reached {
 }
 
 ghost use Rattle.yang_pattern.specs.PlaceSets.{contains};
-ghost use Rattle.yang_pattern.specs.Machine.{machine_of, From, Takes};
+ghost use Rattle.yang_pattern.specs.Machine.{machine_of, IsStep, Takes};
 ghost use Rattle.yang_pattern.specs.Symbols.{reads_token};
 
 /// Whether the symbol of a token accepts the character.
@@ -29,7 +29,8 @@ fn reads_token(tokens: &[Token], number: usize, c: char) -> bool
 
 /// What comes next after the character is read from one of the places.
 fn step(tokens: &[Token], fragment: &Fragment, next: &Places, c: char) -> Reached
-    ensures { (u : List ℕ) → From (machine_of (reads_token tokens.now) fragment.now) (contains result.next) result.ended u ↔ From (machine_of (reads_token tokens.now) fragment.now) (contains next.now) false (c ∷ u) }
+    ensures { IsStep (reads_token tokens.now) fragment.now
+        (contains next.now) c (contains result.next) result.ended }
 {
     let mut reached = Reached {
         next: Places::new(),
@@ -46,7 +47,8 @@ fn step(tokens: &[Token], fragment: &Fragment, next: &Places, c: char) -> Reache
 
 /// Whether the machine takes the whole text.
 pub fn takes(tokens: &[Token], fragment: &Fragment, text: &str) -> bool
-    ensures { IsTrue result ↔ Takes (machine_of (reads_token tokens.now) fragment.now) (chars text.now) }
+    ensures { IsTrue result
+        ↔ Takes (machine_of (reads_token tokens.now) fragment.now) (chars text.now) }
 {
     let mut reached = Reached {
         next: fragment.first,

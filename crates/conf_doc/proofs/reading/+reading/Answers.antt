@@ -4,7 +4,7 @@ use Rattle.std.specs.Map.{keys_of}
 use Rattle.serde_json.specs.View.{items_view, members_view}
 use Rattle.conf_doc.specs.Trees.{document}
 use Rattle.conf_doc.proofs.Lists.{map-append, names_more, none_left}
-use Rattle.conf_doc.proofs.Places.{rising_keys}
+use Rattle.conf_doc.proofs.Names.{rising_keys, rising-map}
 use Rattle.conf_doc.proofs.Walks.{item_fails, item_found, items_end, member_fails, member_found, members_end}
 use Rattle.conf_doc.proofs.reading.+reading.Goals as goal
 
@@ -40,7 +40,7 @@ pub read_members-from_sorted-requires : goal.read_members-from_sorted-requires
 read_members-from_sorted-requires t c =
     let l = c.loop-name in
     let names = sym (append-nil _) ∙ ap (λ es. map (λ m. m.0) l.members.items ++ map string_bytes (keys_of es)) (sym c.in-None.ensures.steps.0) ∙ l.invariant.names in
-    rising_keys _ _ names c.into_iter-name-iterator.ensures.into_iter_gives.5
+    rising-map document l.members.items (rising_keys l.members.items _ names c.into_iter-name-iterator.ensures.into_iter_gives.5)
 
 pub read_members-returns : goal.read_members-returns
 read_members-returns t c = rw c.from_sorted.ensures (members_end _ _ _ c.loop-name.invariant.walk (ap members_view c.in-None.ensures.steps.0))

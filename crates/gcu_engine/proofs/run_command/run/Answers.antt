@@ -1,6 +1,7 @@
 use Rattle.std.proofs.Common.{sym, ◌++◌}
 use Rattle.conf_doc.specs.Texts.{file_text}
 use Rattle.gcu_engine.specs.Lines.{last_line}
+use Rattle.gcu_engine.proofs.Elapsing.{command_leaves, command_leaves_behind}
 use Rattle.gcu_engine.proofs.Answering.{said_answers, no_form_says, preview_says, preview_refuses, refused_cause}
 use Rattle.gcu_engine.specs.declared.outcomes.Outcome.TheVariants.{Usage, Done}
 use Rattle.gcu_engine.proofs.run_command.run.Goals as goal
@@ -26,3 +27,30 @@ returns-in-Err-clause-answers g c =
     c.in-Err.outcome (last_line c.in-Err.outcome) c.say-in-Err.result (rw c.in-Err.ensures.told at c.say-in-Err.ensures.said) c.say-in-Err.ensures.counts
     (refused_cause (g.H.Host.counts c.args.host.now) (g.H.Host.counts c.preview.new.host) c.in-Err.outcome c.in-Err.ensures.cause)
     (preview_refuses c.args.words.now _ (g.H.Host.told c.args.host.now) c.in-Err.outcome (g.H.Host.counts c.args.host.now) (g.H.Host.counts c.preview.new.host) (sym c.in-Preview.ensures) c.in-Err.ensures.cause c.in-Err.ensures.answer)
+
+-- ---- time
+
+pub returns-in-Unknown-clause-crash : goal.returns-in-Unknown-clause-crash
+returns-in-Unknown-clause-crash g c =
+    command_leaves g.H.Host.moment g.H.Host.left_since c.args.words.now c.args.host.now c.say.new.host (g.H.Host.told c.args.host.now)
+    (λ left since. g.met.H.Host.only_now c.args.host.now left since) c.say.ensures.time
+
+pub returns-in-Ok-clause-crash : goal.returns-in-Ok-clause-crash
+returns-in-Ok-clause-crash g c =
+    command_leaves_behind g.H.Host.moment g.H.Host.left_since c.args.words.now c.args.host.now c.preview.new.host c.show.new.host
+    (g.H.Host.told c.args.host.now) (g.H.Host.told c.preview.new.host) c.preview.ensures.told
+    (λ left since. g.met.H.Host.only_now c.args.host.now left since) c.preview.ensures.time c.show.ensures.time
+
+pub returns-in-Err-clause-crash : goal.returns-in-Err-clause-crash
+returns-in-Err-clause-crash g c =
+    command_leaves_behind g.H.Host.moment g.H.Host.left_since c.args.words.now c.args.host.now c.preview.new.host c.say-in-Err.new.host
+    (g.H.Host.told c.args.host.now) (g.H.Host.told c.preview.new.host) c.preview.ensures.told
+    (λ left since. g.met.H.Host.only_now c.args.host.now left since) c.preview.ensures.time c.say-in-Err.ensures.time
+
+pub returns-in-Ok-clause-goes : goal.returns-in-Ok-clause-goes
+returns-in-Ok-clause-goes g c =
+    g.met.H.Host.continues c.args.host.now c.preview.new.host c.show.new.host c.preview.ensures.goes c.show.ensures.goes
+
+pub returns-in-Err-clause-goes : goal.returns-in-Err-clause-goes
+returns-in-Err-clause-goes g c =
+    g.met.H.Host.continues c.args.host.now c.preview.new.host c.say-in-Err.new.host c.preview.ensures.goes c.say-in-Err.ensures.goes

@@ -3,7 +3,7 @@ use Rattle.std.proofs.lemmas.Bool.{eqb-false}
 use Rattle.std.proofs.lemmas.Str.Pattern.{strip_prefix_char}
 use Rattle.std.proofs.lemmas.Result.{err_from_is_err_and}
 use Rattle.patch_core.specs.Tokens.{or_malformed}
-use Rattle.patch_core.specs.declared.pointers.PointerError.TheVariants.{Malformed}
+use Rattle.patch_core.specs.declared.errors.PointerError.TheVariants.{Malformed}
 use Rattle.patch_core.proofs.Escapes.{or_malformed_ok}
 use Rattle.patch_core.proofs.RoundTrip.{pointer-tokens, tokens-none, pointer-none, tokens-slash, malformed_below}
 use Rattle.patch_core.proofs.pointers.read_pointer.Goals as goal

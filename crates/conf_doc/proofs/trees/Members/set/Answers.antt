@@ -1,25 +1,28 @@
-use Rattle.std.proofs.Common.{ap, is_ok, subst, ◌∙◌}
-use Rattle.conf_doc.proofs.Places.{put_read-map, inserted-map, rising_read, rising_inserted}
-use Rattle.conf_doc.specs.Places.{IsAt, IsGap}
-use Rattle.conf_doc.specs.Trees.{document}
+use Rattle.std.proofs.Common.{ap, map, subst, sym, ◌∙◌, refl}
+use Rattle.conf_doc.specs.Indexes.{IsAt, IsGap}
+use Rattle.conf_doc.specs.Pairs.{IsRising}
+use Rattle.conf_doc.specs.Trees.{document, named_document}
+use Rattle.conf_doc.proofs.Edits.{insert_seen, name_is, rising_put, rising_seen, set_seen}
 use Rattle.conf_doc.proofs.trees.Members.set.Goals as goal
-use Rattle.conf_doc.proofs.trees.Members.set.Goals.{in-Ok-insert, in-Err-insert, in-Err+in-Text-1, in-Err+in-List-1, in-Err+in-Map-1, in-Ok-1}
 
 pub invariant_of-self : goal.invariant_of-self
-invariant_of-self c = rising_read _ _ _ _ c.index_mut.result.now _ c.deref.ensures.value c.self.invariant c.in-Ok.ensures.found c.index_mut.ensures.value
+invariant_of-self c =
+    let name = name_is named_document _ _ _ _ c.deref.ensures.value c.index_mut.result.now c.in-Ok.ensures.found c.index_mut.ensures.value in
+    rising_seen named_document _ _ _ _ c.deref.ensures.value _ (c.index_mut.result.now.0, c.args.tree) c.self.invariant c.in-Ok.ensures.found (λ j. (name j, document c.args.tree))
 
-pub invariant_of-self-after-insert-4 : goal.invariant_of-self-after-insert-4
-invariant_of-self-after-insert-4 c =
-    rising_inserted _ _ _ _ _ _ _ c.deref.ensures.value c.self.invariant (subst (λ n. IsGap c.deref.result.now n c.in-Err.i) c.as_str.ensures c.in-Err.ensures.absent) c.insert.ensures.items
+pub invariant_of-self-in-Continue-1 : goal.invariant_of-self-in-Continue-1
+invariant_of-self-in-Continue-1 c =
+    let gap = subst (λ n. IsGap (map named_document c.deref.result.now) n c.in-Err.i) c.as_str.ensures.text c.in-Err.ensures.absent in
+    let is = ap (map named_document) c.in_ok-insert-in-Err.ensures.items ∙ insert_seen named_document _ _ _ _ c.deref.ensures.value (document c.args.tree) (c.args.name, c.args.tree) gap refl in
+    subst IsRising (sym is) (rising_put _ c.args.name (document c.args.tree) c.self.invariant)
 
 pub returns-in-Ok-clause-ok : goal.returns-in-Ok-clause-ok
 returns-in-Ok-clause-ok c =
-    rw (← c.self.view_is) (put_read-map document _ _ _ _ c.index_mut.result.now _ _ c.deref.ensures.value c.self.invariant (subst (λ n. IsAt c.deref.result.now n c.in-Ok.i) c.as_str.ensures c.in-Ok.ensures.found) c.index_mut.ensures.value c.replace.ensures.after)
+    let at = subst (λ n. IsAt (map named_document c.deref.result.now) n c.in-Ok.i) c.as_str.ensures.text c.in-Ok.ensures.found in
+    let name = name_is named_document _ _ _ _ c.deref.ensures.value c.index_mut.result.now at c.index_mut.ensures.value in
+    rw (← c.self.view_is) (set_seen named_document _ _ _ _ c.deref.ensures.value (document c.args.tree) (c.index_mut.result.now.0, c.args.tree) c.self.invariant at (λ j. (name j, document c.args.tree)))
 
-pub returns-after-insert-clause-ok : goal.returns-after-insert-clause-ok
-returns-after-insert-clause-ok c = elim c.match-insert.branch [
-  | in-Ok-insert w ↦
-      let put = inserted-map document _ _ _ _ _ _ _ (ap is_ok w.in-Ok-insert.is) c.deref.ensures.value (subst (λ n. IsGap c.deref.result.now n c.in-Err.i) c.as_str.ensures c.in-Err.ensures.absent) c.insert.ensures.items in
-      rw (w.result-is, ← c.self.view_is) (elim c.match-insert-2.branch [ in-Err+in-Text-1 v ↦ v.self-is ∙ put | in-Err+in-List-1 v ↦ v.self-is ∙ put | in-Err+in-Map-1 v ↦ v.self-is ∙ put | in-Ok-1 v ↦ v.self-is ∙ put ])
-  | in-Err-insert w ↦ rw w.result-is tt
-]
+pub returns-in_ok-insert-in-Err-clause-ok : goal.returns-in_ok-insert-in-Err-clause-ok
+returns-in_ok-insert-in-Err-clause-ok c =
+    let gap = subst (λ n. IsGap (map named_document c.deref.result.now) n c.in-Err.i) c.as_str.ensures.text c.in-Err.ensures.absent in
+    rw (← c.self.view_is) (ap (map named_document) c.in_ok-insert-in-Err.ensures.items ∙ insert_seen named_document _ _ _ _ c.deref.ensures.value (document c.args.tree) (c.args.name, c.args.tree) gap refl)

@@ -1,0 +1,6 @@
+use Rattle.std.proofs.Common.{◌∙◌, sym, refl, arith}
+use Rattle.conf_doc.proofs.Equal.{all_same}
+use Rattle.conf_doc.proofs.sameness.same_texts.Goals as goal
+
+pub returns : goal.returns
+returns c = (λ yes. all_same _ _ (sym c.len.ensures ∙ c.if-len.false ∙ c.len-2.ensures) (λ k within. c.loop-i.invariant k (omega arith)), λ e. refl)

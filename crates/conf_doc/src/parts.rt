@@ -1,0 +1,53 @@
+//! Parts of a configuration: what a place may hold.
+ghost use Rattle.std.specs.Prelude.{◌≡◌, ◌↔◌, IfOk, IsTrue};
+ghost use Rattle.conf_doc.specs.Configuration.{part_tree};
+ghost use Rattle.conf_doc.specs.Trees.{document};
+
+use crate::writing::Written;
+use crate::{Entry, Table, Tree, Value};
+use host_core::Memory;
+use std::alloc::Global;
+
+/// What a place of one, two or three names holds.
+#[derive(Drop, Eq, Hash, Ord, PartialEq, PartialOrd)]
+pub enum Part {
+    Table(Table),
+    Entry(Entry),
+    Value(Value),
+}
+
+impl Part {
+    /// Whether the parts are the same.
+    pub fn same(&self, other: &Part) -> bool
+        ensures { IsTrue result ↔ (self.now ≡ other.now) }
+    {
+        match (self, other) {
+            (Part::Table(left), Part::Table(right)) => left.same(right),
+            (Part::Entry(left), Part::Entry(right)) => left.same(right),
+            (Part::Value(left), Part::Value(right)) => left.same(right),
+            _ => false,
+        }
+    }
+
+    /// The same part.
+    pub fn copy(&self, alloc: Global) -> Result<Part, Memory>
+        ensures { IfOk result (λ p. p ≡ self.now) }
+    {
+        match self {
+            Part::Table(table) => Ok(Part::Table(table.copy(alloc)?)),
+            Part::Entry(entry) => Ok(Part::Entry(entry.copy(alloc)?)),
+            Part::Value(value) => Ok(Part::Value(value.copy(alloc)?)),
+        }
+    }
+}
+
+/// The tree of a part.
+pub fn part_tree(alloc: Global, part: &Part) -> Result<Tree, Memory>
+    ensures { IfOk result (λ t. document t ≡ part_tree part.now) }
+{
+    match part {
+        Part::Table(table) => table.tree(alloc),
+        Part::Entry(entry) => entry.tree(alloc),
+        Part::Value(value) => value.tree(alloc),
+    }
+}

@@ -1,0 +1,101 @@
+//! Whether two configurations, or parts of them, are the same: in one pass, lengths first, with no memory.
+ghost use Rattle.std.specs.Prelude.{◌≡◌, ◌↔◌, IsTrue};
+
+use crate::sorted::Sorted;
+use crate::{Config, Entry, Table, Value};
+use host_core::Names;
+
+/// Values of which can be said that they are the same.
+trait Same {
+    fn is_same(&self, other: &Self) -> bool
+        ensures { IsTrue result ↔ (self.now ≡ other.now) };
+}
+
+impl Config {
+    /// Whether the configurations are the same.
+    pub fn same(&self, other: &Config) -> bool
+        ensures { IsTrue result ↔ (self.now ≡ other.now) }
+    {
+        same_parts(&self.tables, &other.tables)
+    }
+}
+
+impl Table {
+    /// Whether the tables are the same.
+    pub fn same(&self, other: &Table) -> bool
+        ensures { IsTrue result ↔ (self.now ≡ other.now) }
+    {
+        same_parts(&self.entries, &other.entries)
+    }
+}
+
+impl Entry {
+    /// Whether the entries are the same.
+    pub fn same(&self, other: &Entry) -> bool
+        ensures { IsTrue result ↔ (self.now ≡ other.now) }
+    {
+        same_parts(&self.fields, &other.fields)
+    }
+}
+
+impl Value {
+    /// Whether the values are the same.
+    pub fn same(&self, other: &Value) -> bool
+        ensures { IsTrue result ↔ (self.now ≡ other.now) }
+    {
+        match (self, other) {
+            (Value::Text(left), Value::Text(right)) => left.as_str() == right.as_str(),
+            (Value::List(left), Value::List(right)) => same_texts(left, right),
+            _ => false,
+        }
+    }
+}
+
+impl Same for Table {
+    fn is_same(&self, other: &Table) -> bool {
+        self.same(other)
+    }
+}
+
+impl Same for Entry {
+    fn is_same(&self, other: &Entry) -> bool {
+        self.same(other)
+    }
+}
+
+impl Same for Value {
+    fn is_same(&self, other: &Value) -> bool {
+        self.same(other)
+    }
+}
+
+fn same_parts<X: Same>(left: &Sorted<X>, right: &Sorted<X>) -> bool
+    ensures { IsTrue result ↔ (left.now ≡ right.now) }
+{
+    if left.len() != right.len() {
+        return false;
+    }
+    for i in 0..left.len() {
+        if left.name_at(i) != right.name_at(i) {
+            return false;
+        }
+        if !left.part_at(i).is_same(right.part_at(i)) {
+            return false;
+        }
+    }
+    true
+}
+
+fn same_texts(left: &Names, right: &Names) -> bool
+    ensures { IsTrue result ↔ (left.now ≡ right.now) }
+{
+    if left.len() != right.len() {
+        return false;
+    }
+    for i in 0..left.len() {
+        if left.at(i).as_str() != right.at(i).as_str() {
+            return false;
+        }
+    }
+    true
+}

@@ -1,0 +1,185 @@
+//! The list under tables, entries and fields: pairs of a name and a part, sorted by the names. A pair
+//! stands behind one pointer, so that a changed list shares every other pair with the old one.
+ghost use Rattle.std.specs.Prelude.{◌≡◌, ◌<◌, [], length, map, option_map, slice_get, Some, IfOk, OnOk};
+ghost use Rattle.conf_doc.specs.Pairs.{find, first_from, put, set_part, without, IsRising};
+ghost use Rattle.conf_doc.specs.Shared.{pairs_of};
+ghost use Rattle.conf_doc.specs.WellFormed.{IsShaped};
+
+use crate::indexes::index_of_pair;
+use host_core::{Memory, Txt};
+use std::alloc::Global;
+use std::marker::Model;
+use std::rc::Rc;
+
+/// Contracts see the list of the pairs. Names rise by their bytes, and none is empty.
+#[derive(Drop)]
+pub struct Sorted<X> {
+    pairs: Vec<Rc<(Txt, X)>>,
+}
+
+impl<X> Model for Sorted<X> {
+    ghost use Rattle.std.specs.Prelude.{List, ℕ};
+    ghost use Rattle.conf_doc.specs.Shared.{pairs_of};
+    ghost use Rattle.conf_doc.specs.WellFormed.{IsShaped};
+
+    ghost Value = { List (List ℕ × X) };
+
+    ghost view = { λ s. pairs_of s.pairs.items };
+
+    ghost invariant = { λ s. IsShaped (pairs_of s.pairs.items) };
+}
+
+impl<X> Sorted<X> {
+    /// No pairs, which take no memory.
+    pub(crate) fn new(alloc: Global) -> Sorted<X>
+        ensures { result ≡ [] }
+    {
+        Sorted {
+            pairs: Vec::new(alloc),
+        }
+    }
+
+    /// The pairs of a vector that keeps the rules already.
+    pub(crate) fn from_shaped(pairs: Vec<Rc<(Txt, X)>>) -> Sorted<X>
+        requires { IsShaped (pairs_of pairs.items) }
+        ensures { result ≡ pairs_of pairs.items }
+    {
+        Sorted { pairs }
+    }
+
+    /// The pairs, each behind its pointer.
+    pub(crate) fn pairs(&self) -> &[Rc<(Txt, X)>]
+        ensures { pairs_of result.now ≡ self.now }
+    {
+        self.pairs.as_slice()
+    }
+
+    /// How many pairs there are.
+    pub(crate) fn len(&self) -> usize
+        ensures len { result ≡ length self.now }
+        ensures shaped { IsShaped self.now }
+    {
+        self.pairs.len()
+    }
+
+    /// The pair at an index.
+    pub(crate) fn pair_at(&self, i: usize) -> &(Txt, X)
+        requires { i < length self.now }
+        ensures { slice_get self.now i ≡ Some result.now }
+    {
+        self.pairs[i].as_ref()
+    }
+
+    /// The name at an index.
+    pub(crate) fn name_at(&self, i: usize) -> &str
+        requires { i < length self.now }
+        ensures { slice_get (map (λ p. p.0) self.now) i ≡ Some result.now }
+    {
+        self.pair_at(i).0.as_str()
+    }
+
+    /// The part at an index.
+    pub(crate) fn part_at(&self, i: usize) -> &X
+        requires { i < length self.now }
+        ensures { slice_get (map (λ p. p.1) self.now) i ≡ Some result.now }
+    {
+        &self.pair_at(i).1
+    }
+
+    /// What a name names, or None where it stands nowhere.
+    pub(crate) fn find(&self, name: &str) -> Option<&X>
+        ensures { option_map (λ v. v.now) result ≡ find name.now self.now }
+    {
+        match index_of_pair(&self.pairs, name) {
+            Ok(i) => Some(&self.pairs[i].as_ref().1),
+            Err(_) => None,
+        }
+    }
+
+    /// The first index from which no name is below that one.
+    pub(crate) fn first_from(&self, name: &str) -> usize
+        ensures { result ≡ first_from name.now self.now }
+    {
+        match index_of_pair(&self.pairs, name) {
+            Ok(i) => i,
+            Err(i) => i,
+        }
+    }
+}
+
+impl<X: Drop> Sorted<X> {
+    /// The same pairs, all of them shared.
+    pub(crate) fn copy(&self, alloc: Global) -> Result<Sorted<X>, Memory>
+        ensures { IfOk result (λ s. s ≡ self.now) }
+    {
+        Ok(Sorted {
+            pairs: share(alloc, &self.pairs)?,
+        })
+    }
+
+    /// The list with that pair, in the place of one of that name.
+    pub(crate) fn with(&self, alloc: Global, name: &str, part: X) -> Result<Sorted<X>, Memory>
+        requires { 0 < length name.now }
+        ensures { IfOk result (λ s. s ≡ put name.now part self.now) }
+    {
+        let mut pairs = share(alloc, &self.pairs)?;
+        put_pair(&mut pairs, Rc::new(alloc, (Txt::new(alloc, name)?, part))?)?;
+        Ok(Sorted { pairs })
+    }
+
+    /// The list without a pair of that name.
+    pub(crate) fn without(&self, alloc: Global, name: &str) -> Result<Sorted<X>, Memory>
+        ensures { IfOk result (λ s. s ≡ without name.now self.now) }
+    {
+        let mut pairs = share(alloc, &self.pairs)?;
+        remove_pair(&mut pairs, name);
+        Ok(Sorted { pairs })
+    }
+
+    /// The list with a part of that name, or for None without one.
+    pub(crate) fn set(
+        &self,
+        alloc: Global,
+        name: &str,
+        part: Option<X>,
+    ) -> Result<Sorted<X>, Memory>
+        requires { 0 < length name.now }
+        ensures { IfOk result (λ s. s ≡ set_part name.now part self.now) }
+    {
+        match part {
+            Some(part) => self.with(alloc, name, part),
+            None => self.without(alloc, name),
+        }
+    }
+}
+
+/// The same pairs behind the same pointers.
+fn share<X: Drop>(alloc: Global, pairs: &[Rc<(Txt, X)>]) -> Result<Vec<Rc<(Txt, X)>>, Memory>
+    ensures { IfOk result (λ v. pairs_of v.items ≡ pairs_of pairs.now) }
+{
+    Ok(pairs.to_vec(alloc)?)
+}
+
+/// Puts a pair where its name belongs, in the place of one of that name.
+fn put_pair<X: Drop>(pairs: &mut Vec<Rc<(Txt, X)>>, pair: Rc<(Txt, X)>) -> Result<(), Memory>
+    requires { IsRising (pairs_of pairs.old.items) }
+    ensures { OnOk result (pairs_of pairs.new.items
+        ≡ put pair.value.0 pair.value.1 (pairs_of pairs.old.items)) }
+{
+    match index_of_pair(pairs, pair.as_ref().0.as_str()) {
+        Ok(i) => pairs[i] = pair,
+        Err(i) => pairs.insert(i, pair)?,
+    }
+    Ok(())
+}
+
+/// Takes out the pair of that name, where there is one.
+fn remove_pair<X: Drop>(pairs: &mut Vec<Rc<(Txt, X)>>, name: &str)
+    requires { IsRising (pairs_of pairs.old.items) }
+    ensures { pairs_of pairs.new.items ≡ without name.now (pairs_of pairs.old.items) }
+{
+    match index_of_pair(pairs, name) {
+        Ok(i) => drop(pairs.remove(i)),
+        Err(_) => {}
+    }
+}

@@ -1,0 +1,9 @@
+mod Counting
+mod Entries
+mod FileMaps
+mod FoldStages
+mod Listings
+mod Moments
+mod Stages
+mod Standing
+mod StepsTaken

@@ -1,0 +1,39 @@
+//! The names of step files.
+ghost use Rattle.std.specs.Prelude.{◌≡◌, ◌+◌, ◌%◌, ◌++◌, ◌∷◌, [], string_bytes, IfOk, OnOk};
+ghost use Rattle.conf_store.specs.Files.{digit_zero, last_digits, step_name as name_of_step, ten};
+
+use host_core::{Memory, Txt};
+use std::alloc::Global;
+
+/// How many digits stand in the name of a step file.
+const DIGITS: u32 = 6;
+
+/// The name of the step file of a number, counted from 1: `step.` and the number with six digits.
+pub fn step_name(alloc: Global, n: u32) -> Result<Txt, Memory>
+    ensures { IfOk result (λ t. t ≡ name_of_step n) }
+{
+    let mut text = String::from_str(alloc, "step.")?;
+    push_digits(&mut text, DIGITS, n)?;
+    Ok(Txt::from(text))
+}
+
+/// Appends the last `k` digits of a number.
+fn push_digits(text: &mut String, k: u32, n: u32) -> Result<(), Memory>
+    ensures { OnOk result (string_bytes text.new ≡ string_bytes text.old ++ last_digits k n) }
+{
+    if k == 0 {
+        return Ok(());
+    }
+    push_digits(text, k - 1, n / 10)?;
+    push_digit(text, n)
+}
+
+/// Appends the last digit of a number.
+fn push_digit(text: &mut String, n: u32) -> Result<(), Memory>
+    ensures { OnOk result
+        (string_bytes text.new ≡ string_bytes text.old ++ (digit_zero + n % ten) ∷ []) }
+{
+    let code = b'0' + (n % 10) as u8;
+    text.push(char::from(code))?;
+    Ok(())
+}

@@ -1,0 +1,9 @@
+pub mod GrammarRead
+pub mod Lexemes
+pub mod ReadGrammar
+pub mod ReadNesting
+pub mod ReadSteps
+pub mod Spelling
+pub mod Tallies
+pub mod Weights
+pub mod WordTexts

@@ -1,0 +1,121 @@
+-- The tokens of a text, byte by byte.
+use Rattle.std.specs.Prelude.{◌≡◌, ℕ, ◌==◌, ◌||◌, List, [], ◌∷◌, ◌++◌, Option, Some, None, option_map, option_and_then, if◌then◌else◌}
+use Rattle.std.specs.Option.{option_to_list}
+use Rattle.xpath_part.specs.Words.{is_blank, is_digit, is_name_start, is_name_byte, name_token, prefixed_token, literal_token, number_token}
+use Rattle.xpath_part.specs.declared.lexing.Mode.{Mode}
+use Rattle.xpath_part.specs.declared.lexing.Mode.TheVariants.{Between, Dot, Exclamation, Less as LessThan, More as MoreThan, Name as InName, Colon, Local, Literal as InLiteral, Number as InNumber}
+use Rattle.xpath_part.specs.declared.lexing.Growth.{Growth}
+use Rattle.xpath_part.specs.declared.lexing.Growth.TheVariants.{Within, Whole, Ends, Bad}
+use Rattle.xpath_part.specs.declared.symbols.Token.{Token}
+use Rattle.xpath_part.specs.declared.symbols.Token.TheVariants.{Sign as Signed}
+use Rattle.xpath_part.specs.declared.symbols.Sign.{Sign}
+use Rattle.xpath_part.specs.declared.symbols.Sign.TheVariants.{Slash, Open, Close, OpenBracket, CloseBracket, Compare, Up, Stay}
+use Rattle.xpath_part.specs.declared.comparisons.Cmp.TheVariants.{Equal, Differ, Less, AtMost, More, AtLeast}
+
+abbrev pub ends : Option Token → Growth
+ends None = Bad
+ends (Some t) = Ends (Some t)
+
+abbrev pub whole : Option Token → Growth
+whole None = Bad
+whole (Some t) = Whole t
+
+-- `/`, `(`, `)`, `[`, `]` and `=`
+abbrev pub sign_of : ℕ → Option Sign
+sign_of b =
+    if b == 47 then Some Slash
+    else if b == 40 then Some Open
+    else if b == 41 then Some Close
+    else if b == 91 then Some OpenBracket
+    else if b == 93 then Some CloseBracket
+    else if b == 61 then Some (Compare Equal)
+    else None
+
+-- a dot, an exclamation mark, `<`, `>`, a quote, a digit or what begins a name
+abbrev pub begin_longer : ℕ → Growth
+begin_longer b =
+    if b == 46 then Within Dot
+    else if b == 33 then Within Exclamation
+    else if b == 60 then Within LessThan
+    else if b == 62 then Within MoreThan
+    else if b == 39 || b == 34 then Within (InLiteral b [])
+    else if is_digit b then Within (InNumber (b ∷ []))
+    else if is_name_start b then Within (InName (b ∷ []))
+    else Bad
+
+abbrev begin_sign : ℕ → Option Sign → Growth
+begin_sign b None = begin_longer b
+begin_sign b (Some s) = Whole (Signed s)
+
+abbrev pub begin : ℕ → Growth
+begin b = if is_blank b then Within Between else begin_sign b (sign_of b)
+
+abbrev alone : Option Sign → Growth
+alone None = Bad
+alone (Some s) = Ends (Some (Signed s))
+
+-- a byte behind a sign that another one may follow
+abbrev pub pair : ℕ → ℕ → Sign → Option Sign → Growth
+pair b second both one = if b == second then Whole (Signed both) else alone one
+
+abbrev pub grow : Mode → ℕ → Growth
+grow Between b = Ends None
+grow Dot b = pair b 46 Up (Some Stay)
+grow Exclamation b = pair b 61 (Compare Differ) None
+grow LessThan b = pair b 61 (Compare AtMost) (Some (Compare Less))
+grow MoreThan b = pair b 61 (Compare AtLeast) (Some (Compare More))
+grow (InName s) b =
+    if is_name_byte b then Within (InName (s ++ b ∷ []))
+    else if b == 58 then Within (Colon s)
+    else ends (name_token s)
+grow (Colon p) b = if is_name_start b then Within (Local p (b ∷ [])) else Bad
+grow (Local p s) b = if is_name_byte b then Within (Local p (s ++ b ∷ [])) else ends (prefixed_token p s)
+grow (InLiteral q s) b = if b == q then whole (literal_token s) else Within (InLiteral q (s ++ b ∷ []))
+grow (InNumber ds) b = if is_digit b then Within (InNumber (ds ++ b ∷ [])) else ends (number_token ds)
+
+-- what is left at the end
+abbrev pub finish : Mode → Growth
+finish Between = Ends None
+finish Dot = Ends (Some (Signed Stay))
+finish Exclamation = Bad
+finish LessThan = Ends (Some (Signed (Compare Less)))
+finish MoreThan = Ends (Some (Signed (Compare More)))
+finish (InName s) = ends (name_token s)
+finish (Colon p) = Bad
+finish (Local p s) = ends (prefixed_token p s)
+finish (InLiteral q s) = Bad
+finish (InNumber ds) = ends (number_token ds)
+
+abbrev pub settled : Growth → Option (List Token × Mode)
+settled (Within m) = Some ([], m)
+settled (Whole t) = Some (t ∷ [], Between)
+settled (Ends o) = None
+settled Bad = None
+
+abbrev pub behind : ℕ → Growth → Option (List Token × Mode)
+behind b (Within m) = settled (Within m)
+behind b (Whole t) = settled (Whole t)
+behind b (Ends o) = option_map (λ p. (option_to_list o ++ p.0, p.1)) (settled (begin b))
+behind b Bad = None
+
+-- the tokens that have ended with a byte, and what has been read of the next one
+abbrev pub advance : Mode → ℕ → Option (List Token × Mode)
+advance m b = behind b (grow m b)
+
+abbrev pub Advances : Option (List Token × Mode) → List Token → List Token → Mode → Type 0
+Advances None old new m = ⊥
+Advances (Some p) old new m = (new ≡ old ++ p.0) × (m ≡ p.1)
+
+abbrev pub left_over : Growth → Option (List Token)
+left_over (Within m) = None
+left_over (Whole t) = None
+left_over (Ends o) = Some (option_to_list o)
+left_over Bad = None
+
+abbrev pub lex_from : Mode → List ℕ → Option (List Token)
+lex_from m [] = left_over (finish m)
+lex_from m (b ∷ bs) = option_and_then (λ p. option_map (λ ts. p.0 ++ ts) (lex_from p.1 bs)) (advance m b)
+
+-- the tokens of a text, where it has some
+abbrev pub lex : List ℕ → Option (List Token)
+lex s = lex_from Between s

@@ -1,0 +1,5 @@
+pub mod Entries
+pub mod Fitting
+pub mod Given
+pub mod Places
+pub mod FaultLists

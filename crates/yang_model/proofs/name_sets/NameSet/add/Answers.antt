@@ -1,0 +1,10 @@
+use Rattle.std.proofs.Common.{true, string_bytes}
+use Rattle.std.proofs.lemmas.Map.Text.{btree_set_updates_text}
+use Rattle.yang_model.proofs.Given.{IsSetOf-added}
+use Rattle.yang_model.proofs.name_sets.NameSet.add.Goals as goal
+
+pub returns-clause-next : goal.returns-clause-next
+returns-clause-next c = λ names set.
+    IsSetOf-added c.args.self.now.names c.insert.new.self names c.args.name.now
+    (λ q. rw (← c.in_ok-key.ensures.ok) (btree_set_updates_text (string_bytes c.in_ok-key.key) c.args.self.now.names c.insert.new.self true c.in_ok-insert.ensures.updates q))
+    set

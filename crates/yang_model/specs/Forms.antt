@@ -1,0 +1,112 @@
+-- What the argument of each kind of statement is (RFC 7950, sections 6.2 and 7, in a profile).
+use Rattle.std.specs.Prelude.{ℕ, ◌==◌, ◌&&◌, ◌||◌, not, nat_le, Bool, true, false, List, [], ◌∷◌, codes}
+use Rattle.std.specs.List.{list_all, list_any}
+use Rattle.std.specs.Str.{bytes_eq}
+use Rattle.yang_model.specs.declared.kinds.Kind.{Kind}
+use Rattle.yang_model.specs.declared.kinds.Kind.TheVariants.{File, Module, YangVersion, Word, Prefix, Import, Revision, Typedef, ModuleContainer, TableContainer, TableList, FixedContainer, Key, Leaf, LeafList, Mandatory, Must, Enum, Path, Bounds, Pattern, NamedType, TextType, NumberType, EnumerationType, LeafrefType, UnionType, PlainType, UnknownType}
+
+abbrev underscore : ℕ
+underscore = 95
+
+abbrev dash : ℕ
+dash = 45
+
+abbrev dot : ℕ
+dot = 46
+
+abbrev first_capital : ℕ
+first_capital = 65
+
+abbrev last_capital : ℕ
+last_capital = 90
+
+abbrev first_small : ℕ
+first_small = 97
+
+abbrev last_small : ℕ
+last_small = 122
+
+abbrev first_digit : ℕ
+first_digit = 48
+
+abbrev last_digit : ℕ
+last_digit = 57
+
+-- a character in a range
+abbrev pub is_between : ℕ → ℕ → ℕ → Bool
+is_between low high c = nat_le low c && nat_le c high
+
+-- an ASCII letter
+abbrev pub is_letter : ℕ → Bool
+is_letter c = is_between first_capital last_capital c || is_between first_small last_small c
+
+-- an ASCII digit
+abbrev pub is_digit : ℕ → Bool
+is_digit c = is_between first_digit last_digit c
+
+-- a letter or `_`
+abbrev pub begins_identifier : ℕ → Bool
+begins_identifier c = is_letter c || c == underscore
+
+-- letters, digits, `_`, `-` and `.`
+abbrev pub continues_identifier : ℕ → Bool
+continues_identifier c = begins_identifier c || is_digit c || c == dash || c == dot
+
+-- RFC 7950, section 6.2
+abbrev pub is_identifier : List ℕ → Bool
+is_identifier [] = false
+is_identifier (c ∷ cs) = begins_identifier c && list_all continues_identifier cs
+
+-- the types that are built in (RFC 7950, section 9)
+abbrev pub built_in_types : List (List ℕ)
+built_in_types =
+    codes "binary" ∷ codes "bits" ∷ codes "boolean" ∷ codes "decimal64" ∷ codes "empty"
+    ∷ codes "enumeration" ∷ codes "identityref" ∷ codes "instance-identifier"
+    ∷ codes "int8" ∷ codes "int16" ∷ codes "int32" ∷ codes "int64"
+    ∷ codes "leafref" ∷ codes "string"
+    ∷ codes "uint8" ∷ codes "uint16" ∷ codes "uint32" ∷ codes "uint64"
+    ∷ codes "union" ∷ []
+
+-- no typedef may have such a name
+abbrev pub is_built_in_type : List ℕ → Bool
+is_built_in_type s = list_any (λ t. bytes_eq t s) built_in_types
+
+-- RFC 7950, section 7.1.2
+abbrev pub is_version : List ℕ → Bool
+is_version s = bytes_eq s (codes "1") || bytes_eq s (codes "1.1")
+
+-- RFC 7950, section 7.6.5
+abbrev pub is_truth : List ℕ → Bool
+is_truth s = bytes_eq s (codes "true") || bytes_eq s (codes "false")
+
+-- any text where nothing else is said
+abbrev pub is_form : Kind → List ℕ → Bool
+is_form File s = true
+is_form Module s = is_identifier s
+is_form YangVersion s = is_version s
+is_form Word s = true
+is_form Prefix s = is_identifier s
+is_form Import s = true
+is_form Revision s = true
+is_form Typedef s = is_identifier s && not (is_built_in_type s)
+is_form ModuleContainer s = is_identifier s
+is_form TableContainer s = is_identifier s
+is_form TableList s = is_identifier s
+is_form FixedContainer s = is_identifier s
+is_form Key s = true
+is_form Leaf s = is_identifier s
+is_form LeafList s = is_identifier s
+is_form Mandatory s = is_truth s
+is_form Must s = true
+is_form Enum s = true
+is_form Path s = true
+is_form Bounds s = true
+is_form Pattern s = true
+is_form NamedType s = true
+is_form TextType s = true
+is_form NumberType s = true
+is_form EnumerationType s = true
+is_form LeafrefType s = true
+is_form UnionType s = true
+is_form PlainType s = true
+is_form UnknownType s = true

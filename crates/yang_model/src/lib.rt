@@ -1,0 +1,23 @@
+//! Models of YANG texts (RFC 7950, in a profile): the shapes of the entries of each table, or the
+//! exact fault of the texts.
+#![tactic(auto)]
+
+mod belonging;
+mod duplicates;
+mod faults;
+mod forms;
+mod kinds;
+mod laws;
+mod models;
+mod name_index;
+mod name_sets;
+mod own;
+mod rows;
+mod scopes;
+mod sentences;
+mod shapes;
+mod walks;
+
+pub use laws::belongs_once;
+pub use models::Models;
+pub use shapes::{FieldRule, KeyLeaf, MustRule, Shape};

@@ -1,6 +1,0 @@
-use Rattle.yang_pattern.specs.Reading.{settled}
-use Rattle.yang_pattern.proofs.FrameLemmas.{joined_none}
-use Rattle.yang_pattern.proofs.frames.Frame.closed.Goals as goal
-
-pub returns-in-None : goal.returns-in-None
-returns-in-None c = λ r o f. joined_none r c.args.self.choices o.choices c.in_ok-branch.branch (settled o.branch o.last) c.in-None.is f.choices (c.in_ok-branch.ensures r o.branch o.last f.branch f.last)

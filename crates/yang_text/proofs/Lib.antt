@@ -1,0 +1,13 @@
+pub mod Builds
+pub mod Counts
+pub mod Cuts
+pub mod Escapes
+pub mod FaultSteps
+pub mod Least
+pub mod Lexed
+pub mod Readings
+pub mod Sound
+pub mod Spelled
+pub mod Split
+pub mod Theorems
+pub mod TokenSteps

@@ -1,0 +1,6 @@
+pub mod Joined
+pub mod NumberLemmas
+pub mod PartLemmas
+pub mod Unions
+pub mod Prefixes
+pub mod Shortened

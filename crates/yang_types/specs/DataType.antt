@@ -1,0 +1,53 @@
+-- The types of YANG (RFC 7950, section 9), without the memory that a `Ty` has.
+use Rattle.std.specs.Prelude.{ℕ, suc, ◌+◌, List, [], ◌∷◌}
+use Rattle.yang_types.specs.declared.types.Bounds.{Bounds}
+use Rattle.yang_types.specs.declared.types.Builtin.{Builtin}
+use Rattle.yang_types.specs.declared.types.Target.{Target}
+
+mutual
+  -- a pattern and a name are texts
+  pub data DataType : Type 0 where
+    text : DataType
+    number : Bounds → DataType
+    length_within : DataType → List Bounds → DataType
+    value_within : DataType → List Bounds → DataType
+    matching : DataType → List ℕ → DataType
+    one_of : List (List ℕ) → DataType
+    truth : DataType
+    builtin : Builtin → DataType
+    leafref : Target → DataType → DataType
+    union : DataTypes → DataType
+
+  -- a list of types
+  pub data DataTypes : Type 0 where
+    no_types : DataTypes
+    type_and : DataType → DataTypes → DataTypes
+
+-- types as a plain list
+abbrev pub plain_types : DataTypes → List DataType
+plain_types no_types = []
+plain_types (type_and t ts) = t ∷ plain_types ts
+
+-- the types of a plain list
+abbrev pub types_of : List DataType → DataTypes
+types_of [] = no_types
+types_of (t ∷ ts) = type_and t (types_of ts)
+
+abbrev mutual
+  -- how many types a type has in it, itself included
+  pub type_weight : DataType → ℕ
+  type_weight text = 1
+  type_weight (number b) = 1
+  type_weight (length_within t bs) = suc (type_weight t)
+  type_weight (value_within t bs) = suc (type_weight t)
+  type_weight (matching t p) = suc (type_weight t)
+  type_weight (one_of names) = 1
+  type_weight truth = 1
+  type_weight (builtin b) = 1
+  type_weight (leafref r t) = suc (type_weight t)
+  type_weight (union ts) = suc (types_weight ts)
+
+  -- and all of several
+  pub types_weight : DataTypes → ℕ
+  types_weight no_types = 0
+  types_weight (type_and t ts) = type_weight t + types_weight ts

@@ -1,0 +1,10 @@
+//! The types of YANG (RFC 7950, section 9, in a profile), and which texts each accepts.
+#![tactic(auto)]
+
+mod accepts;
+mod addresses;
+mod numbers;
+mod types;
+
+pub use accepts::accepts_plain;
+pub use types::{Bounds, Builtin, Target, Ty, TyBox, Types};
