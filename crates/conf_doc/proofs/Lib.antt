@@ -6,6 +6,7 @@ pub mod Escapes
 pub mod Lists
 pub mod Names
 pub mod Parsed
+pub mod PartOrders
 pub mod ReadBack
 pub mod ReadTree
 pub mod RoundTrip

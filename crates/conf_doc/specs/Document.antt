@@ -2,11 +2,13 @@
 use Rattle.std.specs.Prelude.{ℕ, suc, ◌+◌, max, List, [], ◌∷◌, length}
 
 mutual
+  -- a text, a list or a map
   pub data Document : Type 0 where
     text : List ℕ → Document
     list : Items → Document
     object : Members → Document
 
+  -- documents one after another
   pub data Items : Type 0 where
     no_items : Items
     item : Document → Items → Items
@@ -16,7 +18,7 @@ mutual
     no_members : Members
     member : List ℕ → Document → Members → Members
 
--- items and members as plain lists, and back
+-- items as a plain list
 abbrev pub documents : Items → List Document
 documents no_items = []
 documents (item d ds) = d ∷ documents ds
@@ -36,32 +38,36 @@ abbrev pub members_of : List (List ℕ × Document) → Members
 members_of [] = no_members
 members_of (m ∷ ms) = member m.0 m.1 (members_of ms)
 
--- one for each node, and the bytes of every text and name
 abbrev mutual
+  -- one for each node, and the bytes of every text and name
   pub weight : Document → ℕ
   weight (text s) = suc (length s)
   weight (list ds) = suc (items_weight ds)
   weight (object ms) = suc (members_weight ms)
 
+  -- what the items weigh together
   pub items_weight : Items → ℕ
   items_weight no_items = 0
   items_weight (item d ds) = weight d + items_weight ds
 
+  -- what the members weigh together, with their names
   pub members_weight : Members → ℕ
   members_weight no_members = 0
   members_weight (member k d ms) = length k + weight d + members_weight ms
 
--- how deep lists and maps nest; a text adds nothing
 abbrev mutual
+  -- how deep lists and maps nest; a text adds nothing
   pub depth : Document → ℕ
   depth (text s) = 0
   depth (list ds) = suc (items_depth ds)
   depth (object ms) = suc (members_depth ms)
 
+  -- how deep the deepest item nests
   pub items_depth : Items → ℕ
   items_depth no_items = 0
   items_depth (item d ds) = max (depth d) (items_depth ds)
 
+  -- how deep the deepest member nests
   pub members_depth : Members → ℕ
   members_depth no_members = 0
   members_depth (member k d ms) = max (depth d) (members_depth ms)

@@ -6,6 +6,7 @@ pub mod Document
 pub mod Falls
 pub mod Order
 pub mod Pairs
+pub mod PartOrder
 pub mod Paths
 pub mod Pointer
 pub mod Reading

@@ -22,8 +22,8 @@ below token (Err way) = Err (token ∷ way)
 abbrev pub json : List ℕ → Option values.Data
 json bytes = if is_utf8 bytes then read bytes else None
 
--- the document that the value is, or the way to its first number, true, false or null
 abbrev mutual
+  -- the document that the value is, or the way to its first number, true, false or null
   pub document_of : values.Data → Result Document Way
   document_of values.null = Err []
   document_of (values.boolean b) = Err []

@@ -3,8 +3,8 @@ use Rattle.std.specs.Prelude.{IsUtf8}
 use Rattle.conf_doc.specs.Document.{Document, text, list, object, Items, no_items, item, Members, no_members, member, pairs}
 use Rattle.conf_doc.specs.Pairs.{IsRising}
 
--- its texts are UTF-8, and the names of each map rise
 abbrev mutual
+  -- its texts are UTF-8, and the names of each map rise
   pub IsSound : Document → Type 0
   IsSound (text s) = IsUtf8 s
   IsSound (list ds) = AreSoundItems ds

@@ -10,8 +10,8 @@ use Rattle.conf_doc.specs.Document.{Document, deepest, depth, text, list, object
 use Rattle.conf_doc.specs.Configuration.{tree}
 use Rattle.conf_doc.specs.declared.configuration.Config.{Config}
 
--- the JSON value that a document is
 abbrev mutual
+  -- the JSON value that a document is
   pub value : Document → values.Data
   value (text s) = values.string s
   value (list ds) = values.array (item_values ds)

@@ -1,12 +1,14 @@
 //! Parts of a configuration: what a place may hold.
 ghost use Rattle.std.specs.Prelude.{◌≡◌, ◌↔◌, IfOk, IsTrue};
 ghost use Rattle.conf_doc.specs.Configuration.{part_tree};
+ghost use Rattle.conf_doc.specs.PartOrder.{part_cmp};
 ghost use Rattle.conf_doc.specs.Trees.{document};
 
 use crate::writing::Written;
 use crate::{Entry, Table, Tree, Value};
 use host_core::Memory;
 use std::alloc::Global;
+use std::cmp::Ordering;
 
 /// What a place of one, two or three names holds.
 #[derive(Drop, Eq, Hash, Ord, PartialEq, PartialOrd)]
@@ -27,6 +29,13 @@ impl Part {
             (Part::Value(left), Part::Value(right)) => left.same(right),
             _ => false,
         }
+    }
+
+    /// How the parts stand in the order of parts of one kind. It takes no memory.
+    pub fn compare(&self, other: &Part) -> Ordering
+        ensures { result ≡ part_cmp self.now other.now }
+    {
+        self.cmp(other)
     }
 
     /// The same part.
