@@ -1,9 +1,9 @@
 -- One character of a text.
 use Rattle.std.proofs.Common.{◌≡◌, ℕ, Bool, true, false, ◌&&◌, not, eqb, List, [], ◌∷◌, ◌++◌, Option, Some, None, option_map, option_and_then, refl, sym, ap, ◌∙◌, append-nil, length, chars, arith}
 use Rattle.std.proofs.lemmas.Str.{chars-nil}
-use Rattle.yang_pattern.specs.declared.errors.PatternError.{PatternError}
-use Rattle.yang_pattern.specs.declared.errors.PatternError.TheVariants.{Bad, Memory}
-use Rattle.yang_pattern.specs.Errors.{IfBad}
+use Rattle.yang_pattern.specs.declared.errors.Failure.{Failure}
+use Rattle.yang_pattern.specs.declared.errors.Failure.TheVariants.{NoPattern, NoMemory}
+use Rattle.yang_pattern.specs.Errors.{IfNoPattern}
 use Rattle.std.proofs.lemmas.Bool.{eq-eqb, eqb-true}
 use Rattle.yang_pattern.specs.declared.letters.Letter.{Letter}
 use Rattle.yang_pattern.specs.Letters.{letters_from, letter_of}
@@ -31,6 +31,6 @@ ends_behind a ls cs whole e h is = sym is ∙ rw (e, h) refl
 pub ends_well : (a : Bool) (ls : List Letter) (cs : List ℕ) (whole : Option (List Letter)) → cs ≡ [] → a ≡ false → option_map (λ xs. ls ++ xs) (letters_from a cs) ≡ whole → whole ≡ Some ls
 ends_well a ls cs whole e h is = sym is ∙ rw (e, h) (ap Some (append-nil ls))
 
-pub IfBad-weaker : {P Q : Type 0} (e : PatternError) → (P → Q) → IfBad e P → IfBad e Q
-IfBad-weaker (Bad at) f h = f h
-IfBad-weaker Memory f h = h
+pub IfNoPattern-weaker : {P Q : Type 0} (e : Failure) → (P → Q) → IfNoPattern e P → IfNoPattern e Q
+IfNoPattern-weaker NoPattern f h = f h
+IfNoPattern-weaker NoMemory f h = h

@@ -15,3 +15,5 @@ pub mod CountLetters
 pub mod ClassLetters
 pub mod TokenLetters
 pub mod Nothing
+pub mod Merging
+pub mod Scanning

@@ -1,5 +1,5 @@
 -- What a pattern's text is, and which texts it matches.
-use Rattle.std.specs.Prelude.{ℕ, ◌≤◌, List, chars}
+use Rattle.std.specs.Prelude.{ℕ, ◌≤◌, List, ◌++◌, chars}
 use Rattle.yang_pattern.specs.declared.letters.Letter.{Letter}
 use Rattle.yang_pattern.specs.Grammar.{IsText, AreTokens}
 use Rattle.yang_pattern.specs.Pattern.{Branches, Matches, size, nesting, tokens_of}
@@ -14,6 +14,11 @@ pub record SpellsWithin (cs : List ℕ) (bs : Branches) : Type 0 where
   pub spelled : Spells cs bs
   pub small : size bs ≤ largest_size
   pub shallow : nesting bs ≤ deepest_group
+
+-- they begin what spells a pattern of any size, whose groups nest within the limit
+abbrev pub BeginsPattern : List ℕ → Type 0
+BeginsPattern cs =
+    (rest : List ℕ) × (bs : Branches) × Spells (cs ++ rest) bs × (nesting bs ≤ deepest_group)
 
 -- a text that is a pattern
 abbrev pub IsPattern : List ℕ → Type 0

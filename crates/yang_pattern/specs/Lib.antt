@@ -14,6 +14,8 @@ pub mod Counts
 pub mod Letters
 pub mod Lexing
 pub mod Machine
+pub mod Merged
 pub mod Parts
 pub mod PlaceSets
 pub mod Reading
+pub mod Scans

@@ -6,8 +6,12 @@ ghost use Rattle.yang_pattern.specs.Classes.{class_caret, class_dash, class_boun
 
 use crate::letters::Letter;
 use crate::symbols::Symbol;
+use regex_class::ClassRange;
 use std::alloc::{AllocError, Global};
 use std::marker::Model;
+
+/// The number of `-`.
+const HYPHEN: u32 = '-' as u32;
 
 /// What stands at the end of an open class.
 #[derive(Clone, Copy)]
@@ -30,7 +34,7 @@ enum Item {
 #[derive(Drop)]
 pub struct OpenClass {
     negated: bool,
-    ranges: Vec<(char, char)>,
+    ranges: Vec<ClassRange>,
     item: Item,
 }
 
@@ -61,7 +65,7 @@ impl OpenClass {
         let mut ranges = self.ranges;
         let item = match self.item {
             Item::Start | Item::Negated => {
-                ranges.push(('-', '-'))?;
+                ranges.push((HYPHEN, HYPHEN))?;
                 Item::Done
             }
             Item::Done => Item::Dash,
@@ -83,14 +87,14 @@ impl OpenClass {
         let item = match self.item {
             Item::Start | Item::Negated | Item::Done => Item::Bound(c),
             Item::Bound(before) => {
-                ranges.push((before, before))?;
+                ranges.push((before as u32, before as u32))?;
                 Item::Bound(c)
             }
             Item::Range(low) => {
                 if low > c {
                     return Ok(None);
                 }
-                ranges.push((low, c))?;
+                ranges.push((low as u32, c as u32))?;
                 Item::Done
             }
             Item::Dash => return Ok(None),
@@ -142,13 +146,13 @@ impl OpenClass {
         match self.item {
             Item::Start | Item::Negated => return Ok(None),
             Item::Done => {}
-            Item::Bound(c) => ranges.push((c, c))?,
+            Item::Bound(c) => ranges.push((c as u32, c as u32))?,
             Item::Range(c) => {
-                ranges.push((c, c))?;
-                ranges.push(('-', '-'))?;
+                ranges.push((c as u32, c as u32))?;
+                ranges.push((HYPHEN, HYPHEN))?;
             }
-            Item::Dash => ranges.push(('-', '-'))?,
+            Item::Dash => ranges.push((HYPHEN, HYPHEN))?,
         }
-        Ok(Some(Symbol::new(self.negated, ranges)))
+        Ok(Some(Symbol::new(self.negated, ranges)?))
     }
 }

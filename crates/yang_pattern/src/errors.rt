@@ -2,6 +2,7 @@
 
 ghost use Rattle.std.specs.Prelude.{◌≡◌};
 ghost use Rattle.yang_pattern.specs.declared.errors.PatternError.TheVariants.{Memory};
+ghost use Rattle.yang_pattern.specs.declared.errors.Failure.TheVariants.{NoMemory};
 
 use std::alloc::{AllocError, AllocFailed};
 use thiserror::Error;
@@ -9,8 +10,9 @@ use thiserror::Error;
 /// Why `Pattern::read` gives no pattern.
 #[derive(Debug, Drop, Error)]
 pub enum PatternError {
-    /// The text is no pattern. `at` is at most the length of the text: how many letters, tokens or
-    /// bytes were read before reading stopped.
+    /// The text is no pattern. `at` is the place where reading stopped, in bytes: where the
+    /// character, escape, class or quantifier begins that can't stand there or has no end, or the
+    /// text's length where a group has no end or the pattern is too large.
     #[error("not a pattern, at {at}")]
     Bad { at: usize },
     /// No memory was left.
@@ -26,10 +28,27 @@ impl From<AllocError> for PatternError {
     }
 }
 
-impl<T: Drop> From<AllocFailed<T>> for PatternError {
-    ghost from_gives = { λ _ e. e ≡ Memory };
+/// Why a part of a text is not read, wherever it fails.
+#[derive(Drop)]
+pub enum Failure {
+    /// The text is no pattern.
+    NoPattern,
+    /// No memory was left.
+    NoMemory,
+}
 
-    fn from(_e: AllocFailed<T>) -> PatternError {
-        PatternError::Memory
+impl From<AllocError> for Failure {
+    ghost from_gives = { λ _ e. e ≡ NoMemory };
+
+    fn from(_e: AllocError) -> Failure {
+        Failure::NoMemory
+    }
+}
+
+impl<T: Drop> From<AllocFailed<T>> for Failure {
+    ghost from_gives = { λ _ e. e ≡ NoMemory };
+
+    fn from(_e: AllocFailed<T>) -> Failure {
+        Failure::NoMemory
     }
 }

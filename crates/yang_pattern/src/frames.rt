@@ -11,7 +11,7 @@ use crate::symbols::{Quantifier, Token};
 use std::alloc::{AllocError, Global};
 
 /// How many groups may be open at once.
-const MOST_GROUPS: usize = 32;
+pub const MOST_GROUPS: usize = 32;
 
 /// What is read of an open group: its closed branches, the pieces of the open one, and an atom that
 /// a quantifier may follow.

@@ -1,11 +1,11 @@
 //! The letters of a pattern's text: characters, and escapes that stand for one.
 
-ghost use Rattle.std.specs.Prelude.{◌≡◌, ◌≤◌, ◌+◌, ◌∷◌, ◌++◌, ℕ, List, option_map, length, IfOk, IfErr, Some, None, false, chars};
+ghost use Rattle.std.specs.Prelude.{◌≡◌, ◌∷◌, ◌++◌, ℕ, List, option_map, IfOk, IfErr, Some, None, false, chars};
 ghost use Rattle.yang_pattern.specs.Escapes.{is_escapable, escaped_character};
 ghost use Rattle.yang_pattern.specs.Letters.{letters_from, letter_of};
-ghost use Rattle.yang_pattern.specs.Errors.{IfBad, IsPlaceUpTo};
+ghost use Rattle.yang_pattern.specs.Errors.{IfNoPattern};
 
-use crate::errors::PatternError;
+use crate::errors::Failure;
 use std::alloc::Global;
 
 /// One character of a text, and whether a backslash stood before it.
@@ -51,7 +51,8 @@ fn is_escapable(name: char) -> bool
         || name == '^'
 }
 
-fn letter_of(after_backslash: bool, c: char) -> Option<Letter>
+/// The letter of a character, which may stand behind a backslash.
+pub fn letter_of(after_backslash: bool, c: char) -> Option<Letter>
     ensures { result ≡ letter_of after_backslash c }
 {
     if after_backslash {
@@ -75,14 +76,12 @@ fn read_character(
     letters: &mut Vec<Letter>,
     after_backslash: bool,
     c: char,
-) -> Result<bool, PatternError>
+) -> Result<bool, Failure>
     ensures ok { IfOk result (λ after. (cs : List ℕ)
         → option_map (λ ls. letters.new.items ++ ls) (letters_from after cs)
         ≡ option_map (λ ls. letters.old.items ++ ls) (letters_from after_backslash (c ∷ cs))) }
-    ensures count { IfOk result (λ _. length letters.new.items ≤ length letters.old.items + 1) }
     ensures bad { IfErr result
-        (λ e. IfBad e ((cs : List ℕ) → letters_from after_backslash (c ∷ cs) ≡ None)) }
-    ensures place { IfErr result (IsPlaceUpTo (length letters.old.items)) }
+        (λ e. IfNoPattern e ((cs : List ℕ) → letters_from after_backslash (c ∷ cs) ≡ None)) }
 {
     if c == '\\' && !after_backslash {
         return Ok(true);
@@ -92,16 +91,14 @@ fn read_character(
             letters.push(letter)?;
             Ok(false)
         }
-        None => Err(PatternError::Bad { at: letters.len() }),
+        None => Err(Failure::NoPattern),
     }
 }
 
-/// The letters of the text. Bad where a backslash begins no escape.
-pub fn read_letters(alloc: Global, text: &str) -> Result<Vec<Letter>, PatternError>
+/// The letters of the text. No pattern where a backslash begins no escape.
+pub fn read_letters(alloc: Global, text: &str) -> Result<Vec<Letter>, Failure>
     ensures ok { IfOk result (λ letters. letters_from false (chars text.now) ≡ Some letters.items) }
-    ensures count { IfOk result (λ letters. length letters.items ≤ length text.now) }
-    ensures bad { IfErr result (λ e. IfBad e (letters_from false (chars text.now) ≡ None)) }
-    ensures place { IfErr result (IsPlaceUpTo (length text.now)) }
+    ensures bad { IfErr result (λ e. IfNoPattern e (letters_from false (chars text.now) ≡ None)) }
 {
     let mut letters = Vec::new(alloc);
     let mut after_backslash = false;
@@ -109,7 +106,7 @@ pub fn read_letters(alloc: Global, text: &str) -> Result<Vec<Letter>, PatternErr
         after_backslash = read_character(&mut letters, after_backslash, c)?;
     }
     if after_backslash {
-        return Err(PatternError::Bad { at: letters.len() });
+        return Err(Failure::NoPattern);
     }
     Ok(letters)
 }

@@ -4,6 +4,7 @@
 mod classes;
 mod counts;
 mod errors;
+mod faults;
 mod fragments;
 mod frames;
 mod letters;

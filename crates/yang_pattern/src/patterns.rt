@@ -1,11 +1,12 @@
 //! YANG patterns.
 
-ghost use Rattle.std.specs.Prelude.{◌≡◌, ◌↔◌, length, IfOk, OnOk, IfErr, IsTrue, chars};
+ghost use Rattle.std.specs.Prelude.{◌≡◌, ◌↔◌, IfOk, OnOk, IfErr, IsTrue, chars};
 ghost use Rattle.yang_pattern.specs.Language.{IsPattern, MatchesText, SpellsWithin};
 ghost use Rattle.yang_pattern.specs.Pattern.{Branches};
-ghost use Rattle.yang_pattern.specs.Errors.{IfBad, IsPlaceUpTo};
+ghost use Rattle.yang_pattern.specs.Errors.{IfBad, IfNoPattern, HasPlaceIn};
 
-use crate::errors::PatternError;
+use crate::errors::{Failure, PatternError};
+use crate::faults::find_fault;
 use crate::fragments::Fragment;
 use crate::letters::read_letters;
 use crate::read_tokens::read_tokens;
@@ -45,13 +46,29 @@ impl Pattern {
         ensures text { IfOk result (λ pattern. pattern ≡ text.now) }
         ensures ok { OnOk result (IsPattern text.now) }
         ensures bad { IfErr result (λ e. IfBad e (¬ IsPattern text.now)) }
-        ensures place { IfErr result (IsPlaceUpTo (length text.now)) }
+        ensures place { IfErr result (HasPlaceIn text.now) }
+    {
+        match Pattern::read_whole(alloc, text) {
+            Ok(pattern) => Ok(pattern),
+            Err(Failure::NoMemory) => Err(PatternError::Memory),
+            Err(Failure::NoPattern) => {
+                let at = find_fault(alloc, text)?;
+                Err(PatternError::Bad { at })
+            }
+        }
+    }
+
+    /// The same, with no place of a fault.
+    fn read_whole(alloc: Global, text: &str) -> Result<Pattern, Failure>
+        ensures text { IfOk result (λ pattern. pattern ≡ text.now) }
+        ensures ok { OnOk result (IsPattern text.now) }
+        ensures bad { IfErr result (λ e. IfNoPattern e (¬ IsPattern text.now)) }
     {
         let letters = read_letters(alloc, text)?;
         let tokens = split_letters(alloc, &letters)?;
         let part = read_tokens(alloc, &tokens)?;
         match part.fragment {
-            None => Err(PatternError::Bad { at: text.len() }),
+            None => Err(Failure::NoPattern),
             Some(whole) => Ok(Pattern {
                 text: String::from_str(alloc, text)?,
                 tokens,
@@ -61,7 +78,7 @@ impl Pattern {
     }
 
     /// Whether the pattern matches the whole text. It takes no memory, and a time of at most the
-    /// text's length times the pattern's size.
+    /// text's length times the pattern's size, where a look into a class halves its ranges.
     pub fn matches(&self, text: &str) -> bool
         ensures language { IsTrue result ↔ MatchesText self.now text.now }
         // the pattern's text spells no second pattern

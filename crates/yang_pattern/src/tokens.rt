@@ -1,21 +1,21 @@
 //! The tokens of a pattern, from its letters.
 
-ghost use Rattle.std.specs.Prelude.{◌≡◌, ◌≤◌, ◌+◌, ◌∷◌, ◌++◌, List, [], length, IfOk, IfErr, Some, None, true, false, option_map};
+ghost use Rattle.std.specs.Prelude.{◌≡◌, ◌∷◌, ◌++◌, List, [], IfOk, IfErr, Some, None, true, false, option_map};
 ghost use Rattle.yang_pattern.specs.declared.letters.Letter.{Letter};
 ghost use Rattle.yang_pattern.specs.declared.tokens.Mode.TheVariants.{Outside};
 ghost use Rattle.yang_pattern.specs.Lexing.{single, any, token_at, outside, in_class, in_count, advance, lex};
-ghost use Rattle.yang_pattern.specs.Errors.{IfBad, IsPlaceUpTo};
+ghost use Rattle.yang_pattern.specs.Errors.{IfNoPattern};
 
 use crate::classes::OpenClass;
 use crate::counts::OpenCount;
-use crate::errors::PatternError;
+use crate::errors::Failure;
 use crate::letters::Letter;
 use crate::symbols::{Quantifier, Symbol, Token};
 use std::alloc::{AllocError, Global};
 
 /// What the letters read so far have left open.
 #[derive(Drop)]
-enum Mode {
+pub enum Mode {
     Outside,
     Class(OpenClass),
     Count(OpenCount),
@@ -23,9 +23,9 @@ enum Mode {
 
 /// What one letter brings.
 #[derive(Drop)]
-struct Step {
-    mode: Mode,
-    token: Option<Token>,
+pub struct Step {
+    pub mode: Mode,
+    pub token: Option<Token>,
 }
 
 /// The symbol of one character.
@@ -33,8 +33,8 @@ fn single(alloc: Global, c: char) -> Result<Symbol, AllocError>
     ensures { IfOk result (λ y. y ≡ single c) }
 {
     let mut ranges = Vec::new(alloc);
-    ranges.push((c, c))?;
-    Ok(Symbol::new(false, ranges))
+    ranges.push((c as u32, c as u32))?;
+    Symbol::new(false, ranges)
 }
 
 /// The symbol of `.`: all characters but line feed and carriage return.
@@ -42,9 +42,9 @@ fn any(alloc: Global) -> Result<Symbol, AllocError>
     ensures { IfOk result (λ y. y ≡ any) }
 {
     let mut ranges = Vec::new(alloc);
-    ranges.push(('\n', '\n'))?;
-    ranges.push(('\r', '\r'))?;
-    Ok(Symbol::new(true, ranges))
+    ranges.push(('\n' as u32, '\n' as u32))?;
+    ranges.push(('\r' as u32, '\r' as u32))?;
+    Symbol::new(true, ranges)
 }
 
 /// The token of a character without backslash that is a whole token.
@@ -146,7 +146,8 @@ fn in_count(count: OpenCount, letter: Letter) -> Option<Step>
     }
 }
 
-fn advance(alloc: Global, mode: Mode, letter: Letter) -> Result<Option<Step>, AllocError>
+/// One letter. None where it can't stand here.
+pub fn advance(alloc: Global, mode: Mode, letter: Letter) -> Result<Option<Step>, AllocError>
     ensures { IfOk result (λ found. found ≡ advance mode letter) }
 {
     match mode {
@@ -162,16 +163,15 @@ fn read_letter(
     alloc: Global,
     mode: Mode,
     letter: Letter,
-) -> Result<Mode, PatternError>
+) -> Result<Mode, Failure>
     ensures ok { IfOk result (λ next. (ls : List Letter)
         → option_map (λ ts. tokens.new.items ++ ts) (lex next ls)
         ≡ option_map (λ ts. tokens.old.items ++ ts) (lex mode (letter ∷ ls))) }
-    ensures count { IfOk result (λ _. length tokens.new.items ≤ length tokens.old.items + 1) }
-    ensures bad { IfErr result (λ e. IfBad e ((ls : List Letter) → lex mode (letter ∷ ls) ≡ None)) }
-    ensures place { IfErr result (IsPlaceUpTo (length tokens.old.items)) }
+    ensures bad { IfErr result
+        (λ e. IfNoPattern e ((ls : List Letter) → lex mode (letter ∷ ls) ≡ None)) }
 {
     match advance(alloc, mode, letter)? {
-        None => Err(PatternError::Bad { at: tokens.len() }),
+        None => Err(Failure::NoPattern),
         Some(step) => {
             let Step { mode, token } = step;
             if let Some(token) = token {
@@ -183,11 +183,9 @@ fn read_letter(
 }
 
 /// The tokens of the letters.
-pub fn split_letters(alloc: Global, letters: &[Letter]) -> Result<Vec<Token>, PatternError>
+pub fn split_letters(alloc: Global, letters: &[Letter]) -> Result<Vec<Token>, Failure>
     ensures ok { IfOk result (λ tokens. lex Outside letters.now ≡ Some tokens.items) }
-    ensures count { IfOk result (λ tokens. length tokens.items ≤ length letters.now) }
-    ensures bad { IfErr result (λ e. IfBad e (lex Outside letters.now ≡ None)) }
-    ensures place { IfErr result (IsPlaceUpTo (length letters.now)) }
+    ensures bad { IfErr result (λ e. IfNoPattern e (lex Outside letters.now ≡ None)) }
 {
     let mut tokens = Vec::new(alloc);
     let mut mode = Mode::Outside;
@@ -196,6 +194,6 @@ pub fn split_letters(alloc: Global, letters: &[Letter]) -> Result<Vec<Token>, Pa
     }
     match mode {
         Mode::Outside => Ok(tokens),
-        _ => Err(PatternError::Bad { at: letters.len() }),
+        _ => Err(Failure::NoPattern),
     }
 }

@@ -1,11 +1,9 @@
-use Rattle.std.proofs.Common.{◌≡◌, ◌∙◌, sym, ap, arith, ◌+◌, length, chars, option_map, ◌++◌, false}
+use Rattle.std.proofs.Common.{◌∙◌, sym, ap, chars, option_map, ◌++◌, false}
 use Rattle.std.specs.Str.Iter.{chars_rest}
-use Rattle.std.proofs.lemmas.List.{length-append}
 use Rattle.std.proofs.lemmas.Result.{err_from_is_err_and}
-use Rattle.std.proofs.lemmas.Str.{IsUtf8-past_char, chars_past_char, length-encode, len_utf8_bounds}
-use lib.Utf8.{encode}
+use Rattle.std.proofs.lemmas.Str.{IsUtf8-past_char, chars_past_char}
 use Rattle.yang_pattern.specs.Letters.{letters_from}
-use Rattle.yang_pattern.proofs.LetterSteps.{chars_none, ends_behind, ends_well, IfBad-weaker}
+use Rattle.yang_pattern.proofs.LetterSteps.{chars_none, ends_behind, ends_well, IfNoPattern-weaker}
 use Rattle.yang_pattern.proofs.letters.read_letters.Goals as goal
 
 pub loop-c-preserved : goal.loop-c-preserved
@@ -16,14 +14,10 @@ loop-c-preserved c =
     let d = c.in-Some.c in
     let parts = c.in-Some.ensures.steps.0 in
     let split = chars_past_char old new d inv.text parts in
-    let long : length old ≡ length (encode d) + length new = ap length parts ∙ length-append (encode d) new in
-    let some = (len_utf8_bounds d).0 in
-    let width = length-encode d in
-    let read = c.in_ok-after_backslash.ensures in
+    let read = c.in_ok-after_backslash.ensures.ok in
     record {
       text = IsUtf8-past_char old new d inv.text parts;
-      room = omega (arith, read.count, inv.room, long, some, width);
-      rest = read.ok (chars new) ∙ (ap (λ cs. option_map (λ ls. c.loop-c.letters.items ++ ls) (letters_from c.loop-c.after_backslash cs)) (sym split) ∙ inv.rest);
+      rest = read (chars new) ∙ (ap (λ cs. option_map (λ ls. c.loop-c.letters.items ++ ls) (letters_from c.loop-c.after_backslash cs)) (sym split) ∙ inv.rest);
     }
 
 pub returns-in_err-after_backslash-clause-bad : goal.returns-in_err-after_backslash-clause-bad
@@ -34,7 +28,7 @@ returns-in_err-after_backslash-clause-bad c =
     let split = chars_past_char old new c.in-Some.c inv.text c.in-Some.ensures.steps.0 in
     let p = err_from_is_err_and c.from_residual.result c.from_residual.ensures.1 in
     rw (p.1, p.2)
-    (IfBad-weaker c.in_err-after_backslash.field-0.0
+    (IfNoPattern-weaker c.in_err-after_backslash.field-0.0
     (λ none. sym inv.rest ∙ ap (λ o. option_map (λ ls. c.loop-c.letters.items ++ ls) o) (ap (λ cs. letters_from c.loop-c.after_backslash cs) split ∙ none (chars new)))
     c.in_err-after_backslash.ensures.bad)
 

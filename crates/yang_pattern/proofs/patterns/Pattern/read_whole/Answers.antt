@@ -11,21 +11,21 @@ use Rattle.yang_pattern.specs.Parts.{IsPatternPart}
 use Rattle.yang_pattern.specs.Pattern.{Branches, Matches}
 use Rattle.yang_pattern.specs.Reading.{run, start}
 use Rattle.yang_pattern.specs.Language.{SpellsWithin}
-use Rattle.yang_pattern.proofs.LetterSteps.{IfBad-weaker}
+use Rattle.yang_pattern.proofs.LetterSteps.{IfNoPattern-weaker}
 use Rattle.yang_pattern.proofs.Unique.{no_letters, no_tokens, no_pattern, found_large, found_whole}
-use Rattle.yang_pattern.proofs.patterns.Pattern.read.Goals as goal
+use Rattle.yang_pattern.proofs.patterns.Pattern.read_whole.Goals as goal
 
 pub returns-in_err-letters-clause-bad : goal.returns-in_err-letters-clause-bad
 returns-in_err-letters-clause-bad c =
     let p = err_from_is_err_and c.from_residual.result c.from_residual.ensures.1 in
-    rw (p.1, p.2) (IfBad-weaker c.in_err-letters.field-0.0 (λ none. no_letters c.args.text.now none) c.in_err-letters.ensures.bad)
+    rw (p.1, p.2) (IfNoPattern-weaker c.in_err-letters.field-0.0 (λ none. no_letters c.args.text.now none) c.in_err-letters.ensures.bad)
 
 pub returns-in_err-tokens-clause-bad : goal.returns-in_err-tokens-clause-bad
 returns-in_err-tokens-clause-bad c =
     let ls = c.in_ok-letters.letters.items in
     let p = err_from_is_err_and c.from_residual-in_err-tokens.result c.from_residual-in_err-tokens.ensures.1 in
     rw (p.1, p.2)
-    (IfBad-weaker c.in_err-tokens.field-0.0
+    (IfNoPattern-weaker c.in_err-tokens.field-0.0
     (λ none. no_tokens c.args.text.now ls c.in_ok-letters.ensures.ok (subst (λ (x : List Letter). lex Outside x ≡ None) c.deref.ensures.value none))
     c.in_err-tokens.ensures.bad)
 
@@ -37,7 +37,7 @@ returns-in_err-part-clause-bad c =
     let lexed : lex Outside ls ≡ Some ts = subst (λ (x : List Letter). lex Outside x ≡ Some ts) c.deref.ensures.value c.in_ok-tokens.ensures.ok in
     let p = err_from_is_err_and c.from_residual-in_err-part.result c.from_residual-in_err-part.ensures.1 in
     rw (p.1, p.2)
-    (IfBad-weaker c.in_err-part.field-0.0
+    (IfNoPattern-weaker c.in_err-part.field-0.0
     (λ none. no_pattern text ls ts c.in_ok-letters.ensures.ok lexed (subst (λ (x : List Token). run x start ≡ None) c.deref-2.ensures.value none))
     c.in_err-part.ensures.bad)
 
