@@ -5,9 +5,9 @@ use Rattle.std.proofs.lemmas.List.Sums.{fold-append}
 use Rattle.yang_text.specs.Declarations.{Declaration, block_of, declarations, weight, total_weight}
 use Rattle.yang_text.specs.Statements.{declaration}
 use Rattle.yang_text.specs.declared.statements.Statement.{Statement}
-use Rattle.yang_model.specs.Faults.{lesser, least_of}
+use Rattle.yang_scope.specs.Faults.{lesser, least_of}
 use Rattle.yang_model.specs.Walks.{block_faults, below_faults}
-use Rattle.yang_model.specs.declared.faults.Fault.{Fault}
+use Rattle.yang_scope.specs.declared.faults.Fault.{Fault}
 use Rattle.yang_model.specs.declared.kinds.Kind.{Kind}
 
 pub any_mapped : {X Y : Type 0} (p : Y → Bool) (f : X → Y) (xs : List X) → list_any p (map f xs) ≡ list_any (λ x. p (f x)) xs

@@ -10,9 +10,9 @@ use Rattle.yang_text.specs.Declarations.{Declaration}
 use Rattle.yang_text.specs.Statements.{declaration}
 use Rattle.yang_text.specs.declared.statements.Statement.{Statement}
 use Rattle.yang_model.specs.Duplicates.{Given, given_twice, earlier_from}
-use Rattle.yang_model.specs.Faults.{lesser, least_of}
+use Rattle.yang_scope.specs.Faults.{lesser, least_of}
 use Rattle.yang_model.specs.NameSets.{IsSetOf}
-use Rattle.yang_model.specs.declared.faults.Fault.{Fault}
+use Rattle.yang_scope.specs.declared.faults.Fault.{Fault}
 use Rattle.yang_model.proofs.Places.{bytes_eq-swap}
 
 true_or : (a b x : Bool) → a ≡ b → cond a true x ≡ (b || x)

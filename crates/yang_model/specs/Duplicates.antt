@@ -4,10 +4,10 @@ use Rattle.std.specs.List.{flat_map, list_any}
 use Rattle.std.specs.Str.{bytes_eq}
 use Rattle.yang_text.specs.Declarations.{Declaration, keyword, argument}
 use Rattle.yang_text.specs.declared.errors.ModelWhy.TheVariants.{Duplicate}
-use Rattle.yang_model.specs.declared.faults.Fault.{Fault}
+use Rattle.yang_scope.specs.Faults.{fault_at}
+use Rattle.yang_scope.specs.declared.faults.Fault.{Fault}
 use Rattle.yang_model.specs.declared.kinds.Kind.{Kind}
 use Rattle.yang_model.specs.Rows.{givers}
-use Rattle.yang_model.specs.Sentences.{fault_at}
 
 -- a name, and the fault that it is where it was given already
 abbrev pub Given : Type 0

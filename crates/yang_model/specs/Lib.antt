@@ -1,7 +1,6 @@
 -- What public clauses cite.
 pub mod Belongs
 pub mod Duplicates
-pub mod Faults
 pub mod Forms
 pub mod ModelSets
 pub mod Names

@@ -4,11 +4,12 @@ use Rattle.std.specs.List.{flat_map}
 use Rattle.std.specs.Str.{bytes_eq}
 use Rattle.yang_text.specs.Declarations.{Declaration, keyword, argument, line, block}
 use Rattle.yang_text.specs.declared.errors.ModelWhy.TheVariants.{BadArgument, UnknownName}
-use Rattle.yang_model.specs.declared.faults.Fault.{Fault}
+use Rattle.yang_scope.specs.Faults.{fault_at}
+use Rattle.yang_scope.specs.declared.faults.Fault.{Fault}
 use Rattle.yang_model.specs.declared.kinds.Kind.{Kind}
 use Rattle.yang_model.specs.declared.kinds.Kind.TheVariants.{Module, Import}
 use Rattle.yang_model.specs.Duplicates.{duplicates_in}
-use Rattle.yang_model.specs.Sentences.{fault_at, bad_argument, repeated_in, missing_in}
+use Rattle.yang_model.specs.Sentences.{bad_argument, repeated_in, missing_in}
 
 -- where one of the two is missing, that is a fault of its own
 abbrev pub is_same_name : Option (List ℕ) → Option (List ℕ) → Bool

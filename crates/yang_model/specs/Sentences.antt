@@ -5,14 +5,11 @@ use Rattle.std.specs.Str.{bytes_eq}
 use Rattle.yang_text.specs.Declarations.{Declaration, keyword, line}
 use Rattle.yang_text.specs.declared.errors.ModelWhy.{ModelWhy}
 use Rattle.yang_text.specs.declared.errors.ModelWhy.TheVariants.{Repeated, Missing, BadArgument}
-use Rattle.yang_model.specs.declared.faults.Fault.{Fault}
+use Rattle.yang_scope.specs.Faults.{fault_at}
+use Rattle.yang_scope.specs.declared.faults.Fault.{Fault}
 use Rattle.yang_model.specs.declared.kinds.Kind.{Kind}
 use Rattle.yang_model.specs.Forms.{is_form}
 use Rattle.yang_model.specs.Rows.{row, needs}
-
--- a fault at a statement of a file
-abbrev pub fault_at : ℕ → ModelWhy → Declaration → Fault
-fault_at file why d = record { file = file; line = line d; why = why }
 
 -- the statements of a keyword
 abbrev pub children : List ℕ → List Declaration → List Declaration

@@ -3,11 +3,11 @@ use Rattle.std.specs.Prelude.{ℕ, Bool, List, [], ◌∷◌, ◌++◌}
 use Rattle.std.specs.Option.{option_map_or}
 use Rattle.yang_text.specs.Declarations.{Declaration, declare, Block, no_more, more, keyword}
 use Rattle.yang_text.specs.declared.errors.ModelWhy.TheVariants.{Unsupported}
-use Rattle.yang_model.specs.declared.faults.Fault.{Fault}
+use Rattle.yang_scope.specs.Faults.{fault_at}
+use Rattle.yang_scope.specs.declared.faults.Fault.{Fault}
 use Rattle.yang_model.specs.declared.kinds.Kind.{Kind}
 use Rattle.yang_model.specs.Own.{sentence_faults}
 use Rattle.yang_model.specs.Rows.{kind_below}
-use Rattle.yang_model.specs.Sentences.{fault_at}
 
 -- knows says which modules there are, and settle what kind a statement of a kind is by its argument
 abbrev mutual

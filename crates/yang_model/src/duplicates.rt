@@ -6,10 +6,10 @@ ghost use Rattle.yang_text.specs.Statements.{declaration};
 ghost use Rattle.yang_text.specs.declared.errors.ModelWhy.TheVariants.{Duplicate};
 ghost use Rattle.yang_model.specs.Duplicates.{given_by, given_twice, earlier_from, duplicates, duplicates_in};
 ghost use Rattle.yang_model.specs.Entries.{needed};
-ghost use Rattle.yang_model.specs.Faults.{lesser, least_of};
+ghost use Rattle.yang_scope.specs.Faults.{lesser, least_of};
 ghost use Rattle.yang_model.specs.NameSets.{IsSetOf};
 
-use crate::faults::{Fault, note};
+use yang_scope::{Fault, note};
 use crate::kinds::Kind;
 use crate::name_sets::NameSet;
 use crate::rows::{Need, givers};

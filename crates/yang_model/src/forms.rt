@@ -1,38 +1,12 @@
 //! The forms of arguments.
 ghost use Rattle.std.specs.Prelude.{◌≡◌};
-ghost use Rattle.std.specs.List.{list_all, list_any};
+ghost use Rattle.std.specs.List.{list_any};
 ghost use Rattle.std.specs.Str.{bytes_eq};
-ghost use Rattle.yang_model.specs.Forms.{begins_identifier, continues_identifier, is_identifier, is_version, is_truth, is_built_in_type, is_form};
+ghost use Rattle.yang_scope.specs.Identifiers.{is_identifier};
+ghost use Rattle.yang_model.specs.Forms.{is_version, is_truth, is_built_in_type, is_form};
 
 use crate::kinds::Kind;
-
-fn begins_identifier(byte: u8) -> bool
-    ensures { result ≡ begins_identifier byte }
-{
-    matches!(byte, b'A'..=b'Z' | b'a'..=b'z' | b'_')
-}
-
-fn continues_identifier(byte: u8) -> bool
-    ensures { result ≡ continues_identifier byte }
-{
-    begins_identifier(byte) || matches!(byte, b'0'..=b'9' | b'-' | b'.')
-}
-
-fn all_continue(bytes: &[u8]) -> bool
-    ensures { result ≡ list_all continues_identifier bytes.now }
-{
-    bytes.iter().all(|byte| continues_identifier(*byte))
-}
-
-/// Whether a text is an identifier.
-pub(crate) fn is_identifier(text: &str) -> bool
-    ensures { result ≡ is_identifier text.now }
-{
-    match text.as_bytes() {
-        [] => false,
-        [first, rest @ ..] => begins_identifier(*first) && all_continue(rest),
-    }
-}
+use yang_scope::is_identifier;
 
 /// Whether a text is a version of YANG.
 pub(crate) fn is_version(text: &str) -> bool

@@ -4,7 +4,6 @@
 
 mod belonging;
 mod duplicates;
-mod faults;
 mod forms;
 mod kinds;
 mod laws;

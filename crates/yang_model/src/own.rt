@@ -2,10 +2,10 @@
 ghost use Rattle.std.specs.Prelude.{◌≡◌, map};
 ghost use Rattle.std.specs.List.{flat_map};
 ghost use Rattle.yang_text.specs.Statements.{declaration};
-ghost use Rattle.yang_model.specs.Faults.{least_of};
+ghost use Rattle.yang_scope.specs.Faults.{least_of};
 ghost use Rattle.yang_model.specs.Own.{is_same_name, misnamed, unknown_import, own_faults};
 
-use crate::faults::{Fault, note};
+use yang_scope::{Fault, note};
 use crate::kinds::Kind;
 use crate::scopes::Scope;
 use host_core::Txt;

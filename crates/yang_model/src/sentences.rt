@@ -4,10 +4,10 @@ ghost use Rattle.std.specs.List.{list_any};
 ghost use Rattle.std.specs.Str.{bytes_eq};
 ghost use Rattle.yang_text.specs.Statements.{declaration};
 ghost use Rattle.yang_model.specs.Entries.{needed};
-ghost use Rattle.yang_model.specs.Faults.{least_of};
+ghost use Rattle.yang_scope.specs.Faults.{least_of};
 ghost use Rattle.yang_model.specs.Sentences.{repeated, repeated_in, missing_one, missing_in};
 
-use crate::faults::{Fault, note};
+use yang_scope::{Fault, note};
 use crate::kinds::Kind;
 use crate::rows::{Need, needs, row};
 use yang_text::{ModelWhy, Statement};

@@ -2,13 +2,13 @@
 ghost use Rattle.std.specs.Prelude.{◌≡◌, map, OnOk};
 ghost use Rattle.yang_text.specs.Declarations.{block_of};
 ghost use Rattle.yang_text.specs.Statements.{declaration};
-ghost use Rattle.yang_model.specs.Faults.{least_of};
+ghost use Rattle.yang_scope.specs.Faults.{least_of};
 ghost use Rattle.yang_model.specs.Sentences.{bad_argument};
 ghost use Rattle.yang_model.specs.Own.{sentence_faults};
 ghost use Rattle.yang_model.specs.Walks.{statement_faults, block_faults, below_faults};
 
 use crate::duplicates::note_duplicates_in;
-use crate::faults::{Fault, note};
+use yang_scope::{Fault, note};
 use crate::forms::is_form;
 use crate::kinds::Kind;
 use crate::own::note_own;

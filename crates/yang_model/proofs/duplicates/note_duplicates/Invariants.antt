@@ -3,7 +3,7 @@ use Rattle.std.specs.List.{flat_map}
 use Rattle.yang_text.specs.Statements.{declaration}
 use Rattle.yang_model.specs.Duplicates.{given_by, given_twice, earlier_from}
 use Rattle.yang_model.specs.Entries.{needed}
-use Rattle.yang_model.specs.Faults.{least_of}
+use Rattle.yang_scope.specs.Faults.{least_of}
 use Rattle.yang_model.specs.NameSets.{IsSetOf}
 use Rattle.yang_model.proofs.duplicates.note_duplicates.Given as goal
 

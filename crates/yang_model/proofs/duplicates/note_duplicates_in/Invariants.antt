@@ -3,7 +3,7 @@ use Rattle.std.specs.List.{flat_map}
 use Rattle.yang_text.specs.Statements.{declaration}
 use Rattle.yang_model.specs.Duplicates.{duplicates}
 use Rattle.yang_model.specs.Entries.{needed}
-use Rattle.yang_model.specs.Faults.{least_of}
+use Rattle.yang_scope.specs.Faults.{least_of}
 use Rattle.yang_model.proofs.duplicates.note_duplicates_in.Given as goal
 
 abbrev pub invariant-loop-need : goal.invariant-loop-need

@@ -2,7 +2,7 @@ use Rattle.std.proofs.Common.{◌≡◌, ap, ◌∙◌, sym, map, List}
 use Rattle.std.specs.List.{flat_map}
 use Rattle.yang_text.specs.Declarations.{Declaration, block_of, declarations}
 use Rattle.yang_text.specs.Statements.{declaration}
-use Rattle.yang_model.specs.Faults.{least_of}
+use Rattle.yang_scope.specs.Faults.{least_of}
 use Rattle.yang_model.specs.Own.{misnamed}
 use Rattle.yang_model.proofs.FaultLists.{declarations-block_of}
 use Rattle.yang_model.proofs.own.note_own.Goals as goal

@@ -2,7 +2,7 @@ use Rattle.std.proofs.Common.{◌≡◌, map, take}
 use Rattle.std.specs.List.{flat_map}
 use Rattle.yang_text.specs.Statements.{declaration}
 use Rattle.yang_model.specs.Entries.{needed}
-use Rattle.yang_model.specs.Faults.{least_of}
+use Rattle.yang_scope.specs.Faults.{least_of}
 use Rattle.yang_model.specs.Sentences.{missing_one}
 use Rattle.yang_model.proofs.sentences.note_missing.Given as goal
 

@@ -1,6 +1,6 @@
 use Rattle.std.proofs.Common.{◌≡◌, map, take, not, length, ◌==◌}
 use Rattle.yang_text.specs.Statements.{declaration}
-use Rattle.yang_model.specs.Faults.{least_of}
+use Rattle.yang_scope.specs.Faults.{least_of}
 use Rattle.yang_model.specs.Sentences.{repeated, children}
 use Rattle.yang_model.proofs.sentences.note_repeated.Given as goal
 

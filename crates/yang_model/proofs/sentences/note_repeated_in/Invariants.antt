@@ -2,7 +2,7 @@ use Rattle.std.proofs.Common.{◌≡◌, [], map, take, if◌then◌else◌}
 use Rattle.std.specs.List.{flat_map}
 use Rattle.yang_text.specs.Statements.{declaration}
 use Rattle.yang_model.specs.Entries.{allowed}
-use Rattle.yang_model.specs.Faults.{least_of}
+use Rattle.yang_scope.specs.Faults.{least_of}
 use Rattle.yang_model.specs.Sentences.{repeated}
 use Rattle.yang_model.proofs.sentences.note_repeated_in.Given as goal
 

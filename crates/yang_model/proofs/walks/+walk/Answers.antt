@@ -3,7 +3,7 @@ use Rattle.std.specs.List.{flat_map}
 use Rattle.yang_text.specs.Declarations.{Declaration, block_of, weight, total_weight}
 use Rattle.yang_text.specs.Falls.{block_weighs}
 use Rattle.yang_text.specs.Statements.{declaration}
-use Rattle.yang_model.specs.Faults.{least_of}
+use Rattle.yang_scope.specs.Faults.{least_of}
 use Rattle.yang_model.specs.Own.{sentence_faults}
 use Rattle.yang_model.specs.Walks.{below_faults, block_faults}
 use Rattle.yang_model.proofs.FaultLists.{block_faults-flat, least_of-two, weight-at}

@@ -2,7 +2,7 @@ use Rattle.std.proofs.Common.{◌≡◌, ap, ◌∙◌, sym, map, List}
 use Rattle.yang_text.specs.Declarations.{Declaration, block_of, declarations}
 use Rattle.yang_text.specs.Statements.{declaration}
 use Rattle.yang_model.specs.Duplicates.{duplicates_in}
-use Rattle.yang_model.specs.Faults.{least_of}
+use Rattle.yang_scope.specs.Faults.{least_of}
 use Rattle.yang_model.specs.Own.{own_faults}
 use Rattle.yang_model.specs.Sentences.{repeated_in, missing_in, bad_argument}
 use Rattle.yang_model.proofs.FaultLists.{declarations-block_of, least_of-five}

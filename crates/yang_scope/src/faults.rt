@@ -1,16 +1,16 @@
 //! Faults, their order, and the least of those met so far.
 ghost use Rattle.std.specs.Prelude.{◌≡◌, IsTrue};
 ghost use Rattle.yang_text.specs.Whys.{why_number};
-ghost use Rattle.yang_model.specs.Faults.{is_before, lesser};
+ghost use Rattle.yang_scope.specs.Faults.{is_before, lesser};
 
 use yang_text::ModelWhy;
 
 /// A fault of the models: the file that has it, counted from 0, its line, counted from 1, and its name.
 #[derive(Clone, Copy, Debug, PartialEq, Eq)]
-pub(crate) struct Fault {
-    pub(crate) file: u32,
-    pub(crate) line: u32,
-    pub(crate) why: ModelWhy,
+pub struct Fault {
+    pub file: u32,
+    pub line: u32,
+    pub why: ModelWhy,
 }
 
 /// The place of a name in the order of the names.
@@ -37,7 +37,7 @@ impl Fault {
 }
 
 /// Keeps the lesser of a fault and the least one so far.
-pub(crate) fn note(least: &mut Option<Fault>, file: u32, line: u32, why: ModelWhy)
+pub fn note(least: &mut Option<Fault>, file: u32, line: u32, why: ModelWhy)
     ensures { least.new ≡ lesser least.old (record { file = file; line = line; why = why }) }
 {
     let fault = Fault { file, line, why };

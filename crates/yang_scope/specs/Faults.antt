@@ -1,7 +1,13 @@
 -- The order of faults, and the least of them.
-use Rattle.std.specs.Prelude.{◌==◌, nat_lt, Bool, Option, Some, None, List, fold, if◌then◌else◌}
+use Rattle.std.specs.Prelude.{ℕ, ◌==◌, nat_lt, Bool, Option, Some, None, List, fold, if◌then◌else◌}
+use Rattle.yang_text.specs.Declarations.{Declaration, line}
 use Rattle.yang_text.specs.Whys.{why_number}
-use Rattle.yang_model.specs.declared.faults.Fault.{Fault}
+use Rattle.yang_text.specs.declared.errors.ModelWhy.{ModelWhy}
+use Rattle.yang_scope.specs.declared.faults.Fault.{Fault}
+
+-- a fault at a statement of a file
+abbrev pub fault_at : ℕ → ModelWhy → Declaration → Fault
+fault_at file why d = record { file = file; line = line d; why = why }
 
 -- of one file: the lower line, then the first name
 abbrev pub is_above : Fault → Fault → Bool

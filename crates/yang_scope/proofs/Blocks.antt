@@ -1,0 +1,34 @@
+-- The statements in the braces of a statement.
+use Rattle.std.proofs.Common.{◌≡◌, ℕ, Bool, true, false, cond, List, [], ◌∷◌, ◌++◌, Option, Some, map, option_map, refl, sym, ap, ◌∙◌}
+use Rattle.std.specs.List.{find, flat_map}
+use Rattle.yang_text.specs.Declarations.{Declaration, block_of, block, declarations}
+use Rattle.yang_text.specs.Statements.{declaration}
+use Rattle.yang_text.specs.declared.statements.Statement.{Statement}
+use Rattle.yang_scope.specs.Statements.{is_keyword, first_child}
+
+pub declarations-block_of : (ds : List Declaration) → declarations (block_of ds) ≡ ds
+declarations-block_of [] = refl
+declarations-block_of (d ∷ ds) = ap (λ es. d ∷ es) (declarations-block_of ds)
+
+pub block-is : (s : Statement) → block (declaration s) ≡ s.block
+block-is s = declarations-block_of s.block
+
+find-map : {X Y : Type 0} (g : X → Y) (test : Y → Bool) (xs : List X) → find test (map g xs) ≡ option_map g (find (λ x. test (g x)) xs)
+find-map {X = X} g test [] = refl
+find-map {X = X} g test (x ∷ xs) = ap (λ o. cond (test (g x)) (Some (g x)) o) (find-map g test xs) ∙ either (test (g x)) (find (λ y. test (g y)) xs)
+  where
+    either : (b : Bool) (o : Option X) → cond b (Some (g x)) (option_map g o) ≡ option_map g (cond b (Some x) o)
+    either true o = refl
+    either false o = refl
+
+pub first_child-is : (word : List ℕ) (s : Statement) (items : List Statement) → map declaration items ≡ s.block
+    → first_child word (declaration s) ≡ option_map declaration (find (λ x. is_keyword word (declaration x)) items)
+first_child-is word s items is = ap (find (is_keyword word)) (block-is s ∙ sym is) ∙ find-map declaration (is_keyword word) items
+
+pub flat_map-map : {W X Y : Type 0} (f : X → List Y) (g : W → X) (ws : List W) → flat_map f (map g ws) ≡ flat_map (λ w. f (g w)) ws
+flat_map-map f g [] = refl
+flat_map-map f g (w ∷ ws) = ap (λ ys. f (g w) ++ ys) (flat_map-map f g ws)
+
+pub map-map : {W X Y : Type 0} (f : X → Y) (g : W → X) (ws : List W) → map f (map g ws) ≡ map (λ w. f (g w)) ws
+map-map f g [] = refl
+map-map f g (w ∷ ws) = ap (λ ys. f (g w) ∷ ys) (map-map f g ws)

@@ -1,0 +1,14 @@
+use Rattle.std.proofs.Common.{List, ◌∙◌, sym, subst}
+use Rattle.yang_text.specs.Declarations.{Declaration}
+use Rattle.yang_scope.specs.Modules.{typedef_entry, prefixes_by}
+use Rattle.yang_scope.specs.NameTables.{IsTableOf}
+use Rattle.yang_scope.specs.Statements.{each_from}
+use Rattle.yang_scope.proofs.Blocks.{block-is}
+use Rattle.yang_scope.proofs.modules.ModuleNames.new.Goals as goal
+
+pub invariant_of-result : goal.invariant_of-result
+invariant_of-result c =
+    let same = c.items-statements.ensures ∙ sym (block-is c.args.statement.now) in (
+      subst (λ (ds : List Declaration). IsTableOf c.in_ok-typedefs.typedefs.numbers (each_from typedef_entry 0 ds)) same c.in_ok-typedefs.ensures,
+      subst (λ (ds : List Declaration). IsTableOf c.in_ok-prefixes.prefixes.numbers (each_from prefixes_by 0 ds)) same c.in_ok-prefixes.ensures,
+    )

@@ -1,0 +1,11 @@
+-- What public clauses cite.
+pub mod Bases
+pub mod Faults
+pub mod Identifiers
+pub mod Meanings
+pub mod Modules
+pub mod Statements
+-- What only private clauses and the models of types cite.
+pub mod Coding
+pub mod Links
+pub mod NameTables

@@ -1,0 +1,19 @@
+//! The names that modules of YANG give (RFC 7950, in a profile), the types that they stand for, and
+//! the exact faults of both.
+#![tactic(auto)]
+
+mod bases;
+mod faults;
+mod identifiers;
+mod links;
+mod meanings;
+mod module_sets;
+mod modules;
+mod name_tables;
+mod names;
+
+pub use bases::{Base, is_built_in_type};
+pub use faults::{Fault, note};
+pub use identifiers::is_identifier;
+pub use meanings::Meaning;
+pub use names::Names;

@@ -1,0 +1,95 @@
+//! The names that the modules of the files give, for the models of the files.
+ghost use Rattle.std.specs.Prelude.{◌≡◌, ◌<◌, ◌^◌, length, map, slice_get, option_map, IfOk};
+ghost use Rattle.yang_scope.specs.Meanings.{base_of, type_meaning, is_module};
+ghost use Rattle.yang_scope.specs.Modules.{modules_of};
+
+use crate::bases::Base;
+use crate::links::{Links, all_links, link_behind};
+use crate::meanings::Meaning;
+use crate::module_sets::ModuleSet;
+use host_core::{Memory, Txt};
+use std::alloc::Global;
+use std::marker::Model;
+use yang_text::{Statement, Statements};
+
+/// The names in the modules of the files. Contracts see the list of the modules.
+#[derive(Drop)]
+pub struct Names<'a> {
+    set: ModuleSet<'a>,
+    links: Links,
+}
+
+impl<'a> Model for Names<'a> {
+    ghost use Rattle.std.specs.Prelude.{List};
+    ghost use Rattle.std.specs.Coded.{coded_list};
+    ghost use Rattle.yang_scope.specs.Coding.{coded_module};
+    ghost use Rattle.yang_scope.specs.Links.{IsBehind};
+    ghost use Rattle.yang_scope.specs.Meanings.{most_typedefs};
+    ghost use Rattle.yang_scope.specs.Modules.{Module};
+
+    ghost Value = { List Module };
+
+    ghost coded = { coded_list coded_module };
+
+    ghost view = { λ n. n.set };
+
+    ghost invariant = { λ n. IsBehind n.set most_typedefs n.links };
+}
+
+impl<'a> Names<'a> {
+    ghost use Rattle.yang_text.specs.Statements.{declaration};
+    ghost use Rattle.yang_scope.specs.Modules.{Module};
+
+    /// The names of the files, of which there are fewer than 2^32.
+    pub fn new(alloc: Global, files: &'a [(Txt, Statements)]) -> Result<Names<'a>, Memory>
+        requires { length files.now < 2 ^ 32 }
+        ensures { IfOk result (λ names. names ≡ modules_of (map (λ f. f.1) files.now)) }
+    {
+        let set = ModuleSet::new(alloc, files)?;
+        let links = all_links(alloc, &set)?;
+        Ok(Names { set, links })
+    }
+
+    /// How many modules there are.
+    pub fn len(&self) -> usize
+        ensures { result ≡ length self.now }
+    {
+        self.set.items().len()
+    }
+
+    /// The file of a module, and its statement. Modules are numbered from 0 in the order of the files.
+    pub fn module_at(&self, number: usize) -> Option<(u32, &'a Statement)>
+        ensures { option_map (λ m. record { file = m.0; statement = declaration m.1.now }) result
+            ≡ slice_get self.now number }
+    {
+        match self.set.items().get(number) {
+            Some(module) => Some((module.file(), module.statement())),
+            None => None,
+        }
+    }
+
+    /// Whether an import may name a module: one of the files, or one that is built in.
+    pub fn is_module(&self, name: &str) -> bool
+        ensures { result ≡ is_module self.now name.now }
+    {
+        self.set.is_module(name)
+    }
+
+    /// What the argument of a type statement stands for in a module.
+    pub fn type_meaning(&self, number: usize, name: &Option<Txt>) -> Meaning
+        ensures { result ≡ type_meaning self.now number name.now }
+    {
+        self.set.type_meaning(number, name)
+    }
+
+    /// The base of a type statement with this argument in a module. None where a name on the way stands
+    /// for nothing, or the typedefs go round a circle.
+    pub fn base_of(&self, number: usize, name: &Option<Txt>) -> Option<Base>
+        ensures { result ≡ base_of self.now number name.now }
+    {
+        match link_behind(self.links.items(), self.set.type_meaning(number, name)) {
+            Meaning::Ends(base) => Some(base),
+            Meaning::Goes(..) | Meaning::Nothing => None,
+        }
+    }
+}
