@@ -66,3 +66,8 @@ take_more xs i x is = rw add-one (take_at xs i x is)
 pub map_more : {A B C : Type 0} (f : A → C) (g : B → C) (xs new : List A) (a : A) (ys more : List B) (y : B) → map f xs ≡ map g ys → new ≡ xs ++ a ∷ [] → f a ≡ g y → more ≡ ys ++ y ∷ [] → map f new ≡ map g more
 map_more f g xs new a ys more y so_far pushed same taken =
     ap (map f) pushed ∙ map-append f xs (a ∷ []) ∙ (λ i. so_far i ++ same i ∷ []) ∙ sym (map-append g ys (y ∷ [])) ∙ ap (map g) (sym taken)
+
+-- one item goes over from those to come to those that came
+pub one_moved : {A B : Type 0} (f : A → B) (done new all : List B) (now left : List A) (x : A) → done ++ map f now ≡ all → now ≡ x ∷ left → new ≡ done ++ f x ∷ [] → new ++ map f left ≡ all
+one_moved f done new all now left x so_far is pushed =
+    ap (λ ys. ys ++ map f left) pushed ∙ append_assoc done (f x ∷ []) (map f left) ∙ ap (λ xs. done ++ map f xs) (sym is) ∙ so_far

@@ -90,7 +90,7 @@ fn read_members(alloc: Global, values: Map<String, Value>) -> Result<Members, St
     ensures { Gives members_of stop_place result
         (located (members_from (members_view values.entries))) }
 {
-    let mut members = Vec::new(alloc);
+    let mut members = Vec::with_capacity(alloc, values.len())?;
     for (name, value) in values {
         let tree = read_member(alloc, name.as_str(), value)?;
         members.push((Txt::from(name), tree))?;

@@ -118,7 +118,7 @@ fn shape_parts<X: Shaped>(alloc: Global, members: Members) -> Result<Sorted<X>, 
     ensures shaped { IfOk result IsShaped }
     ensures formed { IfOk result (Each X.IsWell) }
 {
-    let mut pairs = Vec::new(alloc);
+    let mut pairs = Vec::with_capacity(alloc, members.len())?;
     for (name, tree) in members.into_members() {
         let part = shape_named(alloc, name.as_str(), tree)?;
         let pair = Rc::new(alloc, (name, part))?;

@@ -54,6 +54,15 @@ impl<X> Sorted<X> {
         self.pairs.as_slice()
     }
 
+    /// The vector of the pairs, each behind its pointer.
+    pub(crate) fn into_pairs(self) -> Vec<Rc<(Txt, X)>>
+        ensures pairs { pairs_of result.items ≡ self }
+        ensures shaped { IsShaped self }
+    {
+        let Sorted { pairs } = self;
+        pairs
+    }
+
     /// How many pairs there are.
     pub(crate) fn len(&self) -> usize
         ensures len { result ≡ length self.now }

@@ -12,7 +12,7 @@ ghost use Rattle.patch_core.specs.Reading.{patch as patch_of};
 
 use crate::Outcome;
 use crate::stored::read_stored;
-use conf_doc::{Config, ShapeError, config_of_tree, tree_of};
+use conf_doc::{Config, ShapeError, config_of_tree, tree_of_config};
 use host_core::{Host, HostError, Input, Txt};
 use patch_core::{ApplyError, Patch, PatchError, apply_owned, read_patch};
 use std::alloc::Global;
@@ -32,7 +32,7 @@ pub(crate) fn preview<H: Host>(alloc: Global, path: &Txt, host: &mut H) -> Resul
 {
     let start = read_stored(alloc, host)?;
     let patch = input_patch(alloc, path, host)?;
-    patched_config(alloc, &patch, &start)
+    patched_config(alloc, &patch, start)
 }
 
 /// The patch that an input holds.
@@ -84,11 +84,11 @@ fn patch_of_bytes(alloc: Global, path: &Txt, bytes: &[u8]) -> Result<Patch, Outc
 }
 
 /// The configuration after the patch.
-fn patched_config(alloc: Global, patch: &Patch, start: &Config) -> Result<Config, Outcome>
-    ensures answer { Gives (λ c. c) refusal result (target (operations patch.now) start.now) }
+fn patched_config(alloc: Global, patch: &Patch, start: Config) -> Result<Config, Outcome>
+    ensures answer { Gives (λ c. c) refusal result (target (operations patch.now) start) }
     ensures cause { IfErr result RefusesAlways }
 {
-    let tree = tree_of(alloc, start)?;
+    let tree = tree_of_config(alloc, start)?;
     let tree = match apply_owned(alloc, patch, tree) {
         Ok(tree) => tree,
         Err(ApplyError::Failed { index, why }) => return Err(Outcome::PatchFailed { index, why }),

@@ -21,7 +21,7 @@ read_items-returns t c = items_end _ _ _ c.loop-value.invariant (ap items_view (
 
 pub read_members-returns-in_err-tree : goal.read_members-returns-in_err-tree
 read_members-returns-in_err-tree t c =
-    let p = err_from_is_err_and c.from_residual.result c.from_residual.ensures.1 in
+    let p = err_from_is_err_and c.from_residual-in_err-tree.result c.from_residual-in_err-tree.ensures.1 in
     let stops = rw c.as_str.ensures.value at c.in_err-tree.ensures in
     rw (p.1, p.2) (member_fails _ _ _ _ _ _ c.loop-name.invariant.walk _ (ap members_view c.in-Some.ensures.steps) stops)
 

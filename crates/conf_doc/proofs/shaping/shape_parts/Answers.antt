@@ -12,7 +12,7 @@ use Rattle.conf_doc.proofs.shaping.shape_parts.Goals as goal
 
 pub returns-in_err-part-clause-answer : goal.returns-in_err-part-clause-answer
 returns-in_err-part-clause-answer g c =
-    let p = err_from_is_err_and c.from_residual.result c.from_residual.ensures.1 in
+    let p = err_from_is_err_and c.from_residual-in_err-part.result c.from_residual-in_err-part.ensures.1 in
     let stops = rw c.as_str.ensures.text at c.in_err-part.ensures.answer in
     rw (p.1, p.2) (part_fails g.X.Shaped.shape _ _ _ _ _ _ c.loop-name.invariant.walk _ (ap (λ ms. members_of (map named_document ms)) c.in-Some.ensures.steps.0) stops)
 
