@@ -40,23 +40,34 @@ MayLeaveInPrint bytes old left =
     (part rest : List ℕ) × (bytes ≡ part ++ rest) × MayLeaveNow (option_map (printed part) old) left
 
 -- Time goes on: a crash since t might have left what it might have left before, or something of these.
-pub record Elapses {H : Type 0} (moment : H → ℕ) (left_since : H → ℕ → Left → Type 0) (old new : H) (these : Left → Type 0) : Type 0 where
+pub record Elapses
+    {H : Type 0} (moment : H → ℕ) (left_since : H → ℕ → Left → Type 0) (old new : H)
+    (these : Left → Type 0) : Type 0 where
   pub later : moment old ≤ moment new
-  pub nothing_else : (t : ℕ) (left : Left) → t ≤ moment old → left_since new t left → left_since old t left ⊎ these left
-  pub keeps : (t : ℕ) (left : Left) → t ≤ moment old → left_since old t left → left_since new t left
+  pub nothing_else :
+      (t : ℕ) (left : Left) → t ≤ moment old → left_since new t left
+      → left_since old t left ⊎ these left
+  pub keeps :
+      (t : ℕ) (left : Left) → t ≤ moment old → left_since old t left → left_since new t left
 
 -- each of these might have been left by a crash since the earlier host
-abbrev pub Passes : {H : Type 0} → (H → ℕ) → (H → ℕ → Left → Type 0) → H → H → (Left → Type 0) → Type 0
-Passes moment left_since old new these = (t : ℕ) (left : Left) → t ≤ moment old → these left → left_since new t left
+abbrev pub Passes :
+    {H : Type 0} → (H → ℕ) → (H → ℕ → Left → Type 0) → H → H → (Left → Type 0) → Type 0
+Passes moment left_since old new these =
+    (t : ℕ) (left : Left) → t ≤ moment old → these left → left_since new t left
 
 -- A crash at any moment since old leaves something that has P.
-pub record LeavesOnly {H : Type 0} (moment : H → ℕ) (left_since : H → ℕ → Left → Type 0) (old new : H) (P : Left → Type 0) : Type 0 where
+pub record LeavesOnly
+    {H : Type 0} (moment : H → ℕ) (left_since : H → ℕ → Left → Type 0) (old new : H)
+    (P : Left → Type 0) : Type 0 where
   pub later : moment old ≤ moment new
   pub each : (left : Left) → left_since new (moment old) left → P left
   -- for a run that began earlier
-  pub before : (t : ℕ) (left : Left) → t ≤ moment old → left_since new t left → left_since old t left ⊎ P left
+  pub before :
+      (t : ℕ) (left : Left) → t ≤ moment old → left_since new t left
+      → left_since old t left ⊎ P left
 
--- ---- what a host was asked for
+-- ---- the moments of a host
 
 -- a state that a host was in, and the bytes that were then printed, if any
 abbrev pub Moment : Type 0

@@ -8,5 +8,6 @@ use Rattle.host_core.specs.State.{Files}
 abbrev pub named : String Global × Vec ℕ Global → List ℕ × List ℕ
 named e = (string_bytes e.0, e.1.items)
 
+-- the files with these names and bytes
 abbrev pub files_in : List (String Global × Vec ℕ Global) → Files
 files_in entries = from_entries (map named entries)

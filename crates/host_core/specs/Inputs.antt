@@ -10,5 +10,6 @@ abbrev pub within : ℕ → Option (List ℕ) → Input
 within limit None = Absent
 within limit (Some bytes) = if nat_lt limit (length bytes) then TooBig else Bytes bytes
 
+-- an input of a state, of at most that many bytes
 abbrev pub input_of : State → List ℕ → ℕ → Input
 input_of s path limit = within limit (get s.inputs path)

@@ -6,18 +6,27 @@ use Rattle.host_core.specs.Faults.{is_faulty}
 use Rattle.host_core.specs.State.{State}
 use Rattle.host_core.specs.MemoryHost.{MemoryHost, IsPast, HasFault, GoesOn}
 
+-- nothing is left behind the last moment
 none_left : (past : List Moment) (left : Left) → LeftBy (drop (length past) past) left → ⊥
 none_left [] left by = by
 none_left (m ∷ past) left by = none_left past left by
 
 -- since the last moment there is the state alone
-pub only_state : (s : State) (past : List Moment) (left : Left) → LeftSince s past (length past) left → MayLeave s left
+pub only_state :
+    (s : State) (past : List Moment) (left : Left)
+    → LeftSince s past (length past) left → MayLeave s left
 only_state s past left (inl now) = now
 only_state s past left (inr by) = absurd (none_left past left by)
 
 -- a host goes on from itself
 pub goes_itself : (m : MemoryHost) → GoesOn m m
-goes_itself m = record { faults = refl; inputs = refl; calls = omega arith; starved = omega arith; counts = inl refl }
+goes_itself m = record {
+  faults = refl;
+  inputs = refl;
+  calls = omega arith;
+  starved = omega arith;
+  counts = inl refl;
+}
 
 past_later : (n a b : ℕ) → IsPast n a → a ≤ b → IsPast n b
 past_later n a b (inl less) le = inl (omega (arith, less, le))
@@ -29,16 +38,26 @@ past_earlier m n a le (inr last) = inr last
 
 -- a fault in the first of two runs is one in both
 first_fault : (a b c : MemoryHost) → GoesOn b c → HasFault a b → HasFault a c
-first_fault a b c g (inl f) = inl (f.0, f.1, past_later f.0 b.calls c.calls f.2 g.calls, f.3)
-first_fault a b c g (inr starved) = inr (past_later a.starved b.starved c.starved starved g.starved)
+first_fault a b c g (inl f) =
+    inl (f.0, f.1, past_later f.0 b.calls c.calls f.2 g.calls, f.3)
+first_fault a b c g (inr starved) =
+    inr (past_later a.starved b.starved c.starved starved g.starved)
 
 -- and so is one in the second
 second_fault : (a b c : MemoryHost) → GoesOn a b → HasFault b c → HasFault a c
 second_fault a b c g (inl f) =
-    inl (f.0, omega (arith, g.calls, f.1), f.2, subst (λ faults. IsTrue (is_faulty faults f.0)) g.faults f.3)
-second_fault a b c g (inr starved) = inr (past_earlier a.starved b.starved c.starved g.starved starved)
+    inl (
+      f.0,
+      omega (arith, g.calls, f.1),
+      f.2,
+      subst (λ faults. IsTrue (is_faulty faults f.0)) g.faults f.3,
+    )
+second_fault a b c g (inr starved) =
+    inr (past_earlier a.starved b.starved c.starved g.starved starved)
 
-counts_of : (a b c : MemoryHost) → GoesOn a b → GoesOn b c → (b.counts ≡ a.counts) ⊎ HasFault a b → (c.counts ≡ b.counts) ⊎ HasFault b c
+counts_of :
+    (a b c : MemoryHost) → GoesOn a b → GoesOn b c
+    → (b.counts ≡ a.counts) ⊎ HasFault a b → (c.counts ≡ b.counts) ⊎ HasFault b c
     → (c.counts ≡ a.counts) ⊎ HasFault a c
 counts_of a b c first second (inl same) (inl again) = inl (again ∙ same)
 counts_of a b c first second (inl same) (inr fault) = inr (second_fault a b c first fault)

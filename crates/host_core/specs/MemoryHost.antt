@@ -1,5 +1,5 @@
 -- What a host in memory holds, and what its calls change.
-use Rattle.std.specs.Prelude.{◌≡◌, ◌⊎◌, ℕ, ◌/◌, ◌<◌, ◌≤◌, Bool, IsTrue, IsFalse, List, [], ◌∷◌, ◌++◌, length, take, map, Result, Ok, Err, Vec}
+use Rattle.std.specs.Prelude.{◌≡◌, ◌⊎◌, ℕ, ◌/◌, ◌<◌, ◌≤◌, if◌then◌else◌, Bool, IsTrue, IsFalse, List, [], ◌∷◌, ◌++◌, length, take, map, Result, Ok, Err, Vec}
 use Rattle.std.specs.declared.alloc.Global.{Global}
 use Rattle.std.specs.FinMap as finmap
 use Rattle.host_core.specs.Counts.{Counts, last_count}
@@ -8,6 +8,7 @@ use Rattle.host_core.specs.State.{State, Files, settled}
 use Rattle.host_core.specs.Faults.{is_faulty, raised, no_faults, input_fault, disk_fault, print_fault, service_fault}
 use Rattle.host_core.specs.declared.faults.Faults.{Faults}
 
+-- the state, the moments before it, the counts, and which calls fail
 pub record MemoryHost : Type 0 where
   pub state : State
   -- the moments so far, the first one first
@@ -23,7 +24,7 @@ pub record MemoryHost : Type 0 where
 abbrev pub files_of : List (List ℕ × Vec ℕ Global) → Files
 files_of pairs = finmap.from_entries (map (λ p. (p.0, p.1.items)) pairs)
 
--- a host of which nothing was asked yet
+-- a host with no calls so far
 abbrev pub fresh : Files → Files → Faults → MemoryHost
 fresh inputs files faults = record {
   state = record { inputs = inputs; files = files; pending = settled; output = []; restarts = [] };
@@ -42,7 +43,8 @@ called m = record m { calls = raised m.calls }
 
 -- the state changes, and was the last one so far; these bytes are printed in between
 abbrev pub moved_by : (State → State) → List ℕ → MemoryHost → MemoryHost
-moved_by change bytes m = record m { state = change m.state; past = m.past ++ (m.state, bytes) ∷ [] }
+moved_by change bytes m =
+    record m { state = change m.state; past = m.past ++ (m.state, bytes) ∷ [] }
 
 -- the state changes in what is pending, with no moment in between
 abbrev pub marked_by : (State → State) → MemoryHost → MemoryHost
@@ -76,12 +78,20 @@ half bytes = take (length bytes / 2) bytes
 abbrev pub next_fails : MemoryHost → Bool
 next_fails m = is_faulty m.faults m.calls
 
+-- a fault where the next call fails
+abbrev pub failed_or_not : (MemoryHost → MemoryHost) → MemoryHost → MemoryHost
+failed_or_not fault m = if next_fails m then fault m else m
+
 -- A call without an answer for want of memory: it did its work, or a fault has its number and it did what a
 -- failing call does, or it found no memory and did what is left then, as a fault.
-abbrev pub Ends : {F : Type 0} → Result (Unit {0}) F → MemoryHost → MemoryHost → (work failing starved fault : MemoryHost → MemoryHost) → Type 0
-Ends (Ok u) old new work failing starved fault = IsFalse (next_fails old) × (new ≡ called (work old))
+abbrev pub Ends :
+    {F : Type 0} → Result (Unit {0}) F → MemoryHost → MemoryHost
+    → (work failing starved fault : MemoryHost → MemoryHost) → Type 0
+Ends (Ok u) old new work failing starved fault =
+    IsFalse (next_fails old) × (new ≡ called (work old))
 Ends (Err e) old new work failing starved fault =
-    (new ≡ called (starving (fault (starved old)))) ⊎ (IsTrue (next_fails old) × (new ≡ called (fault (failing old))))
+    (new ≡ called (starving (fault (starved old))))
+    ⊎ (IsTrue (next_fails old) × (new ≡ called (fault (failing old))))
 
 -- ---- what no call changes
 
@@ -92,7 +102,8 @@ IsPast number next = (number < next) ⊎ (last_count ≤ next)
 -- a fault has the number of a call between the two, or such a call found no memory
 abbrev pub HasFault : MemoryHost → MemoryHost → Type 0
 HasFault old new =
-    ((number : ℕ) × (old.calls ≤ number) × IsPast number new.calls × IsTrue (is_faulty old.faults number))
+    ((number : ℕ) × (old.calls ≤ number) × IsPast number new.calls
+    × IsTrue (is_faulty old.faults number))
     ⊎ IsPast old.starved new.starved
 
 -- the same host later: a count rose only by a fault of its own or for want of memory

@@ -12,7 +12,7 @@ picked (Bytes bytes) (dirty name) now = with_file name (Some bytes) now
 picked Before (listing before) now = before
 picked other pending now = now
 
--- the host after a crash: it keeps inputs, output, restarts and counts, has no faults, and was asked nothing
+-- the host after a crash: it keeps inputs, output, restarts and counts, and has no faults and no calls
 abbrev pub crashed : Pick → MemoryHost → MemoryHost
 crashed pick m = record m {
   state = record m.state { files = picked pick m.state.pending m.state.files; pending = settled };

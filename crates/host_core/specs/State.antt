@@ -16,6 +16,7 @@ pub data Pending : Type 0 where
   -- the last change of the folder's names, from these files on
   listing : Files → Pending
 
+-- a host's state: what it hands out, what may be undone, and what came out of it
 pub record State : Type 0 where
   pub inputs : Files
   pub files : Files
@@ -60,7 +61,8 @@ rename old new files = with_file new (get files old) (with_file old None files)
 
 -- after a write: this content stands at the name, and may be undone
 abbrev pub after_write : List ℕ → Option (List ℕ) → State → State
-after_write name content s = record s { files = with_file name content s.files; pending = dirty name }
+after_write name content s =
+    record s { files = with_file name content s.files; pending = dirty name }
 
 -- only what is pending is another
 abbrev pub with_pending : Pending → State → State
@@ -73,7 +75,8 @@ after_listing change s = record s { files = change s.files; pending = listing s.
 -- the change of the folder's names is done or not, and may be undone either way
 abbrev pub ListsOrNot : (Files → Files) → Option State → Option State → Type 0
 ListsOrNot change old new =
-    (new ≡ option_map (after_listing change) old) ⊎ (new ≡ option_map (after_listing (λ files. files)) old)
+    (new ≡ option_map (after_listing change) old)
+    ⊎ (new ≡ option_map (after_listing (λ files. files)) old)
 
 -- these bytes were appended to the output
 abbrev pub printed : List ℕ → State → State
@@ -81,7 +84,8 @@ printed bytes s = record s { output = s.output ++ bytes }
 
 -- a front of the bytes was printed
 abbrev pub PrintsPart : List ℕ → Option State → Option State → Type 0
-PrintsPart bytes old new = (part rest : List ℕ) × (bytes ≡ part ++ rest) × (new ≡ option_map (printed part) old)
+PrintsPart bytes old new =
+    (part rest : List ℕ) × (bytes ≡ part ++ rest) × (new ≡ option_map (printed part) old)
 
 -- the restart of that service was requested
 abbrev pub after_restart : List ℕ → State → State

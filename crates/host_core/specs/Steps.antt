@@ -20,7 +20,8 @@ bytes_in = option_map (λ v. v.items)
 abbrev pub undone : Undo → Files → Files
 undone Same now = now
 undone (Removed name bytes) now = with_file name (Some bytes.items) now
-undone (Renamed from to replaced) now = with_file from (get now to) (with_file to (bytes_in replaced) now)
+undone (Renamed from to replaced) now =
+    with_file from (get now to) (with_file to (bytes_in replaced) now)
 
 -- what is pending of these files
 abbrev pub pending_of : Pending → Files → state.Pending
@@ -48,10 +49,12 @@ pending_or (Some pending) s = pending_of pending s.files
 -- the state before the step
 abbrev pub before : Step → State → State
 before (Write pending name content) s =
-    let files = with_file name (bytes_in content) s.files in record s { files = files; pending = pending_of pending files }
+    let files = with_file name (bytes_in content) s.files in
+    record s { files = files; pending = pending_of pending files }
 before (Settle pending) s = record s { pending = pending_of pending s.files }
 before Lists s = record s { files = files_before s.pending s.files; pending = state.settled }
-before (Print pending len) s = record s { pending = pending_or pending s; output = take len s.output }
+before (Print pending len) s =
+    record s { pending = pending_or pending s; output = take len s.output }
 before (Restart pending) s =
     record s { pending = pending_or pending s; restarts = take (length s.restarts - 1) s.restarts }
 
@@ -85,6 +88,23 @@ is_tied other (step ∷ steps) = tells_pending step
 pub record History : Type 0 where
   pub state : State
   pub past : List Moment
+
+-- a history with nothing pending and no past
+abbrev pub beginning : Files → Files → List ℕ → List (List ℕ) → History
+beginning inputs files output restarts = record {
+  state = record {
+    inputs = inputs;
+    files = files;
+    pending = state.settled;
+    output = output;
+    restarts = restarts;
+  };
+  past = [];
+}
+
+-- only the state changes
+abbrev pub with_state : (State → State) → History → History
+with_state change h = record h { state = change h.state }
 
 -- the history goes on with another state, to which it came while these bytes were printed
 abbrev pub moved_to : State → List ℕ → History → History

@@ -38,7 +38,12 @@ impl Model for FaultCounts {
 
     ghost Value = { Counts };
 
-    ghost view = { λ c. record { input = c.input; disk = c.disk; print = c.print; service = c.service } };
+    ghost view = { λ c. record {
+      input = c.input;
+      disk = c.disk;
+      print = c.print;
+      service = c.service;
+    } };
 }
 
 impl FaultCounts {

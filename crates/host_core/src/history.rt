@@ -96,7 +96,7 @@ fn rename_in(alloc: Global, files: &mut NamedBytes, from: &str, to: &str) -> Res
 }
 
 impl History {
-    ghost use Rattle.host_core.specs.Steps.{moved_to};
+    ghost use Rattle.host_core.specs.Steps.{moved_to, beginning, with_state};
     ghost use Rattle.host_core.specs.Picks.{picked};
 
     /// The history that begins with these inputs, files, output and restarts, and nothing pending.
@@ -107,7 +107,7 @@ impl History {
         output: Vec<u8>,
         restarts: Names,
     ) -> Self
-        ensures { result ≡ record { state = record { inputs = inputs; files = files; pending = settled; output = output.items; restarts = restarts }; past = [] } }
+        ensures { result ≡ beginning inputs files output.items restarts }
     {
         History {
             alloc,
@@ -159,7 +159,8 @@ impl History {
     pub(crate) fn write(&mut self, name: &str, bytes: &[u8]) -> Result<(), Memory>
         requires { length name.now ≤ longest_file_name }
         ensures ok { OnOk result
-            (self.new ≡ moved_to (after_write name.now (Some bytes.now) self.old.state) [] self.old) }
+            (self.new ≡ moved_to (after_write name.now (Some bytes.now) self.old.state)
+            [] self.old) }
         ensures err { OnErr result (self.new ≡ self.old) }
     {
         let key = Txt::new(self.alloc, name)?;
@@ -193,7 +194,7 @@ impl History {
     pub(crate) fn soil(&mut self, name: &str)
         requires name { length name.now ≤ longest_file_name }
         requires ready { CanWrite name.now self.old.state }
-        ensures { self.new ≡ record self.old { state = with_pending (dirty name.now) self.old.state } }
+        ensures { self.new ≡ with_state (with_pending (dirty name.now)) self.old }
     {
         self.pending = Pending::Dirty(ShortName::new(name));
     }
@@ -201,7 +202,7 @@ impl History {
     /// Leaves the names pending as they are, and takes no step.
     pub(crate) fn unsettle(&mut self)
         requires { self.old.state.pending ≡ settled }
-        ensures { self.new ≡ record self.old { state = after_listing (λ files. files) self.old.state } }
+        ensures { self.new ≡ with_state (after_listing (λ files. files)) self.old }
     {
         self.pending = Pending::Listing(Undo::Same);
     }
@@ -210,7 +211,8 @@ impl History {
     pub(crate) fn remove(&mut self, name: &str) -> Result<(), Memory>
         requires { self.old.state.pending ≡ settled }
         ensures ok { OnOk result
-            (self.new ≡ moved_to (after_listing (with_file name.now None) self.old.state) [] self.old) }
+            (self.new ≡ moved_to (after_listing (with_file name.now None) self.old.state)
+            [] self.old) }
         ensures err { OnErr result (self.new ≡ self.old) }
     {
         let key = Txt::new(self.alloc, name)?;
@@ -226,7 +228,8 @@ impl History {
         requires settled { self.old.state.pending ≡ settled }
         requires there { IsSome (file self.old.state from.now) }
         ensures ok { OnOk result
-            (self.new ≡ moved_to (after_listing (with_name from.now to.now) self.old.state) [] self.old) }
+            (self.new ≡ moved_to (after_listing (with_name from.now to.now) self.old.state)
+            [] self.old) }
         ensures err { OnErr result (self.new ≡ self.old) }
     {
         self.steps.reserve(1)?;

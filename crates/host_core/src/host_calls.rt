@@ -44,10 +44,12 @@ pub trait Host {
 
     /// Reads an input of at most `limit` bytes. `Failed` comes only where the input count rose.
     fn input(&mut self, alloc: Global, path: &str, limit: u64) -> Result<Input, HostError>
-        ensures found { IfOk result (λ i. IfSome (told self.old) (λ s. i ≡ input_of s path.now limit)) }
+        ensures found { IfOk result (λ i. IfSome (told self.old)
+            (λ s. i ≡ input_of s path.now limit)) }
         ensures told { told self.new ≡ told self.old }
         ensures counts { InputMayRise (counts self.old) (counts self.new) }
-        ensures cause { IsErrOf result call_failed → Rose (counts self.old).input (counts self.new).input }
+        ensures cause { IsErrOf result call_failed
+            → Rose (counts self.old).input (counts self.new).input }
         ensures time { Elapses moment left_since self.old self.new (MayLeaveNow (told self.new)) }
         ensures goes { goes_on self.old self.new };
 
@@ -57,7 +59,8 @@ pub trait Host {
         ensures found { IfOk result (λ all. IfSome (told self.old) (λ s. all ≡ names_of s)) }
         ensures told { told self.new ≡ told self.old }
         ensures counts { DiskMayRise (counts self.old) (counts self.new) }
-        ensures cause { IsErrOf result call_failed → Rose (counts self.old).disk (counts self.new).disk }
+        ensures cause { IsErrOf result call_failed
+            → Rose (counts self.old).disk (counts self.new).disk }
         ensures time { Elapses moment left_since self.old self.new (MayLeaveNow (told self.new)) }
         ensures goes { goes_on self.old self.new };
 
@@ -69,7 +72,8 @@ pub trait Host {
             (λ s. option_map (λ v. v.items) r ≡ file s name.now)) }
         ensures told { told self.new ≡ told self.old }
         ensures counts { DiskMayRise (counts self.old) (counts self.new) }
-        ensures cause { IsErrOf result call_failed → Rose (counts self.old).disk (counts self.new).disk }
+        ensures cause { IsErrOf result call_failed
+            → Rose (counts self.old).disk (counts self.new).disk }
         ensures time { Elapses moment left_since self.old self.new (MayLeaveNow (told self.new)) }
         ensures goes { goes_on self.old self.new };
 
@@ -92,7 +96,8 @@ pub trait Host {
     fn sync(&mut self, name: &str) -> Result<(), Failed>
         requires name { length name.now ≤ longest_name }
         requires ready { IfSome (told self.old) (CanWrite name.now) }
-        ensures ok { OnOk result (told self.new ≡ option_map (with_pending settled) (told self.old)) }
+        ensures ok { OnOk result
+            (told self.new ≡ option_map (with_pending settled) (told self.old)) }
         ensures err { OnErr result
             (told self.new ≡ option_map (with_pending (dirty name.now)) (told self.old)) }
         ensures counts { DiskMayRise (counts self.old) (counts self.new) }
@@ -107,7 +112,8 @@ pub trait Host {
         requires to { length to.now ≤ longest_name }
         requires ready { IfSome (told self.old) (CanMove from.now) }
         ensures ok { OnOk result
-            (told self.new ≡ option_map (after_listing (with_name from.now to.now)) (told self.old)) }
+            (told self.new
+            ≡ option_map (after_listing (with_name from.now to.now)) (told self.old)) }
         ensures err { OnErr result
             (ListsOrNot (with_name from.now to.now) (told self.old) (told self.new)) }
         ensures counts { DiskMayRise (counts self.old) (counts self.new) }
@@ -121,7 +127,8 @@ pub trait Host {
         requires name { length name.now ≤ longest_name }
         requires ready { IfSome (told self.old) (CanMove name.now) }
         ensures ok { OnOk result
-            (told self.new ≡ option_map (after_listing (with_file name.now None)) (told self.old)) }
+            (told self.new
+            ≡ option_map (after_listing (with_file name.now None)) (told self.old)) }
         ensures err { OnErr result
             (ListsOrNot (with_file name.now None) (told self.old) (told self.new)) }
         ensures counts { DiskMayRise (counts self.old) (counts self.new) }
@@ -131,7 +138,8 @@ pub trait Host {
 
     /// Makes the files last as they read. `Failed` comes only where the disk count rose.
     fn settle(&mut self) -> Result<(), Failed>
-        ensures ok { OnOk result (told self.new ≡ option_map (with_pending settled) (told self.old)) }
+        ensures ok { OnOk result
+            (told self.new ≡ option_map (with_pending settled) (told self.old)) }
         ensures err { OnErr result (told self.new ≡ told self.old) }
         ensures counts { DiskMayRise (counts self.old) (counts self.new) }
         ensures cause { OnErr result (Rose (counts self.old).disk (counts self.new).disk) }

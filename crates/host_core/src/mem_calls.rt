@@ -1,10 +1,10 @@
 //! The calls of a host in memory, exactly: what each one changes, and when it fails.
-ghost use Rattle.std.specs.Prelude.{◌≡◌, ◌↔◌, ◌≤◌, [], length, option_map, IsTrue, IfOk, OnErr, IsErrOf, if◌then◌else◌, Some, None};
+ghost use Rattle.std.specs.Prelude.{◌≡◌, ◌↔◌, ◌≤◌, [], length, option_map, IsTrue, IfOk, OnErr, IsErrOf, Some, None};
 ghost use Rattle.host_core.specs.Counts.{Rose, InputMayRise, DiskMayRise, PrintMayRise, ServiceMayRise};
 ghost use Rattle.host_core.specs.Inputs.{input_of};
 ghost use Rattle.host_core.specs.Names.{longest_file_name};
 ghost use Rattle.host_core.specs.State.{file, names as names_of, settled, dirty, CanWrite, CanMove, with_file, rename as with_name, after_write, with_pending, after_listing, printed, after_restart};
-ghost use Rattle.host_core.specs.MemoryHost.{called, moved_by, marked_by, input_failed, disk_failed, print_failed, service_failed, half, next_fails, Ends};
+ghost use Rattle.host_core.specs.MemoryHost.{called, moved_by, marked_by, input_failed, disk_failed, print_failed, service_failed, half, next_fails, failed_or_not, Ends};
 ghost use Rattle.host_core.specs.declared.errors.HostError.TheVariants.{Failed as call_failed};
 
 use crate::{Failed, HostError, Input, MemHost, Names, Sequence};
@@ -20,9 +20,10 @@ impl MemHost {
     ) -> Result<Input, HostError>
         ensures found { IfOk result (λ i. i ≡ input_of self.old.state path.now limit) }
         ensures fails { IsErrOf result call_failed ↔ IsTrue (next_fails self.old) }
-        ensures after { self.new ≡ called (if next_fails self.old then input_failed self.old else self.old) }
+        ensures after { self.new ≡ called (failed_or_not input_failed self.old) }
         ensures counts { InputMayRise self.old.counts self.new.counts }
-        ensures cause { IsErrOf result call_failed → Rose self.old.counts.input self.new.counts.input }
+        ensures cause { IsErrOf result call_failed
+            → Rose self.old.counts.input self.new.counts.input }
     {
         if self.next_call_fails() {
             self.counts.add_input();
@@ -42,9 +43,10 @@ impl MemHost {
     pub(crate) fn hand_names(&mut self, alloc: Global) -> Result<Names, HostError>
         ensures found { IfOk result (λ all. all ≡ names_of self.old.state) }
         ensures fails { IsErrOf result call_failed ↔ IsTrue (next_fails self.old) }
-        ensures after { self.new ≡ called (if next_fails self.old then disk_failed self.old else self.old) }
+        ensures after { self.new ≡ called (failed_or_not disk_failed self.old) }
         ensures counts { DiskMayRise self.old.counts self.new.counts }
-        ensures cause { IsErrOf result call_failed → Rose self.old.counts.disk self.new.counts.disk }
+        ensures cause { IsErrOf result call_failed
+            → Rose self.old.counts.disk self.new.counts.disk }
     {
         if self.next_call_fails() {
             self.counts.add_disk();
@@ -62,11 +64,13 @@ impl MemHost {
         alloc: Global,
         name: &str,
     ) -> Result<Option<Vec<u8>>, HostError>
-        ensures found { IfOk result (λ r. option_map (λ v. v.items) r ≡ file self.old.state name.now) }
+        ensures found { IfOk result
+            (λ r. option_map (λ v. v.items) r ≡ file self.old.state name.now) }
         ensures fails { IsErrOf result call_failed ↔ IsTrue (next_fails self.old) }
-        ensures after { self.new ≡ called (if next_fails self.old then disk_failed self.old else self.old) }
+        ensures after { self.new ≡ called (failed_or_not disk_failed self.old) }
         ensures counts { DiskMayRise self.old.counts self.new.counts }
-        ensures cause { IsErrOf result call_failed → Rose self.old.counts.disk self.new.counts.disk }
+        ensures cause { IsErrOf result call_failed
+            → Rose self.old.counts.disk self.new.counts.disk }
     {
         if self.next_call_fails() {
             self.counts.add_disk();

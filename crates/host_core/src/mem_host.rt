@@ -41,15 +41,16 @@ impl Model for MemHost {
 }
 
 impl MemHost {
-    /// A host with these inputs and files, of which nothing was asked yet. At a name that stands twice the
-    /// first one counts.
+    /// A host with these inputs and files, with no calls so far. At a name that stands twice the first
+    /// one counts.
     pub fn new(
         alloc: Global,
         inputs: Vec<(Txt, Vec<u8>)>,
         files: Vec<(Txt, Vec<u8>)>,
         faults: Faults,
     ) -> Result<MemHost, Memory>
-        ensures { IfOk result (λ m. m ≡ fresh (files_of inputs.items) (files_of files.items) faults) }
+        ensures { IfOk result
+            (λ m. m ≡ fresh (files_of inputs.items) (files_of files.items) faults) }
     {
         let inputs = NamedBytes::of_pairs(alloc, inputs)?;
         let files = NamedBytes::of_pairs(alloc, files)?;
