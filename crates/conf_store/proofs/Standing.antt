@@ -20,16 +20,16 @@ use Rattle.conf_store.proofs.FileMaps.{get_other, get_there, gone_twice}
 apart_at : (i : ℕ) (xs ys : List ℕ) → (get_or xs i 0 ≡ get_or ys i 0 → ⊥) → xs ≡ ys → ⊥
 apart_at i xs ys differ e = differ (ap (λ (l : List ℕ). get_or l i 0) e)
 
-folded_not_scratch : folded_file ≡ scratch → ⊥
+pub folded_not_scratch : folded_file ≡ scratch → ⊥
 folded_not_scratch = apart_at 0 folded_file scratch (λ (e : 99 ≡ 116). omega arith)
 
-config_not_scratch : config_file ≡ scratch → ⊥
+pub config_not_scratch : config_file ≡ scratch → ⊥
 config_not_scratch = apart_at 0 config_file scratch (λ (e : 99 ≡ 116). omega arith)
 
 folded_not_config : folded_file ≡ config_file → ⊥
 folded_not_config = apart_at 10 folded_file config_file (λ (e : 102 ≡ 106). omega arith)
 
-step_not_scratch : (n : ℕ) → step_name n ≡ scratch → ⊥
+pub step_not_scratch : (n : ℕ) → step_name n ≡ scratch → ⊥
 step_not_scratch n = apart_at 0 (step_name n) scratch (λ (e : 115 ≡ 116). omega arith)
 
 -- a name of a step file is none that is no such name
@@ -48,7 +48,7 @@ steps_alike f g alike (suc more) n c =
     λ i. unless_missing (alike n i) n (λ d. steps_alike f g alike more (n + 1) d i) c
 
 -- files that agree on what is read stand for the same
-same_stored : (f g : Files) → get g folded_file ≡ get f folded_file → get g config_file ≡ get f config_file
+pub same_stored : (f g : Files) → get g folded_file ≡ get f folded_file → get g config_file ≡ get f config_file
     → ((n : ℕ) → get g (step_name n) ≡ get f (step_name n)) → stored g ≡ stored f
 same_stored f g folded config steps =
     λ i. or_unfolded (folded i) (or_none NoFile (config i) >>= λ bytes. config_in bytes >>= λ c. steps_alike f g steps last_step 1 c i)
@@ -57,11 +57,11 @@ same_stored f g folded config steps =
 by_folded : (bytes : List ℕ) (files : Files) → get files folded_file ≡ Some bytes → stored files ≡ config_in bytes
 by_folded bytes files e = ap (λ (found : Option (List ℕ)). or_unfolded found (after_all_steps files)) e
 
-no_steps : (more n : ℕ) (files : Files) (c : Config) → get files (step_name n) ≡ None → after_steps more n files c ≡ Ok c
+pub no_steps : (more n : ℕ) (files : Files) (c : Config) → get files (step_name n) ≡ None → after_steps more n files c ≡ Ok c
 no_steps zero n files c e = refl
 no_steps (suc more) n files c e = ap (λ (found : Option (List ℕ)). unless_missing found n (after_steps more (n + 1) files) c) e
 
-ends_there : (r : Result Config StoredWhy) (next : Config → Result Config StoredWhy) → ((c : Config) → next c ≡ Ok c) → (r >>= next) ≡ r
+pub ends_there : (r : Result Config StoredWhy) (next : Config → Result Config StoredWhy) → ((c : Config) → next c ≡ Ok c) → (r >>= next) ≡ r
 ends_there (Ok c) next ends = ends c
 ends_there (Err why) next ends = refl
 
@@ -75,7 +75,7 @@ by_config bytes files folded config step =
 
 -- ---- the folded file put
 
-seen : (f g : Files) → IsSame f g → (q : List ℕ) → (q ≡ scratch → ⊥) → get g q ≡ get f q
+pub seen : (f g : Files) → IsSame f g → (q : List ℕ) → (q ≡ scratch → ⊥) → get g q ≡ get f q
 seen f g same q apart =
     sym (get_other scratch None g q apart) ∙ ap (λ (m : Files). get m q) same ∙ get_other scratch None f q apart
 

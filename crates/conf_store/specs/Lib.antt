@@ -2,7 +2,12 @@
 pub mod Changes
 pub mod Files
 pub mod Folds
+pub mod Loads
 pub mod Puts
+pub mod Steps
 pub mod Stored
 -- what only private clauses cite
 pub mod Clearing
+pub mod Reads
+pub mod Shapes
+pub mod Walk

@@ -1,4 +1,9 @@
-//! Why a folder stands for no configuration.
+//! Why a folder stands for no configuration, and why it isn't loaded.
+ghost use Rattle.std.specs.Prelude.{◌≡◌};
+ghost use Rattle.conf_store.specs.declared.errors.LoadError.TheVariants.{Memory as no_memory};
+
+use host_core::Memory;
+use thiserror::Error;
 
 /// Why the files of a folder stand for no configuration.
 #[derive(Clone, Copy, Debug, PartialEq, Eq)]
@@ -13,4 +18,25 @@ pub enum StoredWhy {
     BadShape,
     /// The step file of that number is no patch, fails, or leaves no configuration.
     BadStep(u32),
+}
+
+/// Why a folder isn't loaded.
+#[derive(Clone, Copy, Debug, PartialEq, Eq, Error)]
+pub enum LoadError {
+    /// It stands for no configuration.
+    #[error("the folder stands for no configuration")]
+    Bad(StoredWhy),
+    /// The host has counted a disk fault.
+    #[error("the disk failed")]
+    Disk,
+    #[error("out of memory")]
+    Memory,
+}
+
+impl From<Memory> for LoadError {
+    ghost from_gives = { λ _ e. e ≡ no_memory };
+
+    fn from(_: Memory) -> LoadError {
+        LoadError::Memory
+    }
 }

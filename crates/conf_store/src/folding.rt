@@ -15,9 +15,9 @@ use crate::settling::rename_file;
 use crate::{Stored, put_file};
 use host_core::{Failed, Host};
 
-const CONFIG_FILE: &str = "config_db.json";
+pub(crate) const CONFIG_FILE: &str = "config_db.json";
 
-const FOLDED_FILE: &str = "config_db.folded";
+pub(crate) const FOLDED_FILE: &str = "config_db.folded";
 
 /// Folds the stored configuration into `config_db.json` and takes the step files away. Its bytes first go
 /// to `config_db.folded`, unless that is there already. A crash at any moment leaves files that stand for

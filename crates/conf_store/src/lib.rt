@@ -4,14 +4,23 @@
 
 mod clearing;
 mod errors;
+mod folder_files;
 mod folding;
+mod keeping;
 mod loaded;
+mod loading;
 mod putting;
+mod putting_steps;
 mod settling;
+mod shapes;
 mod step_files;
+mod steps_read;
+mod stored_files;
 
-pub use errors::StoredWhy;
+pub use errors::{LoadError, StoredWhy};
 pub use folding::fold;
 pub use loaded::Stored;
+pub use loading::load;
 pub use putting::put_file;
+pub use putting_steps::put_step;
 pub use step_files::step_name;

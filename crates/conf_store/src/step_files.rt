@@ -1,9 +1,14 @@
 //! The names of step files.
 ghost use Rattle.std.specs.Prelude.{◌≡◌, ◌+◌, ◌%◌, ◌++◌, ◌∷◌, [], string_bytes, IfOk, OnOk};
-ghost use Rattle.conf_store.specs.Files.{digit_zero, last_digits, step_name as name_of_step, ten};
+ghost use Rattle.std.specs.Char.{is_ascii_digit};
+ghost use Rattle.std.specs.List.{list_all};
+ghost use Rattle.conf_store.specs.Files.{digit_zero, is_step_name as is_name_of_step, last_digits, step_name as name_of_step, ten};
 
 use host_core::{Memory, Txt};
 use std::alloc::Global;
+
+/// How the name of a step file begins.
+const BEGIN: &str = "step.";
 
 /// How many digits stand in the name of a step file.
 const DIGITS: u32 = 6;
@@ -12,9 +17,24 @@ const DIGITS: u32 = 6;
 pub fn step_name(alloc: Global, n: u32) -> Result<Txt, Memory>
     ensures { IfOk result (λ t. t ≡ name_of_step n) }
 {
-    let mut text = String::from_str(alloc, "step.")?;
+    let mut text = String::from_str(alloc, BEGIN)?;
     push_digits(&mut text, DIGITS, n)?;
     Ok(Txt::from(text))
+}
+
+/// Whether a name is that of a step file: `step.` and six digits.
+pub(crate) fn is_step_name(name: &str) -> bool
+    ensures { result ≡ is_name_of_step name.now }
+{
+    name.starts_with(BEGIN)
+        && name.len() == BEGIN.len() + DIGITS as usize
+        && are_digits(&name.as_bytes()[BEGIN.len()..])
+}
+
+fn are_digits(bytes: &[u8]) -> bool
+    ensures { result ≡ list_all is_ascii_digit bytes.now }
+{
+    bytes.iter().all(|b| b.is_ascii_digit())
 }
 
 /// Appends the last `k` digits of a number.

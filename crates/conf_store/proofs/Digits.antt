@@ -1,0 +1,36 @@
+-- The names of step files: how long they are, and that two numbers have two names.
+use Rattle.std.proofs.Common.{◌≡◌, ◌<◌, ◌≤◌, ℕ, zero, suc, ◌+◌, ◌*◌, ◌/◌, ◌%◌, List, [], ◌∷◌, ◌++◌, length, drop, length-append, refl, ap, arith}
+use Rattle.conf_store.specs.Files.{last_digits, last_step, step_digits, step_name, ten}
+
+pub length-digits : (k n : ℕ) → length (last_digits k n) ≡ k
+length-digits zero n = refl
+length-digits (suc k) n = omega (arith, length-append (last_digits k (n / ten)) ((48 + n % ten) ∷ []), length-digits k (n / ten))
+
+pub length-step_name : (n : ℕ) → length (step_name n) ≡ 11
+length-step_name n = omega (arith, length-digits 6 n)
+
+-- how many numbers so many digits write
+abbrev numbers : ℕ → ℕ
+numbers zero = 1
+numbers (suc k) = ten * numbers k
+
+snoc_same : (xs ys : List ℕ) (a b : ℕ) → length xs ≡ length ys → xs ++ a ∷ [] ≡ ys ++ b ∷ [] → (xs ≡ ys) × (a ≡ b)
+snoc_same [] [] a b long e = (refl, cc)
+snoc_same [] (y ∷ ys) a b long e = absurd (omega (arith, long))
+snoc_same (x ∷ xs) [] a b long e = absurd (omega (arith, long))
+snoc_same (x ∷ xs) (y ∷ ys) a b long e =
+    let first : x ≡ y = cc in
+    let more : xs ++ a ∷ [] ≡ ys ++ b ∷ [] = cc in
+    let rest = snoc_same xs ys a b (omega (arith, long)) more in
+    ((λ i. first i ∷ rest.0 i), rest.1)
+
+digits_same : (k n m : ℕ) → n < numbers k → m < numbers k → last_digits k n ≡ last_digits k m → n ≡ m
+digits_same zero n m small too e = omega (arith, small, too)
+digits_same (suc k) n m small too e =
+    let parts = snoc_same (last_digits k (n / ten)) (last_digits k (m / ten)) (48 + n % ten) (48 + m % ten) (omega (arith, length-digits k (n / ten), length-digits k (m / ten))) e in
+    let front : n / ten ≡ m / ten = digits_same k (n / ten) (m / ten) (omega (arith, small)) (omega (arith, too)) parts.0 in
+    omega (arith, front, parts.1)
+
+pub names_same : (n m : ℕ) → n ≤ last_step → m ≤ last_step → step_name n ≡ step_name m → n ≡ m
+unfolding last_step
+names_same n m small too e = digits_same 6 n m (omega (arith, small)) (omega (arith, too)) (ap (drop 5) e)

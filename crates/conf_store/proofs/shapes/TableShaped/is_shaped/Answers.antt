@@ -1,0 +1,10 @@
+use Rattle.std.proofs.Common.{sym, ap, ◌∙◌}
+use Rattle.std.specs.List.{list_all}
+use Rattle.conf_doc.specs.Trees.{document}
+use Rattle.conf_doc.proofs.Equal.{pairs-members_of}
+use Rattle.conf_store.specs.Shapes.{is_table, is_named, is_entry}
+use Rattle.conf_store.proofs.shapes.TableShaped.is_shaped.Goals as goal
+
+pub returns-in-Map : goal.returns-in-Map
+returns-in-Map c =
+    c.are_shaped.ensures ∙ sym (ap (list_all (is_named is_entry)) (pairs-members_of c.in-Map.entries)) ∙ sym (ap (λ t. is_table (document t)) c.in-Map.is)

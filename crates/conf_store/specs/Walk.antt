@@ -1,0 +1,55 @@
+-- The stored configuration as documents, one after each step.
+use Rattle.std.specs.Prelude.{ℕ, zero, suc, ◌+◌, List, Bool, Option, Some, None, is_some, Result, Ok, Err}
+use Rattle.std.specs.FinMap.{get}
+use Rattle.host_core.specs.Answers.{◌>>=◌}
+use Rattle.host_core.specs.State.{Files}
+use Rattle.conf_doc.specs.Document.{Document}
+use Rattle.conf_doc.specs.Reading.{document_of, json}
+use Rattle.conf_doc.specs.Shaping.{configuration}
+use Rattle.conf_doc.specs.declared.configuration.Config.{Config}
+use Rattle.patch_core.specs.Apply.{apply_plain}
+use Rattle.patch_core.specs.Operation.{Operation}
+use Rattle.patch_core.specs.Reading.{patch}
+use Rattle.conf_store.specs.Files.{config_file, folded_file, last_step, step_name}
+use Rattle.conf_store.specs.Stored.{or_none, or_why, stored}
+use Rattle.conf_store.specs.declared.errors.StoredWhy.{StoredWhy}
+use Rattle.conf_store.specs.declared.errors.StoredWhy.TheVariants.{NoFile, BadJson, BadKind, BadShape, BadStep}
+
+-- the document, where it is a configuration
+abbrev pub shaped : StoredWhy → Document → Result Document StoredWhy
+shaped why d = or_why why (configuration d) >>= λ _. Ok d
+
+-- the document that the bytes of a file hold
+abbrev pub document_in : List ℕ → Result Document StoredWhy
+document_in bytes = or_none BadJson (json bytes) >>= λ v. or_why BadKind (document_of v)
+
+-- the same, where it is a configuration
+abbrev pub shaped_in : List ℕ → Result Document StoredWhy
+shaped_in bytes = document_in bytes >>= shaped BadShape
+
+-- the document after the operations of the step of that number
+abbrev pub document_after : ℕ → List Operation → Document → Result Document StoredWhy
+document_after n ops d = or_why (BadStep n) (apply_plain ops d) >>= shaped (BadStep n)
+
+-- the document after the step of that number, whose file holds a patch
+abbrev pub document_after_file : ℕ → List ℕ → Document → Result Document StoredWhy
+document_after_file n bytes d = or_why (BadStep n) (patch bytes) >>= λ ops. document_after n ops d
+
+abbrev pub unless_missing : Option (List ℕ) → ℕ → (Document → Result Document StoredWhy)
+    → Document → Result Document StoredWhy
+unless_missing None n behind d = Ok d
+unless_missing (Some bytes) n behind d = document_after_file n bytes d >>= behind
+
+-- the document after the steps from number n on, up to the first that is missing
+abbrev pub documents_after : (more n : ℕ) → Files → Document → Result Document StoredWhy
+documents_after zero n files d = Ok d
+documents_after (suc more) n files d =
+    unless_missing (get files (step_name n)) n (documents_after more (n + 1) files) d
+
+-- the document after all steps
+abbrev pub document_after_all : Files → Document → Result Document StoredWhy
+document_after_all files d = documents_after last_step 1 files d
+
+-- the configuration that the files stand for, and whether the folded file is there
+abbrev pub config_found : Files → Result (Config × Bool) StoredWhy
+config_found files = stored files >>= λ c. Ok (c, is_some (get files folded_file))
