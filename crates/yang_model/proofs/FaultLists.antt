@@ -1,7 +1,8 @@
 -- How the sentences on a list of statements go with the list.
-use Rattle.std.proofs.Common.{◌≡◌, ◌<◌, ◌≤◌, ◌||◌, ℕ, zero, suc, Bool, List, [], ◌∷◌, ◌++◌, map, length, get_or, Option, refl, ap, ◌∙◌, sym, arith}
+use Rattle.std.proofs.Common.{◌≡◌, ◌<◌, ◌≤◌, ◌||◌, ℕ, zero, suc, Bool, List, [], ◌∷◌, ◌++◌, ◌+◌, map, take, length, get_or, Option, refl, ap, ◌∙◌, sym, arith}
 use Rattle.std.specs.List.{flat_map, list_any}
 use Rattle.std.proofs.lemmas.List.Sums.{fold-append}
+use Rattle.yang_model.proofs.Steps.{flat_map-one_more}
 use Rattle.yang_text.specs.Declarations.{Declaration, block_of, declarations, weight, total_weight}
 use Rattle.yang_text.specs.Statements.{declaration}
 use Rattle.yang_text.specs.declared.statements.Statement.{Statement}
@@ -42,3 +43,9 @@ pub weight-at : (ss : List Statement) (i : ℕ) (s : Statement) → i < length s
 weight-at [] i s within is = absurd (omega arith)
 weight-at (x ∷ ss) zero s within is = rw is (omega arith)
 weight-at (x ∷ ss) (suc i) s within is = omega (arith, weight-at ss i s (omega arith) is)
+
+-- the faults of one more element come last
+pub least-more : {X Y : Type 0} (v : X → Y) (f : Y → List Fault) (xs : List X) (i : ℕ) (x : X) (within : i < length xs) (is : x ≡ get_or xs i x) (old a b : Option Fault)
+    → a ≡ least_of old (flat_map f (map v (take i xs))) → b ≡ least_of a (f (v x)) → b ≡ least_of old (flat_map f (map v (take (i + 1) xs)))
+least-more v f xs i x within is old a b before here =
+    least_of-two old a b (flat_map f (map v (take i xs))) (f (v x)) before here ∙ ap (least_of old) (sym (flat_map-one_more xs i x within is v f))

@@ -1,8 +1,8 @@
 -- Names that are given twice.
-use Rattle.std.specs.Prelude.{ℕ, List, [], ◌∷◌, ◌++◌, Option, Some, None, if◌then◌else◌}
+use Rattle.std.specs.Prelude.{ℕ, List, [], ◌∷◌, ◌++◌, Option, Some, None, codes, if◌then◌else◌}
 use Rattle.std.specs.List.{flat_map, list_any}
 use Rattle.std.specs.Str.{bytes_eq}
-use Rattle.yang_text.specs.Declarations.{Declaration, keyword, argument}
+use Rattle.yang_text.specs.Declarations.{Declaration, keyword, argument, block}
 use Rattle.yang_text.specs.declared.errors.ModelWhy.TheVariants.{Duplicate}
 use Rattle.yang_scope.specs.Faults.{fault_at}
 use Rattle.yang_scope.specs.declared.faults.Fault.{Fault}
@@ -44,3 +44,14 @@ duplicates file ds keywords = given_twice [] (flat_map (given_by file keywords) 
 -- in each group of keywords of a kind
 abbrev pub duplicates_in : ℕ → Kind → List Declaration → List Fault
 duplicates_in file kind ds = flat_map (duplicates file ds) (givers kind)
+
+-- the prefixes that a statement of a module gives: its own, or that of an import
+abbrev pub prefixes_given : ℕ → Declaration → List Given
+prefixes_given file d =
+    if bytes_eq (keyword d) (codes "import")
+    then flat_map (given_by file (codes "prefix" ∷ [])) (block d)
+    else given_by file (codes "prefix" ∷ []) d
+
+-- Duplicate: a prefix that the module gave before
+abbrev pub prefixes_twice : ℕ → List Declaration → List Fault
+prefixes_twice file ds = given_twice [] (flat_map (prefixes_given file) ds)

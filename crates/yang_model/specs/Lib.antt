@@ -1,7 +1,10 @@
 -- What public clauses cite.
 pub mod Belongs
 pub mod Duplicates
+pub mod Fields
+pub mod Files
 pub mod Forms
+pub mod Keys
 pub mod ModelSets
 pub mod Names
 pub mod Own

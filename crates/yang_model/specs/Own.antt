@@ -7,8 +7,10 @@ use Rattle.yang_text.specs.declared.errors.ModelWhy.TheVariants.{BadArgument, Un
 use Rattle.yang_scope.specs.Faults.{fault_at}
 use Rattle.yang_scope.specs.declared.faults.Fault.{Fault}
 use Rattle.yang_model.specs.declared.kinds.Kind.{Kind}
-use Rattle.yang_model.specs.declared.kinds.Kind.TheVariants.{Module, Import}
-use Rattle.yang_model.specs.Duplicates.{duplicates_in}
+use Rattle.yang_model.specs.declared.kinds.Kind.TheVariants.{Module, Import, TableList, FixedContainer}
+use Rattle.yang_model.specs.Duplicates.{duplicates_in, prefixes_twice}
+use Rattle.yang_model.specs.Fields.{key_names, field_faults}
+use Rattle.yang_model.specs.Keys.{keys_faults}
 use Rattle.yang_model.specs.Sentences.{bad_argument, repeated_in, missing_in}
 
 -- where one of the two is missing, that is a fault of its own
@@ -31,10 +33,20 @@ unknown_import knows file d (Some name) =
     if knows name then []
     else fault_at file UnknownName d ∷ []
 
+-- a module's containers have its name, and it gives each prefix once
+abbrev pub module_faults : ℕ → Option (List ℕ) → List Declaration → List Fault
+module_faults file name ds = flat_map (misnamed file name) ds ++ prefixes_twice file ds
+
+-- a list's keys, and its leaves that are no key leaves
+abbrev pub list_faults : ℕ → List Declaration → List Fault
+list_faults file ds = keys_faults file ds ++ flat_map (field_faults file (key_names ds)) ds
+
 -- the sentences of a kind alone; knows says which modules there are
 abbrev pub own_faults : (List ℕ → Bool) → ℕ → Kind → Declaration → List Fault
-own_faults knows file Module d = flat_map (misnamed file (argument d)) (block d)
+own_faults knows file Module d = module_faults file (argument d) (block d)
 own_faults knows file Import d = unknown_import knows file d (argument d)
+own_faults knows file TableList d = list_faults file (block d)
+own_faults knows file FixedContainer d = flat_map (field_faults file []) (block d)
 own_faults knows file _ d = []
 
 -- all sentences on a statement of a kind

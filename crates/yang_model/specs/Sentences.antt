@@ -11,6 +11,10 @@ use Rattle.yang_model.specs.declared.kinds.Kind.{Kind}
 use Rattle.yang_model.specs.Forms.{is_form}
 use Rattle.yang_model.specs.Rows.{row, needs}
 
+-- a fault on a line of a file
+abbrev pub fault_on : ℕ → ℕ → ModelWhy → Fault
+fault_on file line why = record { file = file; line = line; why = why }
+
 -- the statements of a keyword
 abbrev pub children : List ℕ → List Declaration → List Declaration
 children name ds = filter (λ d. bytes_eq (keyword d) name) ds

@@ -1,41 +1,39 @@
 //! Names that are given twice.
-ghost use Rattle.std.specs.Prelude.{◌≡◌, ◌∷◌, List, ℕ, map, IfOk, OnOk, if◌then◌else◌};
-ghost use Rattle.std.specs.List.{list_any};
-ghost use Rattle.std.specs.Str.{bytes_eq};
+ghost use Rattle.std.specs.Prelude.{◌≡◌, ◌∷◌, [], map, IfOk, OnOk};
+ghost use Rattle.std.specs.List.{flat_map};
 ghost use Rattle.yang_text.specs.Statements.{declaration};
-ghost use Rattle.yang_text.specs.declared.errors.ModelWhy.TheVariants.{Duplicate};
-ghost use Rattle.yang_model.specs.Duplicates.{given_by, given_twice, earlier_from, duplicates, duplicates_in};
+ghost use Rattle.yang_model.specs.Duplicates.{given_by, duplicates, duplicates_in, prefixes_given, prefixes_twice};
 ghost use Rattle.yang_model.specs.Entries.{needed};
-ghost use Rattle.yang_scope.specs.Faults.{lesser, least_of};
-ghost use Rattle.yang_model.specs.NameSets.{IsSetOf};
+ghost use Rattle.yang_scope.specs.Faults.{least_of};
+ghost use Rattle.yang_model.specs.NameSets.{NotesGiven};
 
-use yang_scope::{Fault, note};
 use crate::kinds::Kind;
 use crate::name_sets::NameSet;
 use crate::rows::{Need, givers};
 use crate::sentences::meets;
 use host_core::Memory;
 use std::alloc::Global;
+use yang_scope::{Fault, note};
 use yang_text::{ModelWhy, Statement};
 
+static PREFIX: Need = Need {
+    keyword: "prefix",
+    other: None,
+};
+
 /// A name, and the fault that it is where it was given already.
-fn note_name(
+pub(crate) fn note_name(
     alloc: Global,
     least: &mut Option<Fault>,
     set: &mut NameSet,
-    file: u32,
-    line: u32,
+    fault: Fault,
     name: &str,
 ) -> Result<(), Memory>
-    ensures least { IfOk result (λ _. (earlier : List (List ℕ)) → IsSetOf set.old.names earlier
-        → least.new ≡ (if list_any (bytes_eq name.now) earlier
-        then lesser least.old (record { file = file; line = line; why = Duplicate })
-        else least.old)) }
-    ensures set { IfOk result (λ _. (earlier : List (List ℕ)) → IsSetOf set.old.names earlier
-        → IsSetOf set.new.names (name.now ∷ earlier)) }
+    ensures { IfOk result (λ _.
+        NotesGiven least.old least.new set.old set.new ((name.now, fault) ∷ [])) }
 {
     if !set.add(alloc, name)? {
-        note(least, file, line, ModelWhy::Duplicate);
+        note(least, fault.file, fault.line, fault.why);
     }
     Ok(())
 }
@@ -49,20 +47,41 @@ fn note_given(
     need: &Need,
     statement: &Statement,
 ) -> Result<(), Memory>
-    ensures least { IfOk result (λ _. (earlier : List (List ℕ)) → IsSetOf set.old.names earlier
-        → least.new ≡ least_of least.old
-        (given_twice earlier (given_by file (needed need.now) (declaration statement.now)))) }
-    ensures set { IfOk result (λ _. (earlier : List (List ℕ)) → IsSetOf set.old.names earlier
-        → IsSetOf set.new.names
-        (earlier_from earlier (given_by file (needed need.now) (declaration statement.now)))) }
+    ensures { IfOk result (λ _. NotesGiven least.old least.new set.old set.new
+        (given_by file (needed need.now) (declaration statement.now))) }
 {
     if !meets(need, statement.keyword.as_str()) {
         return Ok(());
     }
     match &statement.argument {
-        Some(name) => note_name(alloc, least, set, file, statement.line, name.as_str()),
+        Some(name) => {
+            let fault = Fault {
+                file,
+                line: statement.line,
+                why: ModelWhy::Duplicate,
+            };
+            note_name(alloc, least, set, fault, name.as_str())
+        }
         None => Ok(()),
     }
+}
+
+/// The names that statements of some keywords give.
+pub(crate) fn note_all_given(
+    alloc: Global,
+    least: &mut Option<Fault>,
+    set: &mut NameSet,
+    file: u32,
+    need: &Need,
+    statements: &[Statement],
+) -> Result<(), Memory>
+    ensures { IfOk result (λ _. NotesGiven least.old least.new set.old set.new
+        (flat_map (given_by file (needed need.now)) (map declaration statements.now))) }
+{
+    for statement in statements {
+        note_given(alloc, least, set, file, need, statement)?;
+    }
+    Ok(())
 }
 
 /// The names that statements of some keywords give, each once.
@@ -77,9 +96,7 @@ fn note_duplicates(
         (duplicates file (map declaration statements.now) (needed need.now))) }
 {
     let mut set = NameSet::new(alloc);
-    for statement in statements {
-        note_given(alloc, least, &mut set, file, need, statement)?;
-    }
+    note_all_given(alloc, least, &mut set, file, need, statements)?;
     Ok(())
 }
 
@@ -96,6 +113,42 @@ pub(crate) fn note_duplicates_in(
 {
     for need in givers(kind) {
         note_duplicates(alloc, least, file, need, statements)?;
+    }
+    Ok(())
+}
+
+/// The prefixes that a statement of a module gives.
+fn note_prefixes_of(
+    alloc: Global,
+    least: &mut Option<Fault>,
+    set: &mut NameSet,
+    file: u32,
+    statement: &Statement,
+) -> Result<(), Memory>
+    ensures { IfOk result (λ _. NotesGiven least.old least.new set.old set.new
+        (prefixes_given file (declaration statement.now))) }
+{
+    if statement.keyword.as_str() != "import" {
+        return note_given(alloc, least, set, file, &PREFIX, statement);
+    }
+    let block = statement.block.items();
+    note_all_given(alloc, least, set, file, &PREFIX, block)?;
+    Ok(())
+}
+
+/// The prefixes of a module, its own and those of its imports, each once.
+pub(crate) fn note_prefixes(
+    alloc: Global,
+    least: &mut Option<Fault>,
+    file: u32,
+    statements: &[Statement],
+) -> Result<(), Memory>
+    ensures { OnOk result (least.new ≡ least_of least.old
+        (prefixes_twice file (map declaration statements.now))) }
+{
+    let mut set = NameSet::new(alloc);
+    for statement in statements {
+        note_prefixes_of(alloc, least, &mut set, file, statement)?;
     }
     Ok(())
 }

@@ -4,7 +4,10 @@
 
 mod belonging;
 mod duplicates;
+mod fields;
+mod files;
 mod forms;
+mod keys;
 mod kinds;
 mod laws;
 mod models;

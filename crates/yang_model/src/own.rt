@@ -1,14 +1,18 @@
 //! Sentences on a statement of one kind alone.
-ghost use Rattle.std.specs.Prelude.{◌≡◌, map};
+ghost use Rattle.std.specs.Prelude.{◌≡◌, map, OnOk};
 ghost use Rattle.std.specs.List.{flat_map};
 ghost use Rattle.yang_text.specs.Statements.{declaration};
 ghost use Rattle.yang_scope.specs.Faults.{least_of};
-ghost use Rattle.yang_model.specs.Own.{is_same_name, misnamed, unknown_import, own_faults};
+ghost use Rattle.yang_model.specs.Own.{is_same_name, misnamed, unknown_import, module_faults, list_faults, own_faults};
 
-use yang_scope::{Fault, note};
+use crate::duplicates::note_prefixes;
+use crate::fields::{note_fixed_fields, note_list_fields};
+use crate::keys::note_keys;
 use crate::kinds::Kind;
 use crate::scopes::Scope;
-use host_core::Txt;
+use host_core::{Memory, Txt};
+use std::alloc::Global;
+use yang_scope::{Fault, note};
 use yang_text::{ModelWhy, Statement};
 
 /// Whether two names are the same, where both are there.
@@ -61,22 +65,61 @@ fn note_import<S: Scope>(least: &mut Option<Fault>, scope: &S, file: u32, statem
     }
 }
 
+/// The sentences on a list.
+fn note_list(
+    alloc: Global,
+    least: &mut Option<Fault>,
+    file: u32,
+    statements: &[Statement],
+) -> Result<(), Memory>
+    ensures { OnOk result (least.new ≡ least_of least.old
+        (list_faults file (map declaration statements.now))) }
+{
+    note_keys(alloc, least, file, statements)?;
+    note_list_fields(alloc, least, file, statements)?;
+    Ok(())
+}
+
+/// The sentences on a module.
+fn note_module(
+    alloc: Global,
+    least: &mut Option<Fault>,
+    file: u32,
+    name: &Option<Txt>,
+    statements: &[Statement],
+) -> Result<(), Memory>
+    ensures { OnOk result (least.new ≡ least_of least.old
+        (module_faults file name.now (map declaration statements.now))) }
+{
+    note_all_misnamed(least, file, name, statements);
+    note_prefixes(alloc, least, file, statements)?;
+    Ok(())
+}
+
 /// The sentences on a statement of its kind alone.
 pub(crate) fn note_own<S: Scope>(
+    alloc: Global,
     least: &mut Option<Fault>,
     scope: &S,
     file: u32,
     kind: Kind,
     statement: &Statement,
-)
-    ensures { least.new ≡ least_of least.old
-        (own_faults (S.knows scope.now) file kind (declaration statement.now)) }
+) -> Result<(), Memory>
+    ensures { OnOk result (least.new ≡ least_of least.old
+        (own_faults (S.knows scope.now) file kind (declaration statement.now))) }
 {
+    let block = statement.block.items();
     match kind {
-        Kind::Module => {
-            note_all_misnamed(least, file, &statement.argument, statement.block.items());
+        Kind::Module => note_module(alloc, least, file, &statement.argument, block),
+        Kind::Import => {
+            note_import(least, scope, file, statement);
+            Ok(())
         }
-        Kind::Import => note_import(least, scope, file, statement),
+        Kind::TableList => note_list(alloc, least, file, block),
+        Kind::FixedContainer => {
+            note_fixed_fields(alloc, least, file, block);
+            Ok(())
+        }
         Kind::File
         | Kind::YangVersion
         | Kind::Word
@@ -85,8 +128,6 @@ pub(crate) fn note_own<S: Scope>(
         | Kind::Typedef
         | Kind::ModuleContainer
         | Kind::TableContainer
-        | Kind::TableList
-        | Kind::FixedContainer
         | Kind::Key
         | Kind::Leaf
         | Kind::LeafList
@@ -103,6 +144,6 @@ pub(crate) fn note_own<S: Scope>(
         | Kind::LeafrefType
         | Kind::UnionType
         | Kind::PlainType
-        | Kind::UnknownType => {}
+        | Kind::UnknownType => Ok(()),
     }
 }

@@ -343,28 +343,61 @@ static REMARKS: [&str; 9] = [
     "error-app-tag",
 ];
 
-/// The statements that a kind may hold, remarks apart.
-pub(crate) fn row(kind: Kind) -> &'static [Entry]
-    ensures { map allowed result.now ≡ row kind }
+/// What a kind may hold, remarks apart, what it has to hold, and which of these give names of which none
+/// may be given twice.
+#[derive(Clone, Copy, Drop)]
+struct KindRules {
+    row: &'static [Entry],
+    needs: &'static [Need],
+    givers: &'static [Need],
+}
+
+impl KindRules {
+    fn new(row: &'static [Entry], needs: &'static [Need], givers: &'static [Need]) -> KindRules
+        ensures row { result.row.now ≡ row.now }
+        ensures needs { result.needs.now ≡ needs.now }
+        ensures givers { result.givers.now ≡ givers.now }
+    {
+        KindRules { row, needs, givers }
+    }
+}
+
+/// The table of statements, a kind a line.
+fn rules(kind: Kind) -> KindRules
+    ensures row { map allowed result.row.now ≡ row kind }
+    ensures needs { map needed result.needs.now ≡ needs kind }
+    ensures givers { map needed result.givers.now ≡ givers kind }
 {
     match kind {
-        Kind::File => &FILE,
-        Kind::Module => &MODULE,
-        Kind::Import => &IMPORT,
-        Kind::Typedef => &TYPEDEF,
-        Kind::ModuleContainer => &MODULE_CONTAINER,
-        Kind::TableContainer => &TABLE_CONTAINER,
-        Kind::TableList => &TABLE_LIST,
-        Kind::FixedContainer => &FIXED_CONTAINER,
-        Kind::Leaf => &LEAF,
-        Kind::LeafList => &LEAF_LIST,
-        Kind::Enum => &ENUM,
-        Kind::TextType => &TEXT_TYPE,
-        Kind::NumberType => &NUMBER_TYPE,
-        Kind::EnumerationType => &ENUMERATION_TYPE,
-        Kind::LeafrefType => &LEAFREF_TYPE,
-        Kind::UnionType => &UNION_TYPE,
-        Kind::UnknownType => &UNKNOWN_TYPE,
+        Kind::File => KindRules::new(&FILE, &[], &[]),
+        Kind::Module => KindRules::new(&MODULE, &MODULE_NEEDS, &MODULE_GIVERS),
+        Kind::Import => KindRules::new(&IMPORT, &IMPORT_NEEDS, &[]),
+        Kind::Typedef => KindRules::new(&TYPEDEF, &TYPEDEF_NEEDS, &[]),
+        Kind::ModuleContainer => KindRules::new(
+            &MODULE_CONTAINER,
+            &MODULE_CONTAINER_NEEDS,
+            &MODULE_CONTAINER_GIVERS,
+        ),
+        Kind::TableContainer => KindRules::new(
+            &TABLE_CONTAINER,
+            &TABLE_CONTAINER_NEEDS,
+            &TABLE_CONTAINER_GIVERS,
+        ),
+        Kind::TableList => KindRules::new(&TABLE_LIST, &TABLE_LIST_NEEDS, &TABLE_LIST_GIVERS),
+        Kind::FixedContainer => KindRules::new(&FIXED_CONTAINER, &[], &FIXED_CONTAINER_GIVERS),
+        Kind::Leaf => KindRules::new(&LEAF, &LEAF_NEEDS, &[]),
+        Kind::LeafList => KindRules::new(&LEAF_LIST, &LEAF_LIST_NEEDS, &[]),
+        Kind::Enum => KindRules::new(&ENUM, &[], &[]),
+        Kind::TextType => KindRules::new(&TEXT_TYPE, &[], &[]),
+        Kind::NumberType => KindRules::new(&NUMBER_TYPE, &[], &[]),
+        Kind::EnumerationType => KindRules::new(
+            &ENUMERATION_TYPE,
+            &ENUMERATION_TYPE_NEEDS,
+            &ENUMERATION_TYPE_GIVERS,
+        ),
+        Kind::LeafrefType => KindRules::new(&LEAFREF_TYPE, &LEAFREF_TYPE_NEEDS, &[]),
+        Kind::UnionType => KindRules::new(&UNION_TYPE, &UNION_TYPE_NEEDS, &[]),
+        Kind::UnknownType => KindRules::new(&UNKNOWN_TYPE, &[], &[]),
         Kind::YangVersion
         | Kind::Word
         | Kind::Prefix
@@ -376,82 +409,29 @@ pub(crate) fn row(kind: Kind) -> &'static [Entry]
         | Kind::Bounds
         | Kind::Pattern
         | Kind::NamedType
-        | Kind::PlainType => &[],
+        | Kind::PlainType => KindRules::new(&[], &[], &[]),
     }
+}
+
+/// The statements that a kind may hold, remarks apart.
+pub(crate) fn row(kind: Kind) -> &'static [Entry]
+    ensures { map allowed result.now ≡ row kind }
+{
+    rules(kind).row
 }
 
 /// The statements that a kind has to hold.
 pub(crate) fn needs(kind: Kind) -> &'static [Need]
     ensures { map needed result.now ≡ needs kind }
 {
-    match kind {
-        Kind::Module => &MODULE_NEEDS,
-        Kind::Import => &IMPORT_NEEDS,
-        Kind::Typedef => &TYPEDEF_NEEDS,
-        Kind::ModuleContainer => &MODULE_CONTAINER_NEEDS,
-        Kind::TableContainer => &TABLE_CONTAINER_NEEDS,
-        Kind::TableList => &TABLE_LIST_NEEDS,
-        Kind::Leaf => &LEAF_NEEDS,
-        Kind::LeafList => &LEAF_LIST_NEEDS,
-        Kind::EnumerationType => &ENUMERATION_TYPE_NEEDS,
-        Kind::LeafrefType => &LEAFREF_TYPE_NEEDS,
-        Kind::UnionType => &UNION_TYPE_NEEDS,
-        Kind::File
-        | Kind::YangVersion
-        | Kind::Word
-        | Kind::Prefix
-        | Kind::Revision
-        | Kind::FixedContainer
-        | Kind::Key
-        | Kind::Mandatory
-        | Kind::Must
-        | Kind::Enum
-        | Kind::Path
-        | Kind::Bounds
-        | Kind::Pattern
-        | Kind::NamedType
-        | Kind::TextType
-        | Kind::NumberType
-        | Kind::PlainType
-        | Kind::UnknownType => &[],
-    }
+    rules(kind).needs
 }
 
 /// The statements in a kind that give names, of which none may be given twice.
 pub(crate) fn givers(kind: Kind) -> &'static [Need]
     ensures { map needed result.now ≡ givers kind }
 {
-    match kind {
-        Kind::Module => &MODULE_GIVERS,
-        Kind::ModuleContainer => &MODULE_CONTAINER_GIVERS,
-        Kind::TableContainer => &TABLE_CONTAINER_GIVERS,
-        Kind::TableList => &TABLE_LIST_GIVERS,
-        Kind::FixedContainer => &FIXED_CONTAINER_GIVERS,
-        Kind::EnumerationType => &ENUMERATION_TYPE_GIVERS,
-        Kind::File
-        | Kind::YangVersion
-        | Kind::Word
-        | Kind::Prefix
-        | Kind::Import
-        | Kind::Revision
-        | Kind::Typedef
-        | Kind::Key
-        | Kind::Leaf
-        | Kind::LeafList
-        | Kind::Mandatory
-        | Kind::Must
-        | Kind::Enum
-        | Kind::Path
-        | Kind::Bounds
-        | Kind::Pattern
-        | Kind::NamedType
-        | Kind::TextType
-        | Kind::NumberType
-        | Kind::LeafrefType
-        | Kind::UnionType
-        | Kind::PlainType
-        | Kind::UnknownType => &[],
-    }
+    rules(kind).givers
 }
 
 /// Whether a kind may hold remarks.

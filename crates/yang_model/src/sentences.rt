@@ -7,9 +7,9 @@ ghost use Rattle.yang_model.specs.Entries.{needed};
 ghost use Rattle.yang_scope.specs.Faults.{least_of};
 ghost use Rattle.yang_model.specs.Sentences.{repeated, repeated_in, missing_one, missing_in};
 
-use yang_scope::{Fault, note};
 use crate::kinds::Kind;
 use crate::rows::{Need, needs, row};
+use yang_scope::{Fault, note};
 use yang_text::{ModelWhy, Statement};
 
 /// The later statements of a keyword.

@@ -8,7 +8,6 @@ ghost use Rattle.yang_model.specs.Own.{sentence_faults};
 ghost use Rattle.yang_model.specs.Walks.{statement_faults, block_faults, below_faults};
 
 use crate::duplicates::note_duplicates_in;
-use yang_scope::{Fault, note};
 use crate::forms::is_form;
 use crate::kinds::Kind;
 use crate::own::note_own;
@@ -17,6 +16,7 @@ use crate::scopes::Scope;
 use crate::sentences::{note_missing, note_repeated_in};
 use host_core::Memory;
 use std::alloc::Global;
+use yang_scope::{Fault, note};
 use yang_text::{ModelWhy, Statement, Statements};
 
 /// An argument that is missing or not of its form.
@@ -47,7 +47,7 @@ fn note_sentences<S: Scope>(
     note_repeated_in(least, file, kind, block);
     note_missing(least, file, kind, statement.line, block);
     note_duplicates_in(alloc, least, file, kind, block)?;
-    note_own(least, scope, file, kind, statement);
+    note_own(alloc, least, scope, file, kind, statement)?;
     Ok(())
 }
 

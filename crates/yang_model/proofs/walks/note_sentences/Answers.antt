@@ -23,4 +23,4 @@ returns g c =
     (c.note_repeated_in.ensures ∙ ap (λ (es : List Declaration). least_of c.note_argument.new.least (repeated_in c.args.file c.args.kind es)) whole)
     (c.note_missing.ensures ∙ ap (λ (es : List Declaration). least_of c.note_repeated_in.new.least (missing_in c.args.file c.args.kind s.line es)) whole)
     (c.in_ok-note_duplicates_in.ensures ∙ ap (λ (es : List Declaration). least_of c.note_missing.new.least (duplicates_in c.args.file c.args.kind es)) whole)
-    c.note_own.ensures
+    c.in_ok-note_own.ensures
