@@ -1,6 +1,6 @@
 -- The names of step files: how long they are, and that two numbers have two names.
 use Rattle.std.proofs.Common.{◌≡◌, ◌<◌, ◌≤◌, ℕ, zero, suc, ◌+◌, ◌*◌, ◌/◌, ◌%◌, List, [], ◌∷◌, ◌++◌, length, drop, length-append, refl, ap, arith}
-use Rattle.conf_store.specs.Files.{last_digits, last_step, step_digits, step_name, ten}
+use Rattle.conf_store.specs.Files.{last_digits, last_step, step_name, ten}
 
 pub length-digits : (k n : ℕ) → length (last_digits k n) ≡ k
 length-digits zero n = refl

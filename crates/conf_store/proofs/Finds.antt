@@ -1,5 +1,5 @@
 -- What the parts of a load find, of a host that may not tell its state.
-use Rattle.std.proofs.Common.{◌≡◌, ℕ, suc, ◌+◌, true, false, Bool, Global, List, Option, Some, None, Result, Ok, Err, IfSome, Vec, option_map, is_ok, is_some, refl, sym, ap, ◌∙◌, subst}
+use Rattle.std.proofs.Common.{◌≡◌, ℕ, true, false, Bool, Global, List, Option, Some, None, Result, Ok, Err, IfSome, Vec, option_map, is_ok, is_some, refl, sym, ap, ◌∙◌, subst}
 use Rattle.std.specs.FinMap.{get}
 use Rattle.host_core.specs.Answers.{◌>>=◌, FailsAs, Gives}
 use Rattle.host_core.specs.State.{Files, State}
@@ -7,19 +7,16 @@ use Rattle.conf_doc.specs.Document.{Document}
 use Rattle.conf_doc.specs.Reading.{Way, document_of, json}
 use Rattle.conf_doc.specs.Shaping.{configuration}
 use Rattle.conf_doc.specs.declared.configuration.Config.{Config}
-use Rattle.patch_core.specs.Apply.{apply_plain}
-use Rattle.patch_core.specs.Operation.{Operation}
-use Rattle.patch_core.specs.Reading.{patch}
 use Rattle.conf_store.specs.Files.{config_file, folded_file, last_step, step_names}
 use Rattle.conf_store.specs.Loads.{Loads}
 use Rattle.conf_store.specs.Reads.{FoundIn, load_fault}
 use Rattle.conf_store.specs.Shapes.{is_config}
 use Rattle.conf_store.specs.Stored.{after_all_steps, after_steps, config_in, or_none, or_unfolded, or_why, stored}
-use Rattle.conf_store.specs.Walk.{config_found, document_after, document_after_all, document_after_file, documents_after, shaped, shaped_in}
+use Rattle.conf_store.specs.Walk.{config_found, document_after_all, shaped, shaped_in}
 use Rattle.conf_store.specs.declared.errors.LoadError.{LoadError}
 use Rattle.conf_store.specs.declared.errors.LoadError.TheVariants.{Bad, Disk, Memory}
 use Rattle.conf_store.specs.declared.errors.StoredWhy.{StoredWhy}
-use Rattle.conf_store.specs.declared.errors.StoredWhy.TheVariants.{BadJson, BadKind, BadShape, BadStep, NoFile}
+use Rattle.conf_store.specs.declared.errors.StoredWhy.TheVariants.{BadJson, BadKind, BadShape, NoFile}
 use Rattle.conf_store.specs.declared.loaded.Stored.{Stored}
 use Rattle.conf_store.proofs.Shaping.{ok_config}
 use Rattle.conf_store.proofs.Walking.{alike, config_of}

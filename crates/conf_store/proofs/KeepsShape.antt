@@ -4,7 +4,7 @@ use Rattle.std.proofs.lemmas.Bool.{and_parts}
 use Rattle.std.specs.List.{list_all}
 use Rattle.host_core.specs.Answers.{◌>>=◌}
 use Rattle.conf_doc.specs.Document.{Document}
-use Rattle.patch_core.specs.Apply.{NodeEdit, after_add, after_remove, after_replace, apply_plain, below, edit_parent, edit_there, in_order, result_of, target, with_below, with_new, without_below}
+use Rattle.patch_core.specs.Apply.{NodeEdit, apply_plain, below, edit_parent, edit_there, in_order, result_of, target, with_below, with_new, without_below}
 use Rattle.patch_core.specs.Operation.{Operation, Tokens, add, remove, replace, move_to, copy_to, test}
 use Rattle.patch_core.specs.Same.{same}
 use Rattle.patch_core.specs.declared.errors.ApplyError.{ApplyError}

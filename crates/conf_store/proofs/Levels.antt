@@ -1,5 +1,5 @@
 -- What stands how far below a configuration's document, and what edits of a node leave.
-use Rattle.std.proofs.Common.{◌≡◌, ℕ, zero, suc, true, false, Bool, not, cond, ◌&&◌, ◌==◌, List, [], ◌∷◌, ◌++◌, take, drop, length, set, Option, Some, None, Result, Ok, Err, Ordering, Less, Equal, Greater, refl, sym, ap, ◌∙◌, subst}
+use Rattle.std.proofs.Common.{◌≡◌, ℕ, zero, suc, true, false, Bool, not, cond, ◌==◌, List, [], ◌∷◌, ◌++◌, take, drop, length, Option, Some, None, Result, Ok, Err, Ordering, Less, Equal, Greater, refl, sym, ap, ◌∙◌}
 use Rattle.std.proofs.lemmas.Bool.{and_parts, and_from}
 use Rattle.std.specs.List.{list_all, slice_get, insert, remove as removed_at}
 use Rattle.std.specs.Prelude.{slice_set, nat_le, if◌then◌else◌}
@@ -8,7 +8,7 @@ use Rattle.std.specs.FinMap as finmap
 use Rattle.std.specs.FinMap.Entries.{by_order}
 use Rattle.host_core.specs.Answers.{map_ok}
 use Rattle.host_core.specs.Names.{name_cmp}
-use Rattle.conf_doc.specs.Document.{Document, text, list, object, documents, pairs, items_of, members_of, Items, Members}
+use Rattle.conf_doc.specs.Document.{Document, text, list, object, documents, pairs, items_of, members_of}
 use Rattle.conf_doc.specs.Pairs.{find, put, without}
 use Rattle.conf_doc.proofs.Equal.{documents-items_of, pairs-members_of}
 use Rattle.patch_core.specs.Apply.{below, with_below, without_below, with_new}

@@ -1,5 +1,5 @@
 -- The walk over a document tells what its shaping tells; and the document of a configuration is the one shaped.
-use Rattle.std.proofs.Common.{◌≡◌, ℕ, suc, ◌+◌, true, false, Bool, not, ◌&&◌, ◌==◌, List, [], ◌∷◌, map, length, Result, Ok, Err, decimal, ne_eqb, suc-ne-zero, is_ok, refl, sym, ap, ◌∙◌}
+use Rattle.std.proofs.Common.{◌≡◌, ℕ, suc, ◌+◌, Bool, not, ◌&&◌, ◌==◌, List, [], ◌∷◌, map, length, Result, Ok, Err, decimal, ne_eqb, suc-ne-zero, is_ok, refl, sym, ap, ◌∙◌}
 use Rattle.std.specs.List.{list_all}
 use Rattle.host_core.specs.Answers.{both, map_ok}
 use Rattle.conf_doc.specs.Document.{Document, text, list, object, documents, pairs, items_of, members_of, Items, no_items, item, Members, no_members, member}

@@ -1,5 +1,5 @@
 -- The walk from one step file to the next, of a host that may not tell its state.
-use Rattle.std.proofs.Common.{◌≡◌, ◌<◌, ◌≤◌, ℕ, zero, suc, ◌+◌, ◌-◌, List, Option, Some, None, Result, Ok, Err, IfSome, refl, sym, ap, ◌∙◌, subst, arith}
+use Rattle.std.proofs.Common.{◌≡◌, ◌<◌, ◌≤◌, ℕ, suc, ◌+◌, ◌-◌, List, Option, Some, None, Ok, IfSome, sym, ap, ◌∙◌, subst, arith}
 use Rattle.std.specs.FinMap.{get}
 use Rattle.host_core.specs.Answers.{◌>>=◌, FailsAs}
 use Rattle.host_core.specs.State.{Files, State}
@@ -8,7 +8,6 @@ use Rattle.conf_store.specs.Files.{last_step, step_name}
 use Rattle.conf_store.specs.Reads.{load_fault}
 use Rattle.conf_store.specs.Walk.{document_after_all, document_after_file, documents_after, unless_missing}
 use Rattle.conf_store.specs.declared.errors.LoadError.{LoadError}
-use Rattle.conf_store.specs.declared.errors.StoredWhy.{StoredWhy}
 use Rattle.conf_store.proofs.Finds.{HasFile, fails_on, ok_same}
 
 pub within_steps : (n : ℕ) → n < 1000000 → n ≤ last_step

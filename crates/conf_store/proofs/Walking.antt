@@ -1,5 +1,5 @@
 -- The documents after the steps are those of the configurations after them.
-use Rattle.std.proofs.Common.{◌≡◌, ◌<◌, ◌-◌, ℕ, zero, suc, ◌+◌, true, List, Option, Some, None, Result, Ok, Err, is_ok, refl, sym, ap, ◌∙◌, subst, arith}
+use Rattle.std.proofs.Common.{◌≡◌, ℕ, zero, suc, ◌+◌, List, Option, Some, None, Result, Ok, Err, refl, sym, ap, ◌∙◌}
 use Rattle.std.specs.FinMap.{get}
 use Rattle.host_core.specs.Answers.{◌>>=◌}
 use Rattle.host_core.specs.State.{Files}
@@ -14,8 +14,8 @@ use Rattle.patch_core.specs.Reading.{patch}
 use Rattle.patch_core.specs.declared.errors.ApplyError.{ApplyError}
 use Rattle.patch_core.specs.declared.errors.PatchError.{PatchError}
 use Rattle.conf_store.specs.Files.{step_name}
-use Rattle.conf_store.specs.Stored.{after_step, after_steps, or_why, unless_missing as config_unless_missing}
-use Rattle.conf_store.specs.Walk.{document_after, document_after_file, documents_after, shaped, unless_missing}
+use Rattle.conf_store.specs.Stored.{after_steps, or_why, unless_missing as config_unless_missing}
+use Rattle.conf_store.specs.Walk.{document_after, documents_after, shaped, unless_missing}
 use Rattle.conf_store.specs.declared.errors.StoredWhy.{StoredWhy}
 use Rattle.conf_store.specs.declared.errors.StoredWhy.TheVariants.{BadShape, BadStep}
 use Rattle.conf_store.proofs.Shaping.{config_back}

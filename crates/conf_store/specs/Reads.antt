@@ -1,6 +1,5 @@
 -- Calls that only read, and what they find in the folder.
-use Rattle.std.specs.Prelude.{◌≡◌, ℕ, List, Option, Some, None, Result, IfSome}
-use Rattle.std.specs.FinMap.{get}
+use Rattle.std.specs.Prelude.{◌≡◌, ℕ, Option, Some, None, Result, IfSome}
 use Rattle.host_core.specs.Answers.{Gives}
 use Rattle.host_core.specs.Counts.{Counts, DiskMayRise}
 use Rattle.host_core.specs.Crashes.{Elapses, Left, MayLeaveNow}

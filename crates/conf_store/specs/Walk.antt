@@ -1,5 +1,5 @@
 -- The stored configuration as documents, one after each step.
-use Rattle.std.specs.Prelude.{ℕ, zero, suc, ◌+◌, List, Bool, Option, Some, None, is_some, Result, Ok, Err}
+use Rattle.std.specs.Prelude.{ℕ, zero, suc, ◌+◌, List, Bool, Option, Some, None, is_some, Result, Ok}
 use Rattle.std.specs.FinMap.{get}
 use Rattle.host_core.specs.Answers.{◌>>=◌}
 use Rattle.host_core.specs.State.{Files}
@@ -10,10 +10,10 @@ use Rattle.conf_doc.specs.declared.configuration.Config.{Config}
 use Rattle.patch_core.specs.Apply.{apply_plain}
 use Rattle.patch_core.specs.Operation.{Operation}
 use Rattle.patch_core.specs.Reading.{patch}
-use Rattle.conf_store.specs.Files.{config_file, folded_file, last_step, step_name}
+use Rattle.conf_store.specs.Files.{folded_file, last_step, step_name}
 use Rattle.conf_store.specs.Stored.{or_none, or_why, stored}
 use Rattle.conf_store.specs.declared.errors.StoredWhy.{StoredWhy}
-use Rattle.conf_store.specs.declared.errors.StoredWhy.TheVariants.{NoFile, BadJson, BadKind, BadShape, BadStep}
+use Rattle.conf_store.specs.declared.errors.StoredWhy.TheVariants.{BadJson, BadKind, BadShape, BadStep}
 
 -- the document, where it is a configuration
 abbrev pub shaped : StoredWhy → Document → Result Document StoredWhy
@@ -35,6 +35,7 @@ document_after n ops d = or_why (BadStep n) (apply_plain ops d) >>= shaped (BadS
 abbrev pub document_after_file : ℕ → List ℕ → Document → Result Document StoredWhy
 document_after_file n bytes d = or_why (BadStep n) (patch bytes) >>= λ ops. document_after n ops d
 
+-- the document where the file of that number is missing, or what comes of it and of those behind it
 abbrev pub unless_missing : Option (List ℕ) → ℕ → (Document → Result Document StoredWhy)
     → Document → Result Document StoredWhy
 unless_missing None n behind d = Ok d

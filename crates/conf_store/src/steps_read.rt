@@ -93,7 +93,8 @@ fn perform_step(alloc: Global, n: u32, patch: &Patch, tree: Tree) -> Result<Tree
 /// The tree that a patch left, where it is a configuration's. The whole tree is looked at only where the patch
 /// doesn't tell by itself that it leaves a configuration one.
 fn test_step(n: u32, patch: &Patch, left: Tree) -> Result<Tree, LoadError>
-    requires { list_all keeps_shape (operations patch.now) ≡ true → is_config (document left) ≡ true }
+    requires { list_all keeps_shape (operations patch.now) ≡ true
+        → is_config (document left) ≡ true }
     ensures document { Gives document load_fault result (shaped (bad_step n) (document left)) }
     ensures shaped { IfOk result (λ t. is_config (document t) ≡ true) }
     ensures cause { IsErrOf result disk_failed → ⊥ }

@@ -1,4 +1,4 @@
-use Rattle.std.proofs.Common.{◌≡◌, true, false, sym, ◌∙◌}
+use Rattle.std.proofs.Common.{◌≡◌, true, false}
 use Rattle.conf_doc.specs.Trees.{document}
 use Rattle.conf_store.specs.Shapes.{is_config}
 use Rattle.conf_store.proofs.Finds.{shaped_err, shaped_ok}
