@@ -6,5 +6,5 @@ mod rows;
 mod tables;
 
 pub use errors::Fail;
-pub use rows::{bytes_at, items_at, number_at, text_at, text_bytes};
-pub use tables::{Table, tell};
+pub use rows::{bytes_at, items_at, number_at, text_at, text_bytes, written_at};
+pub use tables::{Table, read_rows, tell};

@@ -48,3 +48,21 @@ fn bytes_of(alloc: Global, numbers: &[Value]) -> Result<Vec<u8>, Fail> {
     }
     Ok(bytes)
 }
+
+/// What is written under a name: a text, or a list of lines, each ended by a line feed.
+pub fn written_at(alloc: Global, row: &Value, name: &str) -> Result<Vec<u8>, Fail> {
+    match row.get(name) {
+        Some(Value::String(text)) => Ok(text.as_bytes().to_vec(alloc)?),
+        Some(Value::Array(lines)) => lines_of(alloc, lines.as_slice()),
+        _ => Err(Fail::Row),
+    }
+}
+
+fn lines_of(alloc: Global, lines: &[Value]) -> Result<Vec<u8>, Fail> {
+    let mut text = Vec::new(alloc);
+    for line in lines {
+        text.extend_from_slice(line.as_str().ok_or(Fail::Row)?.as_bytes())?;
+        text.push(b'\n')?;
+    }
+    Ok(text)
+}

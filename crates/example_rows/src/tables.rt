@@ -19,7 +19,7 @@ pub fn tell<R: Files + Print + AllocGlobal, T: Table>(
     table: &T,
 ) -> Result<(), Fail> {
     let alloc = rt.alloc();
-    let rows = read_rows(rt, alloc, file)?;
+    let rows = read_rows(rt, file)?;
     let mut wrong = 0u64;
     for row in &rows {
         if !is_good(alloc, table, row)? {
@@ -42,9 +42,9 @@ fn is_good<T: Table>(alloc: Global, table: &T, row: &Value) -> Result<bool, Fail
 }
 
 /// The rows of a file.
-fn read_rows<R: Files + AllocGlobal>(rt: &R, alloc: Global, file: &str) -> Result<Vec<Value>, Fail> {
+pub fn read_rows<R: Files + AllocGlobal>(rt: &R, file: &str) -> Result<Vec<Value>, Fail> {
     let bytes = fs::read(rt, file)?;
-    let value = match Value::from_slice(alloc, &bytes) {
+    let value = match Value::from_slice(rt.alloc(), &bytes) {
         Ok(value) => value,
         Err(error) => return Err(why_unread(&error)),
     };
