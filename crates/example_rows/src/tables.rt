@@ -1,0 +1,63 @@
+//! Going through a table.
+use crate::{Fail, text_at};
+use serde_json::Value;
+use std::alloc::Global;
+use std::fs;
+use std::rt::Files;
+
+/// What the rows of a table ask.
+pub trait Table {
+    /// Whether the answer is what the row says.
+    fn is_as_said(&self, alloc: Global, row: &Value) -> Result<bool, Fail>;
+}
+
+/// Asks each row of a file, prints what those show that aren't as said, and then how many rows there are
+/// and how many aren't.
+pub fn tell<R: Files + Print + AllocGlobal, T: Table>(
+    rt: &R,
+    file: &str,
+    table: &T,
+) -> Result<(), Fail> {
+    let alloc = rt.alloc();
+    let rows = read_rows(rt, file)?;
+    let mut wrong = 0u64;
+    for row in &rows {
+        if !is_good(alloc, table, row)? {
+            let what = text_at(row, "what")?;
+            println!(rt; "{file}: not as said: {what}")?;
+            wrong = wrong.saturating_add(1);
+        }
+    }
+    let count = rows.len();
+    println!(rt; "{file}: {count} rows, {wrong} not as said")?;
+    Ok(())
+}
+
+/// Whether a row is as said. A row that lacks something isn't.
+fn is_good<T: Table>(alloc: Global, table: &T, row: &Value) -> Result<bool, Fail> {
+    match table.is_as_said(alloc, row) {
+        Err(Fail::Row) => Ok(false),
+        answer => answer,
+    }
+}
+
+/// The rows of a file.
+pub fn read_rows<R: Files + AllocGlobal>(rt: &R, file: &str) -> Result<Vec<Value>, Fail> {
+    let bytes = fs::read(rt, file)?;
+    let value = match Value::from_slice(rt.alloc(), &bytes) {
+        Ok(value) => value,
+        Err(error) => return Err(why_unread(&error)),
+    };
+    match value {
+        Value::Array(rows) => Ok(rows),
+        _ => Err(Fail::Row),
+    }
+}
+
+fn why_unread(error: &serde_json::Error) -> Fail {
+    if error.is_memory() {
+        Fail::Memory
+    } else {
+        Fail::Row
+    }
+}
