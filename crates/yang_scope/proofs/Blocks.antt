@@ -1,6 +1,8 @@
 -- The statements in the braces of a statement.
-use Rattle.std.proofs.Common.{◌≡◌, ℕ, Bool, true, false, cond, List, [], ◌∷◌, ◌++◌, Option, Some, map, option_map, refl, sym, ap, ◌∙◌}
-use Rattle.std.specs.List.{find, flat_map}
+use Rattle.std.proofs.Common.{◌≡◌, ℕ, Bool, true, false, cond, ◌&&◌, ◌||◌, List, [], ◌∷◌, ◌++◌, Option, Some, None, map, option_map, refl, sym, ap, ◌∙◌}
+use Rattle.std.specs.Option.{option_copied}
+use denote.Ref.{Bor}
+use Rattle.std.specs.List.{find, flat_map, list_any, list_all}
 use Rattle.yang_text.specs.Declarations.{Declaration, block_of, block, declarations}
 use Rattle.yang_text.specs.Statements.{declaration}
 use Rattle.yang_text.specs.declared.statements.Statement.{Statement}
@@ -13,7 +15,7 @@ declarations-block_of (d ∷ ds) = ap (λ es. d ∷ es) (declarations-block_of d
 pub block-is : (s : Statement) → block (declaration s) ≡ s.block
 block-is s = declarations-block_of s.block
 
-find-map : {X Y : Type 0} (g : X → Y) (test : Y → Bool) (xs : List X) → find test (map g xs) ≡ option_map g (find (λ x. test (g x)) xs)
+pub find-map : {X Y : Type 0} (g : X → Y) (test : Y → Bool) (xs : List X) → find test (map g xs) ≡ option_map g (find (λ x. test (g x)) xs)
 find-map {X = X} g test [] = refl
 find-map {X = X} g test (x ∷ xs) = ap (λ o. cond (test (g x)) (Some (g x)) o) (find-map g test xs) ∙ either (test (g x)) (find (λ y. test (g y)) xs)
   where
@@ -32,3 +34,16 @@ flat_map-map f g (w ∷ ws) = ap (λ ys. f (g w) ++ ys) (flat_map-map f g ws)
 pub map-map : {W X Y : Type 0} (f : X → Y) (g : W → X) (ws : List W) → map f (map g ws) ≡ map (λ w. f (g w)) ws
 map-map f g [] = refl
 map-map f g (w ∷ ws) = ap (λ ys. f (g w) ∷ ys) (map-map f g ws)
+
+pub all_mapped : {X Y : Type 0} (p : Y → Bool) (f : X → Y) (xs : List X) → list_all p (map f xs) ≡ list_all (λ x. p (f x)) xs
+all_mapped p f [] = refl
+all_mapped p f (x ∷ xs) = ap (λ b. p (f x) && b) (all_mapped p f xs)
+
+pub any_mapped : {X Y : Type 0} (p : Y → Bool) (f : X → Y) (xs : List X) → list_any p (map f xs) ≡ list_any (λ x. p (f x)) xs
+any_mapped p f [] = refl
+any_mapped p f (x ∷ xs) = ap (λ b. p (f x) || b) (any_mapped p f xs)
+
+-- what a borrow is of
+pub copied-map : {X Y : Type 0} (f : X → Y) (o : Option (Bor X)) → option_map (λ (b : Bor X). f b.now) o ≡ option_map f (option_copied o)
+copied-map f None = refl
+copied-map f (Some x) = refl

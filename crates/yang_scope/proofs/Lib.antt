@@ -1,3 +1,6 @@
 pub mod Tables
 pub mod Behind
 pub mod Blocks
+pub mod Colons
+pub mod FaultLists
+pub mod FirstGiven

@@ -4,7 +4,10 @@ pub mod Faults
 pub mod Identifiers
 pub mod Meanings
 pub mod Modules
+pub mod Paths
+pub mod Pieces
 pub mod Statements
+pub mod TypeFaults
 -- What only private clauses and the models of types cite.
 pub mod Coding
 pub mod Links

@@ -5,15 +5,20 @@
 mod bases;
 mod faults;
 mod identifiers;
+mod key_leaves;
 mod links;
 mod meanings;
 mod module_sets;
 mod modules;
 mod name_tables;
 mod names;
+mod paths;
+mod pieces;
+mod type_faults;
 
 pub use bases::{Base, is_built_in_type};
 pub use faults::{Fault, note};
 pub use identifiers::is_identifier;
 pub use meanings::Meaning;
 pub use names::Names;
+pub use type_faults::{note_bad_patterns, note_unknown_type, note_wrong_paths};

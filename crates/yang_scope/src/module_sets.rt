@@ -6,6 +6,7 @@ ghost use Rattle.yang_scope.specs.Meanings.{built_in_space, space_named, space_g
 ghost use Rattle.yang_scope.specs.declared.bases.Base.TheVariants.{Builtin as BuiltIn};
 ghost use Rattle.yang_scope.specs.Modules.{Module, module_in, modules_in, modules_of, module_entries};
 ghost use Rattle.yang_scope.specs.NameTables.{IsTableOf};
+ghost use Rattle.yang_scope.specs.Paths.{is_prefix};
 ghost use Rattle.yang_scope.specs.Statements.{is_keyword};
 
 use crate::bases::{Base, base_named, inet_named, is_built_in_type, yang_named};
@@ -191,6 +192,16 @@ impl<'a> ModuleSet<'a> {
                 None => Space::Nowhere,
             },
             None => Space::Nowhere,
+        }
+    }
+
+    /// Whether a module gives a prefix.
+    pub(crate) fn is_prefix(&self, number: usize, prefix: &str) -> bool
+        ensures { result ≡ is_prefix self.now number prefix.now }
+    {
+        match self.modules.get(number) {
+            Some(module) => module.prefix_giver(prefix).is_some(),
+            None => false,
         }
     }
 

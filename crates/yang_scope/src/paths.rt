@@ -1,0 +1,127 @@
+//! Paths of leafrefs, and the key leaves that they lead to.
+ghost use Rattle.std.specs.Prelude.{◌≡◌, ◌&&◌, List, ℕ, length, map, option_map, option_copied, find, IfOk};
+ghost use Rattle.std.specs.List.{list_all, list_any};
+ghost use Rattle.std.specs.Str.{bytes_eq};
+ghost use Rattle.yang_text.specs.Declarations.{Declaration};
+ghost use Rattle.yang_text.specs.Statements.{declaration};
+ghost use Rattle.yang_scope.specs.Paths.{is_step, step_name, are_steps, is_path, is_named, child_named, is_key_of, key_leaf_in};
+ghost use Rattle.yang_scope.specs.Pieces.{texts};
+ghost use Rattle.yang_scope.specs.Statements.{is_keyword};
+
+use crate::identifiers::is_identifier;
+use crate::modules::first_of;
+use crate::pieces::pieces;
+use host_core::Memory;
+use std::alloc::Global;
+use yang_text::Statement;
+
+/// Whether a text is a step of a path: an identifier, with or without a prefix.
+fn is_step(text: &str) -> bool
+    ensures { result ≡ is_step text.now }
+{
+    match text.split_once(':') {
+        Some((prefix, name)) => is_identifier(prefix) && is_identifier(name),
+        None => is_identifier(text),
+    }
+}
+
+/// The name in a step.
+pub(crate) fn step_name(text: &str) -> &str
+    ensures { result.now ≡ step_name text.now }
+{
+    match text.split_once(':') {
+        Some((_, name)) => name,
+        None => text,
+    }
+}
+
+/// Whether all texts are steps.
+fn all_steps(steps: &[&str]) -> bool
+    ensures { result ≡ list_all (λ s. is_step s.now) steps.now }
+{
+    steps.iter().all(|step| is_step(step))
+}
+
+/// Whether the pieces of a text between slashes are those of a path of four steps.
+#[tactic(auto, using(crate::proofs::Blocks::all_mapped))]
+pub(crate) fn are_steps(pieces: &[&str]) -> bool
+    ensures { result ≡ are_steps (texts pieces.now) }
+{
+    match pieces {
+        [] => false,
+        [first, steps @ ..] => first.is_empty() && steps.len() == 4 && all_steps(steps),
+    }
+}
+
+/// Whether a statement has a keyword and a name.
+fn is_statement(word: &str, name: &str, statement: &Statement) -> bool
+    ensures { result ≡ (is_keyword word.now (declaration statement.now)
+        && is_named name.now (declaration statement.now)) }
+{
+    if statement.keyword.as_str() != word {
+        return false;
+    }
+    match &statement.argument {
+        Some(argument) => name == argument.as_str(),
+        None => false,
+    }
+}
+
+/// The first statement of a keyword and a name among some.
+fn statement_named<'a>(word: &str, name: &str, statements: &'a [Statement]) -> Option<&'a Statement>
+    ensures { option_copied result
+        ≡ find (λ s. is_keyword word.now (declaration s) && is_named name.now (declaration s))
+        statements.now }
+{
+    statements
+        .iter()
+        .find(|statement| is_statement(word, name, statement))
+}
+
+/// The first statement of a keyword and a name in another one.
+pub(crate) fn child_named<'a>(
+    word: &str,
+    name: &str,
+    statement: &'a Statement,
+) -> Option<&'a Statement>
+    ensures { option_map (λ s. declaration s.now) result
+        ≡ child_named word.now name.now (declaration statement.now) }
+{
+    statement_named(word, name, statement.block.items())
+}
+
+/// Whether a name is among some names.
+fn has_name(names: &[&str], name: &str) -> bool
+    ensures { result ≡ list_any (λ n. bytes_eq name.now n.now) names.now }
+{
+    names.iter().any(|other| name == *other)
+}
+
+/// Whether the key of a list has a name.
+fn is_key_of(alloc: Global, list: &Statement, name: &str) -> Result<bool, Memory>
+    ensures { IfOk result (λ found. found ≡ is_key_of (declaration list.now) name.now) }
+{
+    match first_of("key", list.block.items()) {
+        Some(key) => match &key.argument {
+            Some(names) => Ok(has_name(pieces(alloc, ' ', names.as_str())?.as_slice(), name)),
+            None => Ok(false),
+        },
+        None => Ok(false),
+    }
+}
+
+/// A leaf of a list that is a key leaf.
+pub(crate) fn key_leaf_in<'a>(
+    alloc: Global,
+    name: &str,
+    list: &'a Statement,
+) -> Result<Option<&'a Statement>, Memory>
+    ensures { IfOk result (λ leaf. option_map (λ s. declaration s.now) leaf
+        ≡ key_leaf_in name.now (declaration list.now)) }
+{
+    if is_key_of(alloc, list, name)? {
+        Ok(child_named("leaf", name, list))
+    } else {
+        Ok(None)
+    }
+}
