@@ -32,3 +32,11 @@ IsDefined c (Replace path part) = Fits path part × HasPlace c path
 -- the configuration after a move
 abbrev pub step : Config → Move → Config
 step c m = with_part c (place m) (new_part m)
+
+-- nothing stands there
+abbrev pub Lacks : Config → Place → Type 0
+Lacks c p = part_at c p ≡ None
+
+-- the same stands there in both, or nothing in either
+abbrev pub Agree : Config → Config → Place → Type 0
+Agree a b p = part_at a p ≡ part_at b p

@@ -4,13 +4,22 @@
 mod errors;
 mod items;
 mod json_parts;
+mod laws;
+mod listed_order;
 mod moves;
+mod operations;
+mod plan_texts;
+mod rank_orders;
 mod rules_file;
 mod settings;
 mod steps;
 
 pub use errors::{RulesError, RulesWhy};
+pub use laws::{listed_order_is_total, move_is_its_operation};
+pub use listed_order::cmp_listed;
 pub use moves::{Generated, Move, Moves, Plan, Ranked};
+pub use operations::operation_of;
+pub use plan_texts::plan_text;
 pub use rules_file::read_rules;
 pub use settings::{CreateOnly, Required, Requiring, ServiceTie, Settings};
 pub use steps::step;
