@@ -9,9 +9,11 @@ use Rattle.yang_scope.specs.declared.faults.Fault.{Fault}
 use Rattle.yang_model.specs.Duplicates.{Given, given_twice}
 use Rattle.yang_model.specs.Sentences.{fault_on}
 
+-- what stands between the names of a key
 abbrev pub space : ℕ
 space = 32
 
+-- how many names a key may have
 abbrev pub most_key_leaves : ℕ
 most_key_leaves = 8
 

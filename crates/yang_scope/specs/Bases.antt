@@ -25,18 +25,49 @@ is_built_in_type s = list_any (λ t. bytes_eq t s) built_in_types
 abbrev within : ℤ → ℤ → Option Bounds
 within low high = Some (record { low = low; high = high })
 
+abbrev most_in_int8 : ℕ
+most_in_int8 = 127
+
+abbrev most_in_int16 : ℕ
+most_in_int16 = 32767
+
+abbrev most_in_int32 : ℕ
+most_in_int32 = 2147483647
+
+abbrev most_in_int64 : ℕ
+most_in_int64 = 9223372036854775807
+
+abbrev most_in_uint8 : ℕ
+most_in_uint8 = 255
+
+abbrev most_in_uint16 : ℕ
+most_in_uint16 = 65535
+
+abbrev most_in_uint32 : ℕ
+most_in_uint32 = 4294967295
+
+abbrev most_in_uint64 : ℕ
+most_in_uint64 = 18446744073709551615
+
+-- from the number below the negated greatest one to that
+abbrev signed_up_to : ℕ → Option Bounds
+signed_up_to greatest = within (negsuc greatest) (pos greatest)
+
+-- from zero on
+abbrev up_to : ℕ → Option Bounds
+up_to greatest = within (pos 0) (pos greatest)
+
 -- the integer types (RFC 7950, section 9.2)
 abbrev pub integers_named : List ℕ → Option Bounds
 integers_named s =
-    if bytes_eq s (codes "int8") then within (negsuc 127) (pos 127)
-    else if bytes_eq s (codes "int16") then within (negsuc 32767) (pos 32767)
-    else if bytes_eq s (codes "int32") then within (negsuc 2147483647) (pos 2147483647)
-    else if bytes_eq s (codes "int64")
-    then within (negsuc 9223372036854775807) (pos 9223372036854775807)
-    else if bytes_eq s (codes "uint8") then within (pos 0) (pos 255)
-    else if bytes_eq s (codes "uint16") then within (pos 0) (pos 65535)
-    else if bytes_eq s (codes "uint32") then within (pos 0) (pos 4294967295)
-    else if bytes_eq s (codes "uint64") then within (pos 0) (pos 18446744073709551615)
+    if bytes_eq s (codes "int8") then signed_up_to most_in_int8
+    else if bytes_eq s (codes "int16") then signed_up_to most_in_int16
+    else if bytes_eq s (codes "int32") then signed_up_to most_in_int32
+    else if bytes_eq s (codes "int64") then signed_up_to most_in_int64
+    else if bytes_eq s (codes "uint8") then up_to most_in_uint8
+    else if bytes_eq s (codes "uint16") then up_to most_in_uint16
+    else if bytes_eq s (codes "uint32") then up_to most_in_uint32
+    else if bytes_eq s (codes "uint64") then up_to most_in_uint64
     else None
 
 -- the built-in types of the profile

@@ -50,10 +50,12 @@ space_of modules m prefix =
     option_map_or (space_given modules m)
     (option_and_then (prefix_giver prefix) (slice_get modules m)) Nowhere
 
+-- the typedef at a place of a module, where there is one
 abbrev pub meaning_of_place : ℕ → Option ℕ → Meaning
 meaning_of_place m None = Nothing
 meaning_of_place m (Some place) = Goes m place
 
+-- a built-in type, where there is one
 abbrev pub meaning_of_base : Option Base → Meaning
 meaning_of_base None = Nothing
 meaning_of_base (Some base) = Ends base
@@ -81,7 +83,8 @@ named_here modules m name =
 abbrev pub meaning_of : List Module → ℕ → List ℕ → Meaning
 meaning_of modules m name =
     if list_any is_colon name
-    then named_in modules (space_of modules m (before_first is_colon name)) (after_first is_colon name)
+    then named_in modules (space_of modules m (before_first is_colon name))
+    (after_first is_colon name)
     else named_here modules m name
 
 -- of a type statement with this argument

@@ -33,6 +33,7 @@ bad_pattern is_pattern file d =
     option_map_or (λ s. if is_pattern s then [] else fault_at file BadPattern d ∷ [])
     (argument d) []
 
+-- of a statement, where it is a pattern
 abbrev pub bad_if_pattern : (List ℕ → Bool) → ℕ → Declaration → List Fault
 bad_if_pattern is_pattern file d =
     if is_keyword (codes "pattern") d then bad_pattern is_pattern file d else []
@@ -48,6 +49,7 @@ wrong_path modules file m d s =
     then (if is_some (path_end modules m s) then [] else fault_at file UnknownName d ∷ [])
     else fault_at file BadArgument d ∷ []
 
+-- of a statement, where it is a path
 abbrev pub wrong_if_path : List Module → ℕ → ℕ → Declaration → List Fault
 wrong_if_path modules file m d =
     if is_keyword (codes "path") d
