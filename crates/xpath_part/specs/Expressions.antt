@@ -8,18 +8,22 @@ use Rattle.xpath_part.specs.declared.expressions.Walk.{Walk}
 use Rattle.xpath_part.specs.declared.expressions.Step.{Step}
 use Rattle.xpath_part.specs.declared.expressions.Step.TheVariants.{Up, Stay, Child}
 
+-- the path of a walk
 abbrev pub path_of : Walk → Path
 path_of w = along w.origin (strides_of w.steps)
 
+-- what an operand is
 abbrev pub term_of : Operand → Term
 term_of (Walks w) = path (path_of w)
 term_of (Literal s) = literal s
 
+-- the step that is read
 abbrev pub step_of : Step → Stride
 step_of Up = up
 step_of Stay = stay
 step_of (Child prefix name tests) = child prefix name (predicates_of tests)
 
+-- the expression that is read
 abbrev pub expression : Expr → Expression
 expression (Or a b) = or_of a b
 expression (And a b) = and_of a b

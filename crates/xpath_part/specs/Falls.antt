@@ -34,13 +34,22 @@ expression_falls (Equal l r) = omega (arith, term_falls l, term_falls r)
 expression_falls (Differ l r) = omega (arith, term_falls l, term_falls r)
 expression_falls (Count w c n) = omega (arith, path_falls w)
 
+-- an expression is no deeper than it weighs
 pub branch_falls : (e : Expr) → max (deep-Expr e) 0 ≤ weight (expression e)
 branch_falls e = omega (arith, expression_falls e)
 
-pub steps_fall : (ss : List Step) → max (most (λ s. w_this.weight _ deep-Step s) ss) 0 ≤ strides_weight (strides_of (map step_of ss))
+-- nor are steps
+pub steps_fall :
+    (ss : List Step)
+    → max (most (λ s. w_this.weight _ deep-Step s) ss) 0
+    ≤ strides_weight (strides_of (map step_of ss))
 steps_fall [] = omega arith
 steps_fall (s ∷ ss) = omega (arith, steps_fall ss, step_falls s)
 
-pub tests_fall : (es : List Expr) → max (most (λ e. w_this.weight _ deep-Expr e) es) 0 ≤ predicates_weight (predicates_of (map expression es))
+-- nor are predicates
+pub tests_fall :
+    (es : List Expr)
+    → max (most (λ e. w_this.weight _ deep-Expr e) es) 0
+    ≤ predicates_weight (predicates_of (map expression es))
 tests_fall [] = omega arith
 tests_fall (e ∷ es) = omega (arith, tests_fall es, expression_falls e)

@@ -30,6 +30,7 @@ slash_operand l r (Literal s) = None
 abbrev pub slash_behind : Whole → Option Phase
 slash_behind w = slash_operand w.level w.role w.operand
 
+-- `/` where no predicate follows any more
 abbrev pub slash_ended : Phase → Option Phase
 slash_ended (Due l r) = Some (Step l (start_place r Root))
 slash_ended (AtWhole w) = slash_behind w
@@ -50,9 +51,12 @@ is_past_name Left = false
 is_past_name (Right r o) = false
 is_past_name (Counted past) = past
 
+-- a path with one step more
 abbrev pub with_step : Level → Place → Stride → Phase
-with_step l p s = AtWhole (record { level = l; role = p.role; operand = Walks (with_stride p.walk s) })
+with_step l p s =
+    AtWhole (record { level = l; role = p.role; operand = Walks (with_stride p.walk s) })
 
+-- `..` where a step is due
 abbrev pub up_at : Level × Place → Option Phase
 up_at p = if is_past_name p.1.role then None else Some (with_step p.0 p.1 up_stride)
 
@@ -72,20 +76,25 @@ connective_of None name =
     else None
 connective_of (Some p) name = None
 
+-- what has been read of the tests once `or` or `and` follows
 abbrev pub level_behind : Connective → Tested → Level
 level_behind Or t = record { ors = Some (joined_or t.ors t.ands); ands = None }
 level_behind And t = record { ors = t.ors; ands = Some t.ands }
 
+-- `or` or `and`, behind which a test is due
 abbrev pub connected : Connective → Tested → Phase
 connected c t = Due (level_behind c t) Left
 
+-- `or` or `and` behind what is read, where it is one
 abbrev pub operator_by : Phase → Option Connective → Option Phase
 operator_by p None = None
 operator_by p (Some c) = option_map (connected c) (settled p)
 
+-- a name behind an operand
 abbrev pub operator : Phase → Option (List ℕ) → List ℕ → Option Phase
 operator p prefix name = operator_by p (connective_of prefix name)
 
+-- a name that begins a step
 abbrev pub named : Level → Place → Option (List ℕ) → List ℕ → Phase
 named l p prefix name = Name l (record { place = p; prefix = prefix; name = name; tests = [] })
 
@@ -100,9 +109,11 @@ word (Current l r) prefix name = None
 word (Comparison l w) prefix name = None
 word (Number l w c) prefix name = None
 
+-- a literal where an operand is due
 abbrev pub literal_due : Level → Role → List ℕ → Option Phase
 literal_due l Left s = Some (AtWhole (record { level = l; role = Left; operand = Literal s }))
-literal_due l (Right r o) s = Some (AtWhole (record { level = l; role = Right r o; operand = Literal s }))
+literal_due l (Right r o) s =
+    Some (AtWhole (record { level = l; role = Right r o; operand = Literal s }))
 literal_due l (Counted b) s = None
 
 -- a literal
@@ -116,6 +127,7 @@ literal (AtTested t) s = None
 literal (Comparison l w) s = None
 literal (Number l w c) s = None
 
+-- the relation of texts that a comparison means, where it means one
 abbrev pub relation_of : Cmp → Option Relation
 relation_of Equal = Some Same
 relation_of Differ = Some Different
@@ -134,6 +146,7 @@ compared_by l (Counted b) o r = None
 abbrev pub compared : Whole → Cmp → Option Phase
 compared w c = compared_by w.level w.role w.operand (relation_of c)
 
+-- a comparison where no predicate follows any more
 abbrev pub comparison_ended : Cmp → Phase → Option Phase
 comparison_ended c (AtWhole w) = compared w c
 comparison_ended c (Comparison l w) = Some (Number l w c)

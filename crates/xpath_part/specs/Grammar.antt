@@ -24,16 +24,19 @@ MayBeCounted past (stride stay ss) = MayBeCounted past ss
 MayBeCounted past (stride (child p n es) ss) = MayBeCounted true ss
 
 mutual
+  -- tests joined by `or` and `and`
   pub data IsOr : ℕ → List Token → Expression → Type 0 where
     one_and : {n : ℕ} {ts : List Token} {e : Expression} → IsAnd n ts e → IsOr n ts e
     more_or : {n : ℕ} {ts us : List Token} {a b : Expression} → IsOr n ts a → IsAnd n us b
         → IsOr n (ts ++ plain (codes "or") ∷ us) (or_of a b)
 
+  -- tests joined by `and`
   pub data IsAnd : ℕ → List Token → Expression → Type 0 where
     one_test : {n : ℕ} {ts : List Token} {e : Expression} → IsTest n ts e → IsAnd n ts e
     more_and : {n : ℕ} {ts us : List Token} {a b : Expression} → IsAnd n ts a → IsTest n us b
         → IsAnd n (ts ++ plain (codes "and") ∷ us) (and_of a b)
 
+  -- a test: a negation, a group, a term alone, two that are compared, or a count
   pub data IsTest : ℕ → List Token → Expression → Type 0 where
     not_test : {n : ℕ} {ts : List Token} {e : Expression} → IsOr n ts e
         → IsTest (suc n) (plain (codes "not") ∷ Signed Open ∷ (ts ++ Signed Close ∷ [])) (not_of e)
@@ -46,35 +49,52 @@ mutual
         → IsTest n (ts ++ Signed (Compare Differ) ∷ us) (differ l r)
     count_test : {n : ℕ} {ts : List Token} {o : Origin} {ss : Strides} (c : Cmp) (k : ℕ)
         → IsPath n ts (along o ss) → MayBeCounted false ss
-        → IsTest (suc n) (plain (codes "count") ∷ Signed Open ∷ (ts ++ Signed Close ∷ Signed (Compare c) ∷ Number k ∷ []))
+        → IsTest (suc n)
+        (plain (codes "count") ∷ Signed Open
+        ∷ (ts ++ Signed Close ∷ Signed (Compare c) ∷ Number k ∷ []))
         (count (along o ss) c k)
 
+  -- a path or a literal
   pub data IsTerm : ℕ → List Token → Term → Type 0 where
     path_term : {n : ℕ} {ts : List Token} {p : Path} → IsPath n ts p → IsTerm n ts (path p)
     literal_term : {n : ℕ} (s : List ℕ) → IsTerm n (Literal s ∷ []) (literal s)
 
+  -- a path from the root, the context node or `current()`
   pub data IsPath : ℕ → List Token → Path → Type 0 where
-    from_root : {n : ℕ} {ts : List Token} {ss : Strides} → AreSteps n ts ss → IsPath n (Signed Slash ∷ ts) (along Root ss)
-    from_context : {n : ℕ} {ts : List Token} {ss : Strides} → AreSteps n ts ss → IsPath n ts (along Context ss)
-    at_current : {n : ℕ} → IsPath (suc n) (plain (codes "current") ∷ Signed Open ∷ Signed Close ∷ []) (along Current no_strides)
+    from_root : {n : ℕ} {ts : List Token} {ss : Strides} → AreSteps n ts ss
+        → IsPath n (Signed Slash ∷ ts) (along Root ss)
+    from_context : {n : ℕ} {ts : List Token} {ss : Strides} → AreSteps n ts ss
+        → IsPath n ts (along Context ss)
+    at_current : {n : ℕ}
+        → IsPath (suc n) (plain (codes "current") ∷ Signed Open ∷ Signed Close ∷ [])
+        (along Current no_strides)
     from_current : {n : ℕ} {ts : List Token} {ss : Strides} → AreSteps (suc n) ts ss
-        → IsPath (suc n) (plain (codes "current") ∷ Signed Open ∷ Signed Close ∷ Signed Slash ∷ ts) (along Current ss)
+        → IsPath (suc n) (plain (codes "current") ∷ Signed Open ∷ Signed Close ∷ Signed Slash ∷ ts)
+        (along Current ss)
 
+  -- steps, with a slash between two
   pub data AreSteps : ℕ → List Token → Strides → Type 0 where
-    one_step : {n : ℕ} {ts : List Token} {s : Stride} → IsStep n ts s → AreSteps n ts (stride s no_strides)
-    more_steps : {n : ℕ} {ts us : List Token} {s : Stride} {ss : Strides} → IsStep n ts s → AreSteps n us ss
+    one_step : {n : ℕ} {ts : List Token} {s : Stride} → IsStep n ts s
+        → AreSteps n ts (stride s no_strides)
+    more_steps : {n : ℕ} {ts us : List Token} {s : Stride} {ss : Strides}
+        → IsStep n ts s → AreSteps n us ss
         → AreSteps n (ts ++ Signed Slash ∷ us) (stride s ss)
 
+  -- `..`, `.`, or a name with its predicates
   pub data IsStep : ℕ → List Token → Stride → Type 0 where
     up_step : {n : ℕ} → IsStep n (Signed Up ∷ []) up
     stay_step : {n : ℕ} → IsStep n (Signed Stay ∷ []) stay
-    child_step : {n : ℕ} {ts : List Token} {es : Predicates} (prefix : Option (List ℕ)) (name : List ℕ) → ArePredicates n ts es
+    child_step : {n : ℕ} {ts : List Token} {es : Predicates}
+        (prefix : Option (List ℕ)) (name : List ℕ) → ArePredicates n ts es
         → IsStep n (Name prefix name ∷ ts) (child prefix name es)
 
+  -- predicates, one behind the other
   pub data ArePredicates : ℕ → List Token → Predicates → Type 0 where
     none_more : {n : ℕ} → ArePredicates n [] no_predicates
-    one_more : {n : ℕ} {ts us : List Token} {e : Expression} {es : Predicates} → IsOr n ts e → ArePredicates (suc n) us es
-        → ArePredicates (suc n) (Signed OpenBracket ∷ (ts ++ Signed CloseBracket ∷ us)) (predicate e es)
+    one_more : {n : ℕ} {ts us : List Token} {e : Expression} {es : Predicates}
+        → IsOr n ts e → ArePredicates (suc n) us es
+        → ArePredicates (suc n) (Signed OpenBracket ∷ (ts ++ Signed CloseBracket ∷ us))
+        (predicate e es)
 
 -- the tokens of a text spell an expression
 abbrev pub IsExpression : List ℕ → Expression → Type 0

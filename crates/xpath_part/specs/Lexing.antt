@@ -1,6 +1,8 @@
 -- The tokens of a text, byte by byte.
 use Rattle.std.specs.Prelude.{◌≡◌, ℕ, ◌==◌, ◌||◌, List, [], ◌∷◌, ◌++◌, Option, Some, None, option_map, option_and_then, if◌then◌else◌}
 use Rattle.std.specs.Option.{option_to_list}
+use Rattle.xpath_part.specs.Characters.{slash, open_group, close_group, open_bracket, close_bracket, equals, full_stop}
+use Rattle.xpath_part.specs.Characters.{exclamation_mark, less_than, more_than, single_quote, double_quote, colon}
 use Rattle.xpath_part.specs.Words.{is_blank, is_digit, is_name_start, is_name_byte, name_token, prefixed_token, literal_token, number_token}
 use Rattle.xpath_part.specs.declared.lexing.Mode.{Mode}
 use Rattle.xpath_part.specs.declared.lexing.Mode.TheVariants.{Between, Dot, Exclamation, Less as LessThan, More as MoreThan, Name as InName, Colon, Local, Literal as InLiteral, Number as InNumber}
@@ -12,10 +14,12 @@ use Rattle.xpath_part.specs.declared.symbols.Sign.{Sign}
 use Rattle.xpath_part.specs.declared.symbols.Sign.TheVariants.{Slash, Open, Close, OpenBracket, CloseBracket, Compare, Up, Stay}
 use Rattle.xpath_part.specs.declared.comparisons.Cmp.TheVariants.{Equal, Differ, Less, AtMost, More, AtLeast}
 
+-- a token ends before a byte
 abbrev pub ends : Option Token → Growth
 ends None = Bad
 ends (Some t) = Ends (Some t)
 
+-- a token ends with a byte
 abbrev pub whole : Option Token → Growth
 whole None = Bad
 whole (Some t) = Whole t
@@ -23,22 +27,22 @@ whole (Some t) = Whole t
 -- `/`, `(`, `)`, `[`, `]` and `=`
 abbrev pub sign_of : ℕ → Option Sign
 sign_of b =
-    if b == 47 then Some Slash
-    else if b == 40 then Some Open
-    else if b == 41 then Some Close
-    else if b == 91 then Some OpenBracket
-    else if b == 93 then Some CloseBracket
-    else if b == 61 then Some (Compare Equal)
+    if b == slash then Some Slash
+    else if b == open_group then Some Open
+    else if b == close_group then Some Close
+    else if b == open_bracket then Some OpenBracket
+    else if b == close_bracket then Some CloseBracket
+    else if b == equals then Some (Compare Equal)
     else None
 
 -- a dot, an exclamation mark, `<`, `>`, a quote, a digit or what begins a name
 abbrev pub begin_longer : ℕ → Growth
 begin_longer b =
-    if b == 46 then Within Dot
-    else if b == 33 then Within Exclamation
-    else if b == 60 then Within LessThan
-    else if b == 62 then Within MoreThan
-    else if b == 39 || b == 34 then Within (InLiteral b [])
+    if b == full_stop then Within Dot
+    else if b == exclamation_mark then Within Exclamation
+    else if b == less_than then Within LessThan
+    else if b == more_than then Within MoreThan
+    else if b == single_quote || b == double_quote then Within (InLiteral b [])
     else if is_digit b then Within (InNumber (b ∷ []))
     else if is_name_start b then Within (InName (b ∷ []))
     else Bad
@@ -47,6 +51,7 @@ abbrev begin_sign : ℕ → Option Sign → Growth
 begin_sign b None = begin_longer b
 begin_sign b (Some s) = Whole (Signed s)
 
+-- a byte behind a token
 abbrev pub begin : ℕ → Growth
 begin b = if is_blank b then Within Between else begin_sign b (sign_of b)
 
@@ -58,20 +63,24 @@ alone (Some s) = Ends (Some (Signed s))
 abbrev pub pair : ℕ → ℕ → Sign → Option Sign → Growth
 pair b second both one = if b == second then Whole (Signed both) else alone one
 
+-- a byte behind what has been read of a token
 abbrev pub grow : Mode → ℕ → Growth
 grow Between b = Ends None
-grow Dot b = pair b 46 Up (Some Stay)
-grow Exclamation b = pair b 61 (Compare Differ) None
-grow LessThan b = pair b 61 (Compare AtMost) (Some (Compare Less))
-grow MoreThan b = pair b 61 (Compare AtLeast) (Some (Compare More))
+grow Dot b = pair b full_stop Up (Some Stay)
+grow Exclamation b = pair b equals (Compare Differ) None
+grow LessThan b = pair b equals (Compare AtMost) (Some (Compare Less))
+grow MoreThan b = pair b equals (Compare AtLeast) (Some (Compare More))
 grow (InName s) b =
     if is_name_byte b then Within (InName (s ++ b ∷ []))
-    else if b == 58 then Within (Colon s)
+    else if b == colon then Within (Colon s)
     else ends (name_token s)
 grow (Colon p) b = if is_name_start b then Within (Local p (b ∷ [])) else Bad
-grow (Local p s) b = if is_name_byte b then Within (Local p (s ++ b ∷ [])) else ends (prefixed_token p s)
-grow (InLiteral q s) b = if b == q then whole (literal_token s) else Within (InLiteral q (s ++ b ∷ []))
-grow (InNumber ds) b = if is_digit b then Within (InNumber (ds ++ b ∷ [])) else ends (number_token ds)
+grow (Local p s) b =
+    if is_name_byte b then Within (Local p (s ++ b ∷ [])) else ends (prefixed_token p s)
+grow (InLiteral q s) b =
+    if b == q then whole (literal_token s) else Within (InLiteral q (s ++ b ∷ []))
+grow (InNumber ds) b =
+    if is_digit b then Within (InNumber (ds ++ b ∷ [])) else ends (number_token ds)
 
 -- what is left at the end
 abbrev pub finish : Mode → Growth
@@ -86,12 +95,14 @@ finish (Local p s) = ends (prefixed_token p s)
 finish (InLiteral q s) = Bad
 finish (InNumber ds) = ends (number_token ds)
 
+-- what is read, where no byte is left over
 abbrev pub settled : Growth → Option (List Token × Mode)
 settled (Within m) = Some ([], m)
 settled (Whole t) = Some (t ∷ [], Between)
 settled (Ends o) = None
 settled Bad = None
 
+-- what is read once a byte that may be left over is read too
 abbrev pub behind : ℕ → Growth → Option (List Token × Mode)
 behind b (Within m) = settled (Within m)
 behind b (Whole t) = settled (Whole t)
@@ -102,19 +113,23 @@ behind b Bad = None
 abbrev pub advance : Mode → ℕ → Option (List Token × Mode)
 advance m b = behind b (grow m b)
 
+-- the tokens and the mode go on by what a byte brings
 abbrev pub Advances : Option (List Token × Mode) → List Token → List Token → Mode → Type 0
 Advances None old new m = ⊥
 Advances (Some p) old new m = (new ≡ old ++ p.0) × (m ≡ p.1)
 
+-- the last token, if any, where the text may end
 abbrev pub left_over : Growth → Option (List Token)
 left_over (Within m) = None
 left_over (Whole t) = None
 left_over (Ends o) = Some (option_to_list o)
 left_over Bad = None
 
+-- the tokens of a text behind what has been read
 abbrev pub lex_from : Mode → List ℕ → Option (List Token)
 lex_from m [] = left_over (finish m)
-lex_from m (b ∷ bs) = option_and_then (λ p. option_map (λ ts. p.0 ++ ts) (lex_from p.1 bs)) (advance m b)
+lex_from m (b ∷ bs) =
+    option_and_then (λ p. option_map (λ ts. p.0 ++ ts) (lex_from p.1 bs)) (advance m b)
 
 -- the tokens of a text, where it has some
 abbrev pub lex : List ℕ → Option (List Token)

@@ -10,6 +10,7 @@ pub mod Truth
 pub mod Coding
 pub mod Falls
 -- What only private clauses cite.
+pub mod Characters
 pub mod Following
 pub mod Lexing
 pub mod Nesting

@@ -28,6 +28,7 @@ use Rattle.xpath_part.specs.declared.phases.Phase.TheVariants.{Due, Step, Name, 
 abbrev pub fresh : Phase
 fresh = Due (record { ors = None; ands = None }) Left
 
+-- the function of a name
 abbrev pub function_of : List ℕ → Option Function
 function_of name =
     if bytes_eq name (codes "not") then Some Not
@@ -35,7 +36,9 @@ function_of name =
     else if bytes_eq name (codes "current") then Some CurrentNode
     else None
 
-abbrev pub first_of : Origin → List Stride → Option (List ℕ) → List ℕ → List Expression → Option Function
+-- the function that the first step of a path is, where it is one
+abbrev pub first_of :
+    Origin → List Stride → Option (List ℕ) → List ℕ → List Expression → Option Function
 first_of Context [] None name [] = function_of name
 first_of Context [] None name (e ∷ es) = None
 first_of Context [] (Some p) name es = None
@@ -48,6 +51,7 @@ first_of AtCurrent ss prefix name es = None
 abbrev pub first_name : Named → Option Function
 first_name n = first_of n.place.walk.origin n.place.walk.steps n.prefix n.name n.tests
 
+-- what a function opens
 abbrev pub called : Function → Level → Role → Option Opened
 called CurrentNode l r = Some (Flat (Current l r))
 called Not l Left = Some (Nested (record { level = l; opening = Negation }))
@@ -57,10 +61,12 @@ called Count l Left = Some (Flat (Due l (Counted false)))
 called Count l (Right r o) = None
 called Count l (Counted b) = None
 
+-- where there is a function
 abbrev pub called_by : Option Function → Level → Role → Option Opened
 called_by None l r = None
 called_by (Some f) l r = called f l r
 
+-- what a name before a parenthesis opens
 abbrev pub called_name : Level → Named → Option Opened
 called_name l n = called_by (first_name n) l n.place.role
 
@@ -92,6 +98,7 @@ predicate_of (AtTested t) = None
 predicate_of (Comparison l w) = None
 predicate_of (Number l w c) = None
 
+-- the value of the tests that a parenthesis closes
 abbrev pub closed_value : Phase → Option Closed
 closed_value p = option_map (λ e. Value e) (value_of p)
 
@@ -102,15 +109,23 @@ counted_end l (Literal s) = None
 abbrev closed_operand : Level → Role → Operand → Option Closed
 closed_operand l (Counted b) o = counted_end l o
 closed_operand l Left o = closed_value (AtWhole (record { level = l; role = Left; operand = o }))
-closed_operand l (Right r left) o = closed_value (AtWhole (record { level = l; role = Right r left; operand = o }))
+closed_operand l (Right r left) o =
+    closed_value (AtWhole (record { level = l; role = Right r left; operand = o }))
 
+-- what a parenthesis behind an operand closes
 abbrev pub closed_whole : Whole → Option Closed
 closed_whole w = closed_operand w.level w.role w.operand
 
+-- `)` where no predicate follows any more
 abbrev pub closed_ended : Phase → Option Closed
 closed_ended (AtWhole w) = closed_whole w
 closed_ended (AtTested t) = closed_value (AtTested t)
-closed_ended (Current l r) = Some (FlatEnd (AtWhole (record { level = l; role = r; operand = Walks (start_walk AtCurrent) })))
+closed_ended (Current l r) =
+    Some (FlatEnd (AtWhole (record {
+      level = l;
+      role = r;
+      operand = Walks (start_walk AtCurrent);
+    })))
 closed_ended (Due l r) = None
 closed_ended (Step l p) = None
 closed_ended (Name l n) = None
@@ -130,8 +145,14 @@ left_by l (Predicate n) e = None
 abbrev pub left_group : Frame → Expression → Option Phase
 left_group f e = left_by f.level f.opening e
 
+-- a name with one predicate more
 abbrev pub with_predicate : Named → Expression → Named
-with_predicate n e = record { place = n.place; prefix = n.prefix; name = n.name; tests = n.tests ++ e ∷ [] }
+with_predicate n e = record {
+  place = n.place;
+  prefix = n.prefix;
+  name = n.name;
+  tests = n.tests ++ e ∷ [];
+}
 
 abbrev left_bracket : Level → Opening → Expression → Option Phase
 left_bracket l (Predicate n) e = Some (Name l (with_predicate n e))

@@ -18,10 +18,12 @@ use Rattle.xpath_part.specs.declared.phases.Phase.{Phase}
 use Rattle.xpath_part.specs.declared.phases.Phase.TheVariants.{Due, Step, Name, Whole as AtWhole, Current, Tested as AtTested, Comparison, Number}
 use Rattle.xpath_part.specs.declared.sought.Relation.TheVariants.{Same, Different}
 
+-- behind `or`
 abbrev pub joined_or : Option Expression → Expression → Expression
 joined_or None e = e
 joined_or (Some a) e = or_of a e
 
+-- behind `and`
 abbrev pub joined_and : Option Expression → Expression → Expression
 joined_and None e = e
 joined_and (Some a) e = and_of a e
@@ -30,11 +32,13 @@ joined_and (Some a) e = and_of a e
 abbrev pub with_test : Level → Expression → Tested
 with_test l e = record { ors = l.ors; ands = joined_and l.ands e }
 
+-- what a path is for, once it has had a name
 abbrev pub behind_name : Role → Role
 behind_name Left = Left
 behind_name (Right r o) = Right r o
 behind_name (Counted b) = Counted true
 
+-- a path with one step more
 abbrev pub with_stride : Walk → Stride → Walk
 with_stride w s = record { origin = w.origin; steps = w.steps ++ s ∷ [] }
 
@@ -64,6 +68,7 @@ test_of (Right Same left) o = Some (equal (term_of left) (term_of o))
 test_of (Right Different left) o = Some (differ (term_of left) (term_of o))
 test_of (Counted b) o = None
 
+-- the test that an operand ends, at its level
 abbrev pub tested_of : Whole → Option Tested
 tested_of w = option_map (λ e. with_test w.level e) (test_of w.role w.operand)
 
@@ -82,9 +87,11 @@ settled (Number l w c) = None
 abbrev pub value_of : Phase → Option Expression
 value_of p = option_map (λ t. joined_or t.ors t.ands) (settled p)
 
+-- a path without steps
 abbrev pub start_walk : Origin → Walk
 start_walk o = record { origin = o; steps = [] }
 
+-- where a path begins
 abbrev pub start_place : Role → Origin → Place
 start_place r o = record { role = r; walk = start_walk o }
 

@@ -17,14 +17,18 @@ use Rattle.xpath_part.specs.declared.symbols.Sign.TheVariants.{Slash, Open, Clos
 use Rattle.xpath_part.specs.declared.symbols.Token.{Token}
 use Rattle.xpath_part.specs.declared.symbols.Token.TheVariants.{Sign as Signed, Name, Literal, Number}
 
+-- a reader in a phase, where there is one
 abbrev pub reader_at : Option Phase → List Frame → ℕ → Option Reader
 reader_at None frames depth = None
 reader_at (Some p) frames depth = Some (record { phase = p; frames = frames; depth = depth })
 
+-- a reader behind what opens
 abbrev pub entered_by : Option Opened → List Frame → ℕ → Option Reader
 entered_by None frames depth = None
-entered_by (Some (Nested f)) frames depth = Some (record { phase = fresh; frames = f ∷ frames; depth = depth + 1 })
-entered_by (Some (Flat p)) frames depth = Some (record { phase = p; frames = frames; depth = depth + 1 })
+entered_by (Some (Nested f)) frames depth =
+    Some (record { phase = fresh; frames = f ∷ frames; depth = depth + 1 })
+entered_by (Some (Flat p)) frames depth =
+    Some (record { phase = p; frames = frames; depth = depth + 1 })
 
 -- so many parentheses and brackets may be open at once
 abbrev pub most_nested : ℕ
@@ -34,6 +38,7 @@ most_nested = 32
 abbrev pub entered : Option Opened → List Frame → ℕ → Option Reader
 entered o frames depth = if nat_lt depth most_nested then entered_by o frames depth else None
 
+-- the last nesting ends with a value
 abbrev pub popped : Expression → List Frame → ℕ → Option Reader
 popped e [] depth = None
 popped e (f ∷ frames) depth = reader_at (left_group f e) frames (depth - 1)
@@ -44,6 +49,7 @@ left None frames depth = None
 left (Some (Value e)) frames depth = popped e frames depth
 left (Some (FlatEnd p)) frames depth = reader_at (Some p) frames (depth - 1)
 
+-- the last predicate ends with a value
 abbrev pub popped_bracket : Expression → List Frame → ℕ → Option Reader
 popped_bracket e [] depth = None
 popped_bracket e (f ∷ frames) depth = reader_at (left_predicate f e) frames (depth - 1)
@@ -53,13 +59,15 @@ abbrev pub left_bracket : Option Expression → List Frame → ℕ → Option Re
 left_bracket None frames depth = None
 left_bracket (Some e) frames depth = popped_bracket e frames depth
 
+-- one sign
 abbrev pub read_sign : Sign → Reader → Option Reader
 read_sign Slash r = reader_at (slash r.phase) r.frames r.depth
 read_sign Up r = reader_at (up r.phase) r.frames r.depth
 read_sign Stay r = reader_at (stay r.phase) r.frames r.depth
 read_sign (Compare c) r = reader_at (comparison r.phase c) r.frames r.depth
 read_sign Open r = entered (opened r.phase) r.frames r.depth
-read_sign OpenBracket r = entered (option_map (λ f. Nested f) (predicate_of r.phase)) r.frames r.depth
+read_sign OpenBracket r =
+    entered (option_map (λ f. Nested f) (predicate_of r.phase)) r.frames r.depth
 read_sign Close r = left (closed r.phase) r.frames r.depth
 read_sign CloseBracket r = left_bracket (value_of r.phase) r.frames r.depth
 
@@ -78,6 +86,7 @@ finish_in (f ∷ frames) p = None
 abbrev pub finish : Reader → Option Expression
 finish r = finish_in r.frames r.phase
 
+-- tokens behind what has been read
 abbrev pub run : List Token → Reader → Option Expression
 run [] r = finish r
 run (t ∷ ts) r = option_and_then (λ next. run ts next) (read t r)

@@ -11,6 +11,7 @@ use Rattle.xpath_part.specs.declared.comparisons.Cmp.TheVariants.{Equal, Differ,
 use Rattle.xpath_part.specs.declared.origins.Origin.{Origin}
 use Rattle.xpath_part.specs.declared.origins.Origin.TheVariants.{Root, Context, Current}
 
+-- whether two numbers compare so
 abbrev pub compare_numbers : Cmp → ℕ → ℕ → Bool
 compare_numbers Equal m n = m == n
 compare_numbers Differ m n = not (m == n)
@@ -19,6 +20,7 @@ compare_numbers AtMost m n = nat_le m n
 compare_numbers More m n = nat_lt n m
 compare_numbers AtLeast m n = nat_le n m
 
+-- whether two texts differ
 abbrev pub are_different : List ℕ → List ℕ → Bool
 are_different a b = not (bytes_eq a b)
 
@@ -39,8 +41,10 @@ start tree current Current context = current
 abbrev mutual
   -- the value of an expression at a context node, where `current()` means the node current
   pub value : NodeTree → Node → Expression → Node → Bool
-  value tree current (or_of a b) context = value tree current a context || value tree current b context
-  value tree current (and_of a b) context = value tree current a context && value tree current b context
+  value tree current (or_of a b) context =
+      value tree current a context || value tree current b context
+  value tree current (and_of a b) context =
+      value tree current a context && value tree current b context
   value tree current (not_of a) context = not (value tree current a context)
   value tree current (alone t) context = term_value tree current t context
   value tree current (equal l r) context =
@@ -57,7 +61,8 @@ abbrev mutual
 
   -- the texts that stand for a side of a comparison
   pub texts : NodeTree → Node → Term → Node → List (List ℕ)
-  texts tree current (path p) context = flat_map (texts_of_node tree) (selected tree current p context)
+  texts tree current (path p) context =
+      flat_map (texts_of_node tree) (selected tree current p context)
   texts tree current (literal s) context = s ∷ []
 
   -- the nodes that a path selects
@@ -74,8 +79,10 @@ abbrev mutual
   pub reached : NodeTree → Node → Stride → Node → List Node
   reached tree current up n = option_to_list (tree.parent n)
   reached tree current stay n = n ∷ []
-  reached tree current (child prefix name es) n = filter (passes tree current es) (tree.children n name)
+  reached tree current (child prefix name es) n =
+      filter (passes tree current es) (tree.children n name)
 
+  -- each predicate is true at the node
   pub passes : NodeTree → Node → Predicates → Node → Bool
   passes tree current no_predicates n = true
   passes tree current (predicate e es) n = value tree current e n && passes tree current es n

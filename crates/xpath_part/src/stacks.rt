@@ -40,7 +40,9 @@ impl<X> Stack<X> {
 
     /// Takes the item at the top, or answers None where there is none.
     pub(crate) fn pop(&mut self) -> Option<X>
-        ensures { MatchOption result ((self.old ≡ []) × (self.new ≡ [])) (λ x. self.old ≡ x ∷ self.new) }
+        ensures { MatchOption result
+            ((self.old ≡ []) × (self.new ≡ []))
+            (λ x. self.old ≡ x ∷ self.new) }
     {
         self.items.pop()
     }

@@ -2,10 +2,10 @@
 //! decides.
 ghost use Rattle.std.specs.Prelude.{◌≡◌, ◌<◌, [], ◌∷◌, length, map, min, Some, slice_get};
 ghost use Rattle.std.specs.List.{list_any};
-ghost use Rattle.xpath_part.specs.Expression.{strides_of, predicates_of};
-ghost use Rattle.xpath_part.specs.Expressions.{expression, term_of, path_of, step_of};
-ghost use Rattle.xpath_part.specs.Sought.{how_many, is_sought, relates, IsSoughtAtNodes, sought_below};
-ghost use Rattle.xpath_part.specs.Truth.{truth, value, term_value, texts, some_pair, selected, walk, passes, compare_numbers};
+ghost use Rattle.xpath_part.specs.Expression.{predicates_of};
+ghost use Rattle.xpath_part.specs.Expressions.{expression, term_of, path_of};
+ghost use Rattle.xpath_part.specs.Sought.{how_many, is_sought, relates, IsSoughtAtNodes, walk_of, found_below};
+ghost use Rattle.xpath_part.specs.Truth.{truth, value, term_value, texts, some_pair, selected, passes, compare_numbers};
 
 use crate::nodes::{ITEM, LEAF};
 use crate::sought::{Relation, Sought};
@@ -99,7 +99,9 @@ fn compare<N: Nodes>(
     requires current { N.is_node nodes.now current }
     requires context { N.is_node nodes.now context }
     ensures { let tree = N.tree nodes.now in
-        result ≡ some_pair (relates relation) (texts tree current (term_of left.now) context) (texts tree current (term_of right.now) context) }
+        result ≡ some_pair (relates relation)
+        (texts tree current (term_of left.now) context)
+        (texts tree current (term_of right.now) context) }
 {
     match left {
         Operand::Literal(text) => {
@@ -124,7 +126,8 @@ fn compare_text<N: Nodes>(
 ) -> bool
     requires current { N.is_node nodes.now current }
     requires context { N.is_node nodes.now context }
-    ensures { result ≡ list_any (relates relation text.now) (texts (N.tree nodes.now) current (term_of right.now) context) }
+    ensures { result ≡ list_any (relates relation text.now)
+        (texts (N.tree nodes.now) current (term_of right.now) context) }
 {
     match right {
         Operand::Literal(other) => relation.relates(text, other.as_str()),
@@ -150,7 +153,8 @@ fn count_selected<N: Nodes>(
     requires sought { IsSoughtAtNodes (N.is_node nodes.now) sought }
     requires limit { 0 < limit }
     ensures { let tree = N.tree nodes.now in
-        result ≡ min limit (how_many (is_sought tree current sought.entry) (selected tree current (path_of path.now) context)) }
+        result ≡ min limit (how_many (is_sought tree current sought.entry)
+        (selected tree current (path_of path.now) context)) }
 {
     let at = match path.origin {
         Origin::Root => nodes.root(),
@@ -175,7 +179,8 @@ fn count_along<N: Nodes>(
     requires sought { IsSoughtAtNodes (N.is_node nodes.now) sought }
     requires limit { 0 < limit }
     ensures { let tree = N.tree nodes.now in
-        result ≡ min limit (how_many (is_sought tree current sought.entry) (walk tree current (strides_of (map step_of steps.now)) at)) }
+        result ≡ min limit (how_many (is_sought tree current sought.entry)
+        (walk_of tree current steps.now at)) }
 {
     let Some((step, rest)) = steps.split_first() else {
         return count_node(nodes, current, at, sought);
@@ -220,7 +225,9 @@ fn count_below<N: Nodes>(
     requires at { N.is_node nodes.now at }
     requires sought { IsSoughtAtNodes (N.is_node nodes.now) sought }
     requires limit { 0 < limit }
-    ensures { result ≡ min limit (sought_below (N.tree nodes.now) current sought.entry (predicates_of (map expression tests.now)) (strides_of (map step_of rest.now)) ((N.tree nodes.now).children at name.now)) }
+    ensures { let tree = N.tree nodes.now in
+        result ≡ min limit (found_below tree current sought.entry tests.now rest.now
+        (tree.children at name.now)) }
 {
     let mut found = 0;
     let mut i = 0;
@@ -251,7 +258,8 @@ fn count_child<N: Nodes>(
     requires at { N.is_node nodes.now child }
     requires sought { IsSoughtAtNodes (N.is_node nodes.now) sought }
     requires limit { 0 < limit }
-    ensures { result ≡ min limit (sought_below (N.tree nodes.now) current sought.entry (predicates_of (map expression tests.now)) (strides_of (map step_of rest.now)) (child ∷ [])) }
+    ensures { result ≡ min limit
+        (found_below (N.tree nodes.now) current sought.entry tests.now rest.now (child ∷ [])) }
 {
     if pass(tests, nodes, current, child) {
         count_along(rest, nodes, current, child, sought, limit)
@@ -265,7 +273,8 @@ fn count_child<N: Nodes>(
 fn pass<N: Nodes>(tests: &[Expr], nodes: &N, current: Node, at: Node) -> bool
     requires current { N.is_node nodes.now current }
     requires at { N.is_node nodes.now at }
-    ensures { result ≡ passes (N.tree nodes.now) current (predicates_of (map expression tests.now)) at }
+    ensures { result
+        ≡ passes (N.tree nodes.now) current (predicates_of (map expression tests.now)) at }
 {
     for test in tests {
         if !judge(test, nodes, current, at) {
