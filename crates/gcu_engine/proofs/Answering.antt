@@ -1,6 +1,6 @@
 -- From what was printed to what a command answers.
 use Rattle.std.proofs.Common.{◌≡◌, inl, inr, ℕ, List, ◌++◌, refl, sym, ap, subst, Option, Some, None, Result, Ok, Err, IfSome}
-use Rattle.host_core.specs.Answers.{FailsAs, Gives}
+use Rattle.host_core.specs.Answers.{FailsAs}
 use Rattle.host_core.specs.Counts.{Counts, Rose, PrintMayRise}
 use Rattle.host_core.specs.State.{State}
 use Rattle.conf_doc.specs.Texts.{file_text}

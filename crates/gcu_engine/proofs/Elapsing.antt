@@ -1,7 +1,7 @@
 -- How time goes on through one call of a host after another, and what a crash leaves meanwhile.
-use Rattle.std.proofs.Common.{◌≡◌, ◌≤◌, ◌⊎◌, inl, inr, ⊎_elim, ℕ, List, [], ◌++◌, Option, Some, None, Result, Ok, Err, sym, ◌∙◌, subst, append-nil, option_map, arith}
-use Rattle.host_core.specs.Crashes.{Elapses, LeavesOnly, Left, MayLeave, MayLeaveInPrint, MayLeaveNow}
-use Rattle.host_core.specs.State.{State, printed}
+use Rattle.std.proofs.Common.{◌≡◌, inl, inr, ⊎_elim, ℕ, List, [], Option, Some, None, Result, Ok, Err, sym, ◌∙◌, subst, append-nil, arith}
+use Rattle.host_core.specs.Crashes.{Elapses, LeavesOnly, Left, MayLeaveInPrint, MayLeaveNow}
+use Rattle.host_core.specs.State.{State}
 use Rattle.host_core.proofs.Runs.{begins, goes_on}
 use Rattle.gcu_engine.specs.Answers.{LeftIn, LeftMeanwhile, LeftWithOutput}
 use Rattle.gcu_engine.specs.Asked.{asked}

@@ -1,27 +1,24 @@
 -- How what the parts of a command find makes what the command finds.
-use Rattle.std.proofs.Common.{◌≡◌, ◌<◌, ◌∙◌, ℕ, List, [], ◌∷◌, ◌++◌, length, refl, sym, ap, subst, arith, Option, Some, None, Result, Ok, Err, IfErr, IfSome, Contains}
+use Rattle.std.proofs.Common.{◌≡◌, ℕ, List, ◌++◌, refl, sym, ap, subst, arith, Option, Some, None, Result, Ok, Err, IfErr, IfSome}
 use Rattle.std.proofs.lemmas.List.Elements.{Contains-append_left, Contains-append_right}
-use Rattle.serde_json.specs.Data as values
 use Rattle.host_core.specs.Answers.{FailsAs, Gives, map_ok}
 use Rattle.host_core.specs.Inputs.{input_of}
 use Rattle.host_core.specs.Counts.{Counts}
-use Rattle.host_core.specs.State.{State, file}
+use Rattle.host_core.specs.State.{State}
 use Rattle.host_core.specs.declared.host_calls.Input.{Input}
-use Rattle.conf_doc.specs.Document.{Document}
-use Rattle.conf_doc.specs.Reading.{Way, document_of, json, json_checked, kind_checked, reading}
-use Rattle.conf_doc.specs.Shaping.{configuration, shape_checked}
 use Rattle.conf_doc.specs.declared.configuration.Config.{Config}
 use Rattle.patch_core.specs.Operation.{operations}
 use Rattle.patch_core.specs.declared.patches.Patch.{Patch}
+use Rattle.conf_store.specs.Loads.{Loads}
+use Rattle.conf_store.specs.declared.errors.LoadError.TheVariants.{Bad}
+use Rattle.conf_store.specs.declared.errors.StoredWhy.{StoredWhy}
+use Rattle.conf_store.specs.declared.loaded.Stored.{Stored}
 use Rattle.gcu_engine.specs.Asked.{patch_asked, patch_in, patch_limit, preview_asked, stored_asked, stored_answer, target}
-use Rattle.gcu_engine.specs.Asking.{Asking, Source, asks, follows, ◌>>>◌}
+use Rattle.gcu_engine.specs.Asking.{Asking, Source, ◌>>>◌}
 use Rattle.gcu_engine.specs.Preparing.{Finds, Found, Refuses, RefusesAlways, StandsIn, refusal}
-use Rattle.gcu_engine.specs.ReadStored.{read_stored, shaped_stored}
 use Rattle.gcu_engine.specs.Request as request
-use Rattle.gcu_engine.specs.Stored.{config_file, stored_document, stored_in, stored_shape, stored_value}
 use Rattle.gcu_engine.specs.declared.outcomes.Outcome.{Outcome}
-use Rattle.gcu_engine.specs.declared.outcomes.Outcome.TheVariants.{Done, Memory, Usage, InputFault, DiskFault, PrintFault}
-use Rattle.gcu_engine.specs.declared.outcomes.StoredWhy.{StoredWhy}
+use Rattle.gcu_engine.specs.declared.outcomes.Outcome.TheVariants.{BadStored, Done, Memory, Usage, InputFault, DiskFault, PrintFault}
 
 -- ---- faults among calls
 
@@ -107,25 +104,16 @@ found_always view r asking gives h = record { gives = gives; stands = always_sta
 
 -- ---- the stored configuration
 
-shape_read : (r : Result Config Way) → stored_shape r ≡ shaped_stored (shape_checked r)
-shape_read (Ok c) = refl
-shape_read (Err way) = refl
+-- what was loaded decides the stored configuration
+pub found_stored : (o : Option State) (what : Stored) → IfSome o (λ s. Loads s.files (Ok what)) → Finds o (λ c. c) (Ok what.config) stored_asked
+found_stored None what loads = tt
+found_stored (Some s) what loads = record { gives = ap stored_answer loads.config; stands = tt }
 
-document_read : (r : Result Document Way) → stored_document r ≡ read_stored (kind_checked r)
-document_read (Ok d) = shape_read (configuration d)
-document_read (Err way) = refl
-
-value_read : (o : Option values.Data) → stored_value o ≡ read_stored (json_checked o)
-value_read None = refl
-value_read (Some v) = document_read (document_of v)
-
--- what is found of the stored file decides the stored configuration
-pub found_stored : (o : Option State) (found : Option (List ℕ)) (r : Result Config Outcome)
-    → IfSome o (λ s. found ≡ file s config_file) → Gives (λ c. c) refusal r (stored_answer (stored_in found)) → IfErr r RefusesAlways
-    → Finds o (λ c. c) r stored_asked
-found_stored None found r is gives h = tt
-found_stored (Some s) found r is gives h =
-    found_always (λ c. c) r (stored_asked s) (subst (λ f. Gives (λ c. c) refusal r (stored_answer (stored_in f))) is gives) h
+-- so does why nothing was
+pub found_bad : (o : Option State) (why : StoredWhy) → IfSome o (λ s. Loads s.files (Err (Bad why)))
+    → Finds {X = Config} o (λ c. c) (Err (BadStored why)) stored_asked
+found_bad None why loads = tt
+found_bad (Some s) why loads = record { gives = ap stored_answer loads; stands = tt }
 
 -- a disk fault stands where the stored file is read
 pub disk_fault_found : (o : Option State) (step : ℕ) → Finds {X = Config} o (λ c. c) (Err (DiskFault step)) stored_asked
@@ -136,11 +124,6 @@ disk_fault_found (Some s) step = record { gives = tt; stands = (0, omega arith, 
 pub memory_found : {X Y : Type 0} (view : X → Y) (o : Option State) (asking : State → Asking Y) → Finds o view (Err Memory) asking
 memory_found view None asking = tt
 memory_found view (Some s) asking = record { gives = tt; stands = tt }
-
--- the readers below tell what is stored
-pub stored_reading : (bytes : List ℕ) (r : Result Config Outcome) → Gives (λ c. c) refusal r (stored_answer (read_stored (reading bytes)))
-    → Gives (λ c. c) refusal r (stored_answer (stored_in (Some bytes)))
-stored_reading bytes r h = subst (λ x. Gives (λ c. c) refusal r (stored_answer x)) (sym (value_read (json bytes))) h
 
 -- ---- the patch
 

@@ -1,5 +1,5 @@
 -- What words ask of a host that tells its state: the first refusal in its order, or the request.
-use Rattle.std.specs.Prelude.{ℕ, List, codes, Option, Some, None, Result, Ok, Err}
+use Rattle.std.specs.Prelude.{ℕ, List, Option, Some, None, Result, Ok, Err}
 use Rattle.host_core.specs.Answers.{map_ok}
 use Rattle.host_core.specs.Inputs.{input_of}
 use Rattle.host_core.specs.State.{State}
@@ -18,12 +18,12 @@ use Rattle.patch_core.specs.declared.errors.ApplyError.{ApplyError}
 use Rattle.patch_core.specs.declared.errors.ApplyError.TheVariants as failed
 use Rattle.patch_core.specs.declared.errors.PatchError.{PatchError}
 use Rattle.patch_core.specs.declared.errors.PatchError.TheVariants as bad
+use Rattle.conf_store.specs.Stored.{stored}
+use Rattle.conf_store.specs.declared.errors.StoredWhy.{StoredWhy}
 use Rattle.gcu_engine.specs.Asking.{Asking, an_input, a_file, asks, follows, ◌>>>◌}
 use Rattle.gcu_engine.specs.Form.{Form, preview, form}
 use Rattle.gcu_engine.specs.Request as request
 use Rattle.gcu_engine.specs.Request.{Request}
-use Rattle.gcu_engine.specs.Stored.{stored}
-use Rattle.gcu_engine.specs.declared.outcomes.StoredWhy.{StoredWhy}
 use Rattle.gcu_engine.specs.declared.outcomes.Outcome.{Outcome}
 use Rattle.gcu_engine.specs.declared.outcomes.Outcome.TheVariants.{Memory, Usage, NoInput, TooBig, BadJson, BadPatch, PatchFailed, TargetShape, BadStored}
 

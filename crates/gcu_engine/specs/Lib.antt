@@ -5,9 +5,7 @@ pub mod Asking
 pub mod Form
 pub mod Lines
 pub mod Request
-pub mod Stored
 -- what only private clauses cite
 pub mod FormView
 pub mod Preparing
 pub mod Printing
-pub mod ReadStored

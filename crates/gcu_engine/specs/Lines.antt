@@ -6,8 +6,8 @@ use Rattle.patch_core.specs.declared.errors.FailWhy.{FailWhy}
 use Rattle.patch_core.specs.declared.errors.FailWhy.TheVariants.{NoParent, BadIndex, NoTarget, RootRemove, TestFailed, IntoItself, TooLarge}
 use Rattle.patch_core.specs.declared.errors.PatchWhy.{PatchWhy}
 use Rattle.patch_core.specs.declared.errors.PatchWhy.TheVariants.{NotArray, NotObject, NoOp, UnknownOp, NoPath, BadPath, NoValue, BadValue, NoFrom, BadFrom}
-use Rattle.gcu_engine.specs.declared.outcomes.StoredWhy.{StoredWhy}
-use Rattle.gcu_engine.specs.declared.outcomes.StoredWhy.TheVariants as stored
+use Rattle.conf_store.specs.declared.errors.StoredWhy.{StoredWhy}
+use Rattle.conf_store.specs.declared.errors.StoredWhy.TheVariants as stored
 use Rattle.gcu_engine.specs.declared.outcomes.Outcome.{Outcome}
 use Rattle.gcu_engine.specs.declared.outcomes.Outcome.TheVariants.{Done, Memory, Usage, InputFault, DiskFault, PrintFault, NoInput, TooBig, BadJson, BadPatch, PatchFailed, TargetShape, BadStored}
 
@@ -56,6 +56,7 @@ stored_why stored.NoFile = codes "NoFile"
 stored_why stored.BadJson = codes "BadJson"
 stored_why stored.BadKind = codes "BadKind"
 stored_why stored.BadShape = codes "BadShape"
+stored_why (stored.BadStep n) = codes "BadStep " ++ decimal n
 
 -- a text in a line, as a compact JSON text
 abbrev pub quoted : List ℕ → List ℕ

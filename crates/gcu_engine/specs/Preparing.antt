@@ -1,5 +1,5 @@
 -- What the parts of a command give before anything is printed.
-use Rattle.std.specs.Prelude.{◌≡◌, ℕ, List, Contains, Option, Some, None, Result, Ok, Err, IfErr, IfSome, ⊤}
+use Rattle.std.specs.Prelude.{◌≡◌, List, Contains, Option, Some, None, Result, IfErr, IfSome, ⊤}
 use Rattle.host_core.specs.Answers.{Gives}
 use Rattle.host_core.specs.Counts.{Counts, Rose}
 use Rattle.host_core.specs.State.{State}

@@ -9,5 +9,6 @@ mod printing;
 mod run_command;
 mod stored;
 
-pub use outcomes::{Outcome, StoredWhy};
+pub use conf_store::StoredWhy;
+pub use outcomes::Outcome;
 pub use run_command::run;

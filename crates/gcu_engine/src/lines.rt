@@ -2,7 +2,8 @@
 ghost use Rattle.std.specs.Prelude.{◌≡◌, ◌++◌, IfOk, string_bytes, decimal};
 ghost use Rattle.gcu_engine.specs.Lines.{last_line, numbered_line as numbered, refused_line as refused, said as said_text, space, quoted as quoted_text, patch_why, fail_why, stored_why};
 
-use crate::{Outcome, StoredWhy};
+use crate::Outcome;
+use conf_store::StoredWhy;
 use patch_core::{FailWhy, PatchWhy};
 use serde_json::Value;
 use std::alloc::{AllocError, Global};
@@ -70,7 +71,7 @@ fn said(alloc: Global, outcome: &Outcome) -> Result<String, AllocError>
             format!(in alloc; "target shape {place}")
         }
         Outcome::BadStored { why } => {
-            let why = stored_why_name(*why);
+            let why = stored_why_text(alloc, *why)?;
             format!(in alloc; "bad stored {why}")
         }
     }
@@ -122,13 +123,14 @@ fn fail_why_name(why: FailWhy) -> &'static str
     }
 }
 
-fn stored_why_name(why: StoredWhy) -> &'static str
-    ensures { result.now ≡ stored_why why }
+fn stored_why_text(alloc: Global, why: StoredWhy) -> Result<String, AllocError>
+    ensures { IfOk result (λ s. string_bytes s ≡ stored_why why) }
 {
     match why {
-        StoredWhy::NoFile => "NoFile",
-        StoredWhy::BadJson => "BadJson",
-        StoredWhy::BadKind => "BadKind",
-        StoredWhy::BadShape => "BadShape",
+        StoredWhy::NoFile => String::from_str(alloc, "NoFile"),
+        StoredWhy::BadJson => String::from_str(alloc, "BadJson"),
+        StoredWhy::BadKind => String::from_str(alloc, "BadKind"),
+        StoredWhy::BadShape => String::from_str(alloc, "BadShape"),
+        StoredWhy::BadStep(n) => format!(in alloc; "BadStep {n}"),
     }
 }

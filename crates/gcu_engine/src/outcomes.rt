@@ -2,21 +2,9 @@
 ghost use Rattle.std.specs.Prelude.{◌≡◌};
 ghost use Rattle.gcu_engine.specs.Lines.{number};
 
+use conf_store::StoredWhy;
 use host_core::{Memory, Txt};
 use patch_core::{FailWhy, PatchWhy};
-
-/// Why the folder stands for no configuration.
-#[derive(Clone, Copy, Debug, PartialEq, Eq)]
-pub enum StoredWhy {
-    /// There is no `config_db.json`.
-    NoFile,
-    /// It is no JSON text.
-    BadJson,
-    /// A number, true, false or null stands in it.
-    BadKind,
-    /// It isn't a map of tables of entries of fields.
-    BadShape,
-}
 
 /// How a command ended. Its number is the program's exit status, and its last line ends the output.
 #[derive(Debug, Drop)]

@@ -1,3 +1,4 @@
+use Rattle.std.proofs.Common.{refl, ◌∙◌}
 use Rattle.std.proofs.lemmas.Result.{err_from_is_err_and}
 use Rattle.gcu_engine.proofs.Elapsing.{elapses_unchanged}
 use Rattle.gcu_engine.proofs.Finding.{always_refuses, no_patch, target_found}
@@ -24,19 +25,19 @@ returns-clause-cause g c = always_refuses c.patched_config.result (g.H.Host.coun
 -- ---- time
 
 pub returns-in_err-start-clause-time : goal.returns-in_err-start-clause-time
-returns-in_err-start-clause-time g c = rw c.read_stored.ensures.told at c.read_stored.ensures.time
+returns-in_err-start-clause-time g c = c.read_stored.ensures.time
 
 pub returns-in_err-patch-clause-time : goal.returns-in_err-patch-clause-time
 returns-in_err-patch-clause-time g c =
     elapses_unchanged g.H.Host.moment g.H.Host.left_since c.args.host.now c.read_stored.new.host c.input_patch.new.host
-    (g.H.Host.told c.read_stored.new.host) (g.H.Host.told c.args.host.now) c.read_stored.ensures.told c.read_stored.ensures.time
-    (g.H.Host.told c.input_patch.new.host) c.input_patch.ensures.told c.input_patch.ensures.time
+    (g.H.Host.told c.args.host.now) (g.H.Host.told c.args.host.now) refl c.read_stored.ensures.time
+    (g.H.Host.told c.input_patch.new.host) (c.input_patch.ensures.told ∙ c.read_stored.ensures.told) c.input_patch.ensures.time
 
 pub returns-clause-time : goal.returns-clause-time
 returns-clause-time g c =
     elapses_unchanged g.H.Host.moment g.H.Host.left_since c.args.host.now c.read_stored.new.host c.input_patch.new.host
-    (g.H.Host.told c.read_stored.new.host) (g.H.Host.told c.args.host.now) c.read_stored.ensures.told c.read_stored.ensures.time
-    (g.H.Host.told c.input_patch.new.host) c.input_patch.ensures.told c.input_patch.ensures.time
+    (g.H.Host.told c.args.host.now) (g.H.Host.told c.args.host.now) refl c.read_stored.ensures.time
+    (g.H.Host.told c.input_patch.new.host) (c.input_patch.ensures.told ∙ c.read_stored.ensures.told) c.input_patch.ensures.time
 
 pub returns-in_err-patch-clause-goes : goal.returns-in_err-patch-clause-goes
 returns-in_err-patch-clause-goes g c =
