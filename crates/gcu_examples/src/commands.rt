@@ -1,0 +1,80 @@
+//! Whole commands on a host in memory.
+use example_rows::{Fail, Table, items_at, number_at, text_bytes, written_at};
+use gcu_engine::run;
+use host_core::{Faults, MemHost, Names, Sequence, Txt};
+use serde_json::Value;
+use std::alloc::Global;
+
+const CONFIG_FILE: &str = "config_db.json";
+
+const PATCH_FILE: &str = "p.json";
+
+/// A row has the `words` of a command, the stored `config` and the `patch` that is the input `p.json`
+/// where they are there, and the `output` and `status`. `blanks` stand after the patch. `fails` has the
+/// numbers of the calls of the host that fail, counted from 0.
+pub struct Commands;
+
+impl Table for Commands {
+    fn is_as_said(&self, alloc: Global, row: &Value) -> Result<bool, Fail> {
+        let words = words_at(alloc, row)?;
+        let mut host = host_at(alloc, row)?;
+        let outcome = run(alloc, words.items(), &mut host);
+        let same_status = u64::from(outcome.status()) == number_at(row, "status")?;
+        let said = written_at(alloc, row, "output")?;
+        Ok(same_status && host.output() == said.as_slice() && keeps_files(alloc, row, &host)?)
+    }
+}
+
+fn words_at(alloc: Global, row: &Value) -> Result<Names, Fail> {
+    let mut words = Sequence::new(alloc);
+    for word in items_at(row, "words")? {
+        let text = word.as_str().ok_or(Fail::Row)?;
+        words.push(Txt::new(alloc, text)?)?;
+    }
+    Ok(words)
+}
+
+/// The host before the command.
+fn host_at(alloc: Global, row: &Value) -> Result<MemHost, Fail> {
+    let mut inputs = Vec::new(alloc);
+    if row.get("patch").is_some() {
+        inputs.push((Txt::new(alloc, PATCH_FILE)?, input_at(alloc, row)?))?;
+    }
+    let mut files = Vec::new(alloc);
+    if row.get("config").is_some() {
+        let bytes = text_bytes(alloc, row, "config")?;
+        files.push((Txt::new(alloc, CONFIG_FILE)?, bytes))?;
+    }
+    Ok(MemHost::new(alloc, inputs, files, faults_at(alloc, row)?)?)
+}
+
+/// The bytes of the input.
+fn input_at(alloc: Global, row: &Value) -> Result<Vec<u8>, Fail> {
+    let mut bytes = text_bytes(alloc, row, "patch")?;
+    let blanks = row.get("blanks").and_then(Value::as_u64).unwrap_or(0);
+    for _ in 0..blanks {
+        bytes.push(b' ')?;
+    }
+    Ok(bytes)
+}
+
+fn faults_at(alloc: Global, row: &Value) -> Result<Faults, Fail> {
+    let mut at = Sequence::new(alloc);
+    if row.get("fails").is_some() {
+        for number in items_at(row, "fails")? {
+            at.push(number.as_u64().ok_or(Fail::Row)?)?;
+        }
+    }
+    let from = row.get("fails_from").and_then(Value::as_u64);
+    Ok(Faults { at, from })
+}
+
+/// Whether the stored configuration is that from before.
+fn keeps_files(alloc: Global, row: &Value, host: &MemHost) -> Result<bool, Fail> {
+    let stored = host.file(CONFIG_FILE);
+    if row.get("config").is_none() {
+        return Ok(stored.is_none());
+    }
+    let bytes = text_bytes(alloc, row, "config")?;
+    Ok(stored == Some(bytes.as_slice()))
+}
