@@ -1,5 +1,5 @@
 -- What a type accepts and wants in a configuration (RFC 7950, sections 9.9 and 9.12).
-use Rattle.std.specs.Prelude.{◌≡◌, ◌⊎◌, ℕ, List, [], map, Option, Some, slice_get, Contains}
+use Rattle.std.specs.Prelude.{◌≡◌, ◌⊎◌, ℕ, List, [], map, Some, slice_get, Contains}
 use Rattle.std.specs.Option.{option_map_or}
 use Rattle.conf_doc.specs.Pairs.{find}
 use Rattle.conf_doc.specs.declared.configuration.Config.{Config}

@@ -1,5 +1,5 @@
 -- The entries of a configuration whose tables have models: their shapes, and the texts that they hold.
-use Rattle.std.specs.Prelude.{◌≡◌, ℕ, Bool, true, false, List, [], ◌∷◌, map, Option, Some, None, option_map, option_and_then, slice_get, is_some, if◌then◌else◌}
+use Rattle.std.specs.Prelude.{◌≡◌, ℕ, Bool, true, false, List, [], ◌∷◌, Option, Some, None, option_map, option_and_then, slice_get, is_some, if◌then◌else◌}
 use Rattle.std.specs.List.{find, list_any}
 use Rattle.std.specs.Str.{bytes_eq}
 use Rattle.conf_doc.specs.declared.configuration.Config.{Config}
@@ -20,6 +20,10 @@ pub record Row : Type 0 where
   pub table : List ℕ
   pub key : List ℕ
   pub fields : Entry
+
+-- made of its parts
+abbrev pub row_of : List ℕ → List ℕ → Entry → Row
+row_of table key fields = record { table = table; key = key; fields = fields }
 
 -- a table that has a model, with its name
 abbrev pub if_modelled : ModelSet → List ℕ × Table → Option (List ℕ × Table)

@@ -1,5 +1,5 @@
 -- The wants of a configuration: each text that a leafref accepts, by its place, and what it wants.
-use Rattle.std.specs.Prelude.{◌≡◌, ◌⊎◌, ◌<◌, ℕ, List, Option, Some, None, MatchOption}
+use Rattle.std.specs.Prelude.{◌≡◌, ◌⊎◌, ◌<◌, ℕ, List, Option, Some, None, IsSomeAnd}
 use Rattle.std.specs.List.{All, AllPairs, Contains}
 use Rattle.conf_doc.specs.declared.configuration.Config.{Config}
 use Rattle.yang_model.specs.ModelSets.{ModelSet}
@@ -7,20 +7,18 @@ use Rattle.yang_model.specs.declared.shapes.Shape.{Shape}
 use Rattle.yang_types.specs.DataType.{DataType}
 use Rattle.yang_types.specs.declared.types.Target.{Target}
 use Rattle.conf_check.specs.Acceptance.{IsWanted}
+use Rattle.conf_check.specs.declared.want_iter.WantPlace.{WantPlace}
 use Rattle.conf_check.specs.Rows.{Row, row_at, HasShape, typed_text}
-
--- a table, a key and a field by their positions in the configuration, and the number of a part of the key,
--- where there is no field, or of an item of the field
-pub record WantPlace : Type 0 where
-  pub table : ℕ
-  pub key : ℕ
-  pub field : Option ℕ
-  pub item : ℕ
 
 -- a key leaf of a shape and a text that it is to have
 pub record Want : Type 0 where
   pub target : Target
   pub text : List ℕ
+
+-- the text has that want by its type
+abbrev pub IsWantedText : ModelSet → Config → Option (DataType × List ℕ) → Want → Type 0
+IsWantedText models config typed want =
+    IsSomeAnd typed (λ t. (t.1 ≡ want.text) × IsWanted models config t.0 t.1 want.target)
 
 -- the text at that place has that want
 pub record IsWantAt (models : ModelSet) (config : Config) (place : WantPlace) (want : Want) : Type 0 where
@@ -28,9 +26,7 @@ pub record IsWantAt (models : ModelSet) (config : Config) (place : WantPlace) (w
   pub at : row_at models config place.table place.key ≡ Some row
   pub shape : Shape
   pub shaped : HasShape models row shape
-  pub type : DataType
-  pub text : typed_text shape row place.field place.item ≡ Some (type, want.text)
-  pub wanted : IsWanted models config type want.text want.target
+  pub wanted : IsWantedText models config (typed_text shape row place.field place.item) want
 
 -- parts of the key come before fields
 abbrev pub IsFieldBefore : Option ℕ → Option ℕ → Type 0
