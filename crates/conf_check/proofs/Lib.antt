@@ -1,0 +1,14 @@
+mod Belonged
+mod Coming
+mod EntryFaults
+mod FirstFaults
+mod Found
+mod Judged
+mod Keys
+mod Places
+mod RowPlaces
+mod Searches
+mod Shaped
+mod WantPlaces
+mod WantSlots
+mod WantSteps

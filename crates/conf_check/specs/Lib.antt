@@ -1,0 +1,10 @@
+pub mod Acceptance
+pub mod Belongings
+pub mod ConfigTree
+pub mod Faults
+pub mod FirstWants
+pub mod Rows
+pub mod Validity
+pub mod Verdicts
+pub mod WantRuns
+pub mod Wants

@@ -1,0 +1,54 @@
+-- The wants of a configuration: each text that a leafref accepts, by its place, and what it wants.
+use Rattle.std.specs.Prelude.{◌≡◌, ◌⊎◌, ◌<◌, ℕ, List, Option, Some, None, IsSomeAnd}
+use Rattle.std.specs.List.{All, AllPairs, Contains}
+use Rattle.conf_doc.specs.declared.configuration.Config.{Config}
+use Rattle.yang_model.specs.ModelSets.{ModelSet}
+use Rattle.yang_model.specs.declared.shapes.Shape.{Shape}
+use Rattle.yang_types.specs.DataType.{DataType}
+use Rattle.yang_types.specs.declared.types.Target.{Target}
+use Rattle.conf_check.specs.Acceptance.{IsWanted}
+use Rattle.conf_check.specs.declared.want_iter.WantPlace.{WantPlace}
+use Rattle.conf_check.specs.Rows.{Row, row_at, HasShape, typed_text}
+
+-- a key leaf of a shape and a text that it is to have
+pub record Want : Type 0 where
+  pub target : Target
+  pub text : List ℕ
+
+-- the text has that want by its type
+abbrev pub IsWantedText : ModelSet → Config → Option (DataType × List ℕ) → Want → Type 0
+IsWantedText models config typed want =
+    IsSomeAnd typed (λ t. (t.1 ≡ want.text) × IsWanted models config t.0 t.1 want.target)
+
+-- the text at that place has that want
+pub record IsWantAt (models : ModelSet) (config : Config) (place : WantPlace) (want : Want) : Type 0 where
+  pub row : Row
+  pub at : row_at models config place.table place.key ≡ Some row
+  pub shape : Shape
+  pub shaped : HasShape models row shape
+  pub wanted : IsWantedText models config (typed_text shape row place.field place.item) want
+
+-- parts of the key come before fields
+abbrev pub IsFieldBefore : Option ℕ → Option ℕ → Type 0
+IsFieldBefore None None = ⊥
+IsFieldBefore None (Some g) = Unit {0}
+IsFieldBefore (Some f) None = ⊥
+IsFieldBefore (Some f) (Some g) = f < g
+
+-- tables, then keys, then fields, then items
+abbrev pub IsPlaceBefore : WantPlace → WantPlace → Type 0
+IsPlaceBefore a b =
+    (a.table < b.table)
+    ⊎ ((a.table ≡ b.table)
+    × ((a.key < b.key)
+    ⊎ ((a.key ≡ b.key)
+    × (IsFieldBefore a.field b.field
+    ⊎ ((a.field ≡ b.field) × (a.item < b.item))))))
+
+-- the wants of a configuration, each with its place, in the order of the places
+pub record AreWants (models : ModelSet) (config : Config) (wants : List (WantPlace × Want)) : Type 0 where
+  pub each : All (λ w. IsWantAt models config w.0 w.1) wants
+  pub all :
+      (place : WantPlace) (want : Want) → IsWantAt models config place want
+      → Contains wants (place, want)
+  pub order : AllPairs (λ a b. IsPlaceBefore a.0 b.0) wants
