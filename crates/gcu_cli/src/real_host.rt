@@ -75,8 +75,10 @@ impl<R: Files + Print + AllocGlobal + Clone + Drop> Host for RealHost<R> {
     /// folder.
     fn input(&mut self, alloc: Global, path: &str, limit: u64) -> Result<Input, HostError>
         ensures counts { InputMayRise self.old.counts self.new.counts }
-        ensures cause { IsErrOf result call_failed → Rose self.old.counts.input self.new.counts.input }
-        ensures failed { IsErrOf result call_failed → self.new.counts ≡ input_fault self.old.counts }
+        ensures cause { IsErrOf result call_failed
+            → Rose self.old.counts.input self.new.counts.input }
+        ensures failed { IsErrOf result call_failed
+            → self.new.counts ≡ input_fault self.old.counts }
         ensures not_failed { ¬ IsErrOf result call_failed → self.new.counts ≡ self.old.counts }
     {
         let answer = input_bytes(&self.rt, alloc, path, limit);
@@ -89,7 +91,8 @@ impl<R: Files + Print + AllocGlobal + Clone + Drop> Host for RealHost<R> {
     /// The names that are UTF-8. Fails where the system does so.
     fn list(&mut self, alloc: Global) -> Result<Names, HostError>
         ensures counts { DiskMayRise self.old.counts self.new.counts }
-        ensures cause { IsErrOf result call_failed → Rose self.old.counts.disk self.new.counts.disk }
+        ensures cause { IsErrOf result call_failed
+            → Rose self.old.counts.disk self.new.counts.disk }
         ensures failed { IsErrOf result call_failed → self.new.counts ≡ disk_fault self.old.counts }
         ensures not_failed { ¬ IsErrOf result call_failed → self.new.counts ≡ self.old.counts }
     {
@@ -105,7 +108,8 @@ impl<R: Files + Print + AllocGlobal + Clone + Drop> Host for RealHost<R> {
     fn read(&mut self, alloc: Global, name: &str) -> Result<Option<Vec<u8>>, HostError>
         requires { length name.now ≤ longest_file_name }
         ensures counts { DiskMayRise self.old.counts self.new.counts }
-        ensures cause { IsErrOf result call_failed → Rose self.old.counts.disk self.new.counts.disk }
+        ensures cause { IsErrOf result call_failed
+            → Rose self.old.counts.disk self.new.counts.disk }
         ensures failed { IsErrOf result call_failed → self.new.counts ≡ disk_fault self.old.counts }
         ensures not_failed { ¬ IsErrOf result call_failed → self.new.counts ≡ self.old.counts }
     {

@@ -1,12 +1,17 @@
-//! Reading and the words of the command line, over fakes of the system.
+//! Reading, the words of the command line and the host, over fakes of the system and in a real folder.
 use crate::reading::read_input;
-use crate::words::words;
-use host_core::{HostError, Input};
-use std::alloc::Global;
+use crate::real_host::RealHost;
+use crate::words::{words, words_of};
+use host_core::{Host, HostError, Input, Names};
+use std::alloc::{Allocator, Global};
+use std::cell::Cell;
 use std::env::{Env, FillError};
+use std::fmt::Display;
+use std::fs::{File, Metadata, OpenOptions};
 use std::io;
 use std::io::{ErrorKind, Read};
 use std::process::Abort;
+use std::rt::Files;
 use std::test::Fail;
 
 // A file whose reads end as listed: with some bytes, or with an error.
@@ -118,5 +123,213 @@ fn words_are_those_behind_the_name(rt: HostRuntime) -> Result<(), Fail> {
     finds(&rt, alloc, &[b"gcu", b"", "ä".as_bytes()], &["", "ä"])?;
     // with one that is no UTF-8 there are none
     finds(&rt, alloc, &[b"gcu", b"preview", b"\xff"], &[])?;
+    Ok(())
+}
+
+#[test]
+fn without_memory_for_the_words_there_are_none(rt: HostRuntime) {
+    let answer = words_of(rt.alloc(), Err(io::Error::from(ErrorKind::OutOfMemory)));
+    assert!(rt; answer.is_err());
+}
+
+// A system whose calls all fail with an error, some of them with an interruption before.
+#[derive(Clone, Copy)]
+struct Broken<'a> {
+    kind: ErrorKind,
+    interruptions: &'a Cell<u8>,
+}
+
+impl Broken<'_> {
+    fn error(&self) -> io::Error {
+        let left = self.interruptions.get();
+        if left == 0 {
+            return io::Error::from(self.kind);
+        }
+        self.interruptions.set(left - 1);
+        io::Error::from(ErrorKind::Interrupted)
+    }
+}
+
+impl Files for Broken<'_> {
+    type File = File;
+
+    type Dir = &'static [u8];
+
+    fn open_file(&self, _how: &OpenOptions, _path: &str) -> io::Result<File> {
+        Err(self.error())
+    }
+
+    fn open_dir(&self, _path: &str) -> io::Result<&'static [u8]> {
+        Err(self.error())
+    }
+
+    fn metadata(&self, _path: &str) -> io::Result<Metadata> {
+        Err(self.error())
+    }
+
+    fn symlink_metadata(&self, _path: &str) -> io::Result<Metadata> {
+        Err(self.error())
+    }
+
+    fn copy(&self, _from: &str, _to: &str) -> io::Result<u64> {
+        Err(self.error())
+    }
+
+    fn rename(&self, _from: &str, _to: &str) -> io::Result<()> {
+        Err(self.error())
+    }
+
+    fn remove_file(&self, _path: &str) -> io::Result<()> {
+        Err(self.error())
+    }
+
+    fn create_dir(&self, _path: &str) -> io::Result<()> {
+        Err(self.error())
+    }
+
+    fn remove_dir(&self, _path: &str) -> io::Result<()> {
+        Err(self.error())
+    }
+
+    fn remove_dir_all<B: Allocator>(&self, _alloc: B, _path: &str) -> io::Result<()> {
+        Err(self.error())
+    }
+}
+
+impl Print for Broken<'_> {
+    fn print<D: Display + Drop>(&self, _value: D) -> io::Result<()> {
+        Err(self.error())
+    }
+
+    fn println<D: Display + Drop>(&self, _value: D) -> io::Result<()> {
+        Err(self.error())
+    }
+
+    fn write_all(&self, _bytes: &[u8]) -> io::Result<()> {
+        Err(self.error())
+    }
+}
+
+fn name_of_file(file: Result<Option<Vec<u8>>, HostError>) -> &'static str {
+    match file {
+        Ok(None) => "absent",
+        Ok(Some(bytes)) if bytes.as_slice() == b"abcd".as_slice() => "abcd",
+        Ok(Some(_)) => "other bytes",
+        Err(HostError::Failed) => "failed",
+        Err(HostError::Memory) => "memory",
+    }
+}
+
+fn name_of_names(names: Result<Names, HostError>) -> &'static str {
+    match names {
+        Ok(_) => "names",
+        Err(HostError::Failed) => "failed",
+        Err(HostError::Memory) => "memory",
+    }
+}
+
+#[test]
+fn an_error_of_the_system_is_a_missing_file_or_a_failed_call(rt: HostRuntime) {
+    let alloc = rt.alloc();
+    for (kind, interruptions, file, names) in [
+        (ErrorKind::NotFound, 0, "absent", "failed"),
+        (ErrorKind::NotADirectory, 2, "absent", "failed"),
+        (ErrorKind::IsADirectory, 0, "failed", "failed"),
+        (ErrorKind::PermissionDenied, 1, "failed", "failed"),
+        (ErrorKind::StorageFull, 0, "failed", "failed"),
+        (ErrorKind::OutOfMemory, 0, "failed", "memory"),
+    ] {
+        let count = Cell::new(interruptions);
+        let system = Broken {
+            kind,
+            interruptions: &count,
+        };
+        let mut host = RealHost::new((system, alloc));
+        assert_eq!(rt; name_of(host.input(alloc, "p.json", 4)), file);
+        assert_eq!(rt; name_of_file(host.read(alloc, "a")), file);
+        assert_eq!(rt; name_of_names(host.list(alloc)), names);
+    }
+}
+
+#[test]
+fn each_call_that_changes_something_fails_with_the_system(rt: HostRuntime) {
+    let count = Cell::new(0);
+    let system = Broken {
+        kind: ErrorKind::PermissionDenied,
+        interruptions: &count,
+    };
+    let mut host = RealHost::new((system, rt.alloc()));
+    assert!(rt; host.write("a", b"abcd").is_err());
+    assert!(rt; host.sync("a").is_err());
+    assert!(rt; host.rename("a", "b").is_err());
+    assert!(rt; host.remove("a").is_err());
+    assert!(rt; host.settle().is_err());
+    assert!(rt; host.print(b"abcd").is_err());
+    assert!(rt; host.restart("bgp").is_err());
+}
+
+#[test]
+fn names_of_other_folders_are_refused(rt: HostRuntime) {
+    let alloc = rt.alloc();
+    let mut host = RealHost::new(&rt);
+    for name in ["", ".", "..", "/tmp/a", "a/b"] {
+        assert_eq!(rt; name_of_file(host.read(alloc, name)), "failed");
+        assert!(rt; host.write(name, b"abcd").is_err());
+        assert!(rt; host.sync(name).is_err());
+        assert!(rt; host.rename(name, "a").is_err());
+        assert!(rt; host.rename("a", name).is_err());
+        assert!(rt; host.remove(name).is_err());
+    }
+}
+
+#[test]
+fn a_file_of_a_real_folder_is_written_renamed_and_removed(rt: HostRuntime) -> Result<(), Fail> {
+    let alloc = rt.alloc();
+    let mut host = RealHost::new(&rt);
+    host.write("edge.tmp.new", b"abcd")?;
+    host.sync("edge.tmp.new")?;
+    assert_eq!(rt; name_of(host.input(alloc, "edge.tmp.new", 3)), "too big");
+    assert_eq!(rt; name_of(host.input(alloc, "./edge.tmp.new", 4)), "abcd");
+    host.settle()?;
+    host.rename("edge.tmp.new", "edge.json")?;
+    assert_eq!(rt; name_of_file(host.read(alloc, "edge.tmp.new")), "absent");
+    assert_eq!(rt; name_of_file(host.read(alloc, "edge.json")), "abcd");
+    let names = host.list(alloc)?;
+    assert!(rt;
+        names
+            .items()
+            .iter()
+            .any(|name| name.as_str() == "edge.json")
+    );
+    assert!(rt; host.sync("edge.tmp.new").is_err());
+    host.remove("edge.json")?;
+    assert!(rt; host.remove("edge.json").is_err());
+    assert!(rt; host.rename("edge.json", "edge.tmp.new").is_err());
+    Ok(())
+}
+
+#[test]
+fn restarts_are_appended_to_their_log(rt: HostRuntime) -> Result<(), Fail> {
+    let alloc = rt.alloc();
+    let mut host = RealHost::new(&rt);
+    host.restart("bgp")?;
+    host.restart("snmp")?;
+    let log = host.read(alloc, "restarts.log")?;
+    host.remove("restarts.log")?;
+    let lines = log.ok_or("no log")?;
+    assert!(rt; lines.as_slice().ends_with(b"restart bgp\nrestart snmp\n"));
+    Ok(())
+}
+
+#[test]
+fn what_is_no_file_is_a_failed_call(rt: HostRuntime) -> Result<(), Fail> {
+    let alloc = rt.alloc();
+    rt.create_dir("edge_folder")?;
+    let mut host = RealHost::new(&rt);
+    assert_eq!(rt; name_of(host.input(alloc, "edge_folder", 4)), "failed");
+    assert_eq!(rt; name_of_file(host.read(alloc, "edge_folder")), "failed");
+    assert!(rt; host.write("edge_folder", b"abcd").is_err());
+    assert!(rt; host.remove("edge_folder").is_err());
+    rt.remove_dir("edge_folder")?;
     Ok(())
 }
