@@ -15,15 +15,16 @@ abbrev pub keys_of : List ℕ → Config → List (List ℕ)
 keys_of table config = option_map_or (map (λ e. e.0)) (find table config) []
 
 -- some entry of the wanted shape has that text as the wanted part of its key
-pub record IsSatisfied (models : ModelSet) (config : Config) (target : Target) (text : List ℕ) : Type 0 where
+pub record IsSatisfied (models : ModelSet) (config : Config) (target : Target)
+    (text : List ℕ) : Type 0 where
   pub key : List ℕ
   pub there : Contains (keys_of target.table config) key
   pub belongs : Belongs (shapes_of target.table models) key (Some target.shape)
   pub part : slice_get (key_parts key) target.part ≡ Some text
 
 abbrev mutual
-  -- a leafref accepts what its plain type accepts and an entry of the configuration has, and a union
-  -- what some member accepts; other types accept what they accept by themselves
+  -- a leafref accepts what its plain type accepts and an entry of the configuration has, and a
+  -- union what some member accepts; other types accept what they accept by themselves
   pub AcceptsIn : ModelSet → Config → DataType → List ℕ → Type 0
   AcceptsIn models config (leafref target t) s = Accepts t s × IsSatisfied models config target s
   AcceptsIn models config (union ts) s = AcceptsAnyIn models config ts s

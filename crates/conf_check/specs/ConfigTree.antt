@@ -16,23 +16,28 @@ use Rattle.xpath_part.specs.declared.nodes.Node.{Node}
 use Rattle.conf_check.specs.Belongings.{Belongings, shape_at}
 use Rattle.conf_check.specs.Rows.{Row, row_at}
 
--- the levels of the other nodes
+-- the level of the root
 abbrev pub root_level : ℕ
 root_level = 0
 
+-- of the container of a module
 abbrev pub module_level : ℕ
 module_level = 1
 
+-- of the container of a table
 abbrev pub table_level : ℕ
 table_level = 2
 
+-- of an entry
 abbrev pub entry_level : ℕ
 entry_level = 3
 
+-- a node of these numbers
 abbrev pub node : ℕ → ℕ → ℕ → ℕ → ℕ → Node
 node level table key leaf item =
     record { level = level; table = table; key = key; leaf = leaf; item = item }
 
+-- the root
 abbrev pub root_node : Node
 root_node = node root_level 0 0 0 0
 
@@ -44,6 +49,7 @@ module_node m = node module_level m 0 0 0
 abbrev pub table_node : ℕ → Node
 table_node t = node table_level t 0 0 0
 
+-- an entry, by its place in the configuration
 abbrev pub entry_node : ℕ → ℕ → Node
 entry_node t k = node entry_level t k 0 0
 
@@ -51,6 +57,7 @@ entry_node t k = node entry_level t k 0 0
 abbrev pub leaf_node : ℕ → ℕ → ℕ → Node
 leaf_node t k l = node leaf_level t k l 0
 
+-- an item of a leaf-list
 abbrev pub item_node : ℕ → ℕ → ℕ → ℕ → Node
 item_node t k l i = node item_level t k l i
 
@@ -72,6 +79,7 @@ abbrev pub held_default : Option (List ℕ) → Held
 held_default None = absent
 held_default (Some s) = one s
 
+-- a field by its rule
 abbrev pub held_field : FieldRule → Option Value → Held
 held_field rule None = held_default rule.default
 held_field rule (Some value) = held_value rule.list value
@@ -80,9 +88,11 @@ held_field rule (Some value) = held_value rule.list value
 abbrev pub leaf_names : Shape → List (List ℕ)
 leaf_names shape = map (λ k. k.name) shape.keys ++ map (λ f. f.name) shape.fields
 
+-- a key leaf is there with its part of the key
 abbrev pub held_part : Row → ℕ → Held
 held_part row l = held_default (slice_get (key_parts row.key) l)
 
+-- the leaf at a place
 abbrev pub held_at : Row → Shape → ℕ → Held
 held_at row shape l =
     if nat_lt l (length shape.keys) then held_part row l
@@ -94,6 +104,7 @@ abbrev pub counted_from : ℕ → ℕ → List ℕ
 counted_from n zero = []
 counted_from n (suc k) = n ∷ counted_from (suc n) k
 
+-- the nodes of a leaf or a leaf-list
 abbrev pub held_nodes : ℕ → ℕ → ℕ → Held → List Node
 held_nodes t k l absent = []
 held_nodes t k l (one s) = leaf_node t k l ∷ []
@@ -123,7 +134,7 @@ module _ (models : ModelSet) (config : Config) (belongings : Belongings) where
   abbrev pub is_shape_named : List ℕ → Option (Row × Shape) → Bool
   is_shape_named name row = option_map_or (λ r. bytes_eq name r.1.name) row false
 
-  -- the entries of a table whose shape has the name, from a place on, as many as asked for are looked at
+  -- the entries of a table whose shape has the name, among so many from a place on
   abbrev pub entries_from : ℕ → List ℕ → ℕ → ℕ → List Node
   entries_from t name k zero = []
   entries_from t name k (suc n) =

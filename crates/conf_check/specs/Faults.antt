@@ -29,10 +29,12 @@ IsFirstFault P answer =
     MatchOption answer ((r : Rule) (n : ℕ) → ¬ P r n)
     (λ f. P f.rule f.field × ((r : Rule) (n : ℕ) → IsRuleBefore r n f.rule f.field → ¬ P r n))
 
+-- a part of the key that its leaf refuses
 abbrev pub IsRefusedPart : ModelSet → Config → Shape → List ℕ → ℕ → Type 0
 IsRefusedPart models config shape key i =
     IsSomeAnd (typed_part shape key i) (IsRefused models config)
 
+-- a mandatory leaf that is absent, by its number
 abbrev pub IsMissingAt : Shape → Entry → ℕ → Type 0
 IsMissingAt shape fields i = IsSomeAnd (slice_get shape.fields i) (IsMissing fields)
 

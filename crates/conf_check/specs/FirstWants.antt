@@ -47,11 +47,12 @@ abbrev pub IsWantedItem : ModelSet → Config → DataType → List (List ℕ) �
 IsWantedItem models config type texts i =
     IsWantedText models config (option_map (λ s. (type, s)) (slice_get texts i))
 
--- an item of a field has
+-- an item of a field with its type
 abbrev pub item_of : Shape → List ℕ × Value → ℕ → Option (DataType × List ℕ)
 item_of shape field i =
     option_and_then (λ ts. option_map (λ s. (ts.0, s)) (slice_get ts.1 i)) (texts_of shape field)
 
+-- an item of a field has a want
 abbrev pub IsWantedItemOf : ModelSet → Config → Shape → List ℕ → Value → ℕ → Want → Type 0
 IsWantedItemOf models config shape name value i =
     IsWantedText models config (item_of shape (name, value) i)
@@ -70,6 +71,7 @@ IsWantedSlot models config shape fields field i =
 abbrev pub IsSlotFrom : ℕ → ℕ → ℕ → ℕ → Type 0
 IsSlotFrom field item f i = (field < f) ⊎ ((field ≡ f) × (item ≤ i))
 
+-- the first stands before the second
 abbrev pub IsSlotBefore : ℕ → ℕ → ℕ → ℕ → Type 0
 IsSlotBefore f i g j = (f < g) ⊎ ((f ≡ g) × (i < j))
 
@@ -77,7 +79,8 @@ IsSlotBefore f i g j = (f < g) ⊎ ((f ≡ g) × (i < j))
 abbrev pub IsFirstInFields : ModelSet → Config → Shape → Entry → ℕ → ℕ → Option FieldWant → Type 0
 IsFirstInFields models config shape fields from item answer =
     MatchOption answer
-    ((f i : ℕ) (w : Want) → IsSlotFrom from item f i → ¬ IsWantedSlot models config shape fields f i w)
+    ((f i : ℕ) (w : Want) → IsSlotFrom from item f i
+    → ¬ IsWantedSlot models config shape fields f i w)
     (λ a. IsSlotFrom from item a.field a.item
     × IsWantedSlot models config shape fields a.field a.item (want_of a.want)
     × ((f i : ℕ) (w : Want) → IsSlotFrom from item f i → IsSlotBefore f i a.field a.item
@@ -102,7 +105,8 @@ IsWantedIn models config shape row field i =
     IsWantedText models config (typed_text shape row field i)
 
 -- a text of an entry has a want
-pub record IsWantedAt (models : ModelSet) (config : Config) (row : Row) (field : Option ℕ) (i : ℕ) (w : Want) : Type 0 where
+pub record IsWantedAt (models : ModelSet) (config : Config) (row : Row) (field : Option ℕ)
+    (i : ℕ) (w : Want) : Type 0 where
   pub shape : Shape
   pub shaped : HasShape models row shape
   pub wanted : IsWantedIn models config shape row field i w

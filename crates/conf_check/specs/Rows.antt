@@ -1,4 +1,4 @@
--- The entries of a configuration whose tables have models: their shapes, and the texts that they hold.
+-- The entries of tables that have models: their shapes, and the texts that they hold.
 use Rattle.std.specs.Prelude.{◌≡◌, ℕ, Bool, true, false, List, [], ◌∷◌, Option, Some, None, option_map, option_and_then, slice_get, is_some, if◌then◌else◌}
 use Rattle.std.specs.List.{find, list_any}
 use Rattle.std.specs.Str.{bytes_eq}
@@ -29,7 +29,7 @@ row_of table key fields = record { table = table; key = key; fields = fields }
 abbrev pub if_modelled : ModelSet → List ℕ × Table → Option (List ℕ × Table)
 if_modelled models p = if is_some (table_named p.0 models) then Some p else None
 
--- the entry at a place of a table that has a model; places are counted from 0 in the order of the names
+-- the entry at a place of a table that has a model; places count from 0 in the order of names
 abbrev pub row_at : ModelSet → Config → ℕ → ℕ → Option Row
 row_at models config table key =
     option_and_then
@@ -71,6 +71,7 @@ texts_by_kind true (Text t) = None
 abbrev pub typed_texts : FieldRule → Value → Option (DataType × List (List ℕ))
 typed_texts rule value = option_map (λ ts. (data_type rule.ty, ts)) (texts_by_kind rule.list value)
 
+-- of a field with its name
 abbrev pub texts_of : Shape → List ℕ × Value → Option (DataType × List (List ℕ))
 texts_of shape field = option_and_then (λ rule. typed_texts rule field.1) (rule_of field.0 shape)
 

@@ -53,7 +53,7 @@ HasEqualItems shape field = IsSomeAnd (texts_of shape field) (λ ts. AreSomeEqua
 abbrev pub IsMissing : Entry → FieldRule → Type 0
 IsMissing fields rule = (rule.mandatory ≡ true) × (find rule.name fields ≡ None)
 
--- where a must is tested: at the entry, or at its leaf where that is there, by its value or its default
+-- where a must is tested: at the entry, or at its leaf where that is there, if by its default
 abbrev pub context_of : NodeTree → Node → Option (List ℕ) → Option Node
 context_of tree entry None = Some entry
 context_of tree entry (Some leaf) = slice_get (tree.children entry leaf) 0
@@ -86,10 +86,13 @@ BreaksShape models config t k row shape MissingField n =
 BreaksShape models config t k row shape Must n =
     IsSomeAnd (slice_get shape.musts n) (IsFalse models config t k)
 
--- an entry that belongs to no shape breaks that rule alone, any other entry what rules of its shape it may
-pub data Breaks (models : ModelSet) (config : Config) (t k : ℕ) (row : Row) (rule : Rule) (n : ℕ) : Type 0 where
+-- an entry of no shape breaks that rule alone, any other entry what rules of its shape it may
+pub data Breaks (models : ModelSet) (config : Config) (t k : ℕ) (row : Row) (rule : Rule)
+    (n : ℕ) : Type 0 where
   no_shape : HasNoShape models row → rule ≡ KeyShape → n ≡ 0 → Breaks models config t k row rule n
-  of_shape : (shape : Shape) → HasShape models row shape → BreaksShape models config t k row shape rule n → Breaks models config t k row rule n
+  of_shape :
+      (shape : Shape) → HasShape models row shape → BreaksShape models config t k row shape rule n
+      → Breaks models config t k row rule n
 
 -- the numbers of the rules
 abbrev pub rule_number : Rule → ℕ
@@ -120,7 +123,7 @@ pub record IsBreach (models : ModelSet) (config : Config) (b : Breach) : Type 0 
   pub at : row_at models config b.table b.key ≡ Some row
   pub breaks : Breaks models config b.table b.key row b.rule b.field
 
--- the rules of an entry are tried one after another, but for those of a field, which are tried field by field
+-- the rules of an entry are tried one after another, those of a field field by field
 abbrev pub stage : Rule → ℕ
 stage KeyShape = 0
 stage KeyReference = 1
@@ -148,7 +151,8 @@ IsBreachBefore a b =
     ⊎ ((a.key ≡ b.key) × IsRuleBefore a.rule a.field b.rule b.field)))
 
 -- all violations of a configuration, in order
-pub record AreViolations (models : ModelSet) (config : Config) (breaches : List Breach) : Type 0 where
+pub record AreViolations (models : ModelSet) (config : Config)
+    (breaches : List Breach) : Type 0 where
   pub each : All (IsBreach models config) breaches
   pub all : (b : Breach) → IsBreach models config b → Contains breaches b
   pub order : AllPairs IsBreachBefore breaches

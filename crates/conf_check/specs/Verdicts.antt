@@ -17,7 +17,8 @@ pub record IsMet (models : ModelSet) (target : Target) (text key : List ℕ) : T
   pub belongs : Belongs (shapes_of target.table models) key (Some target.shape)
 
 -- some key of the table is so
-pub record HasPart (models : ModelSet) (table : Table) (target : Target) (text : List ℕ) : Type 0 where
+pub record HasPart (models : ModelSet) (table : Table) (target : Target)
+    (text : List ℕ) : Type 0 where
   pub key : List ℕ
   pub there : Contains (map (λ e. e.0) table) key
   pub met : IsMet models target text key

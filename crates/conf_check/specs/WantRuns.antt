@@ -14,7 +14,8 @@ abbrev pub after : WantPlace → WantPlace
 after p = record { table = p.table; key = p.key; field = p.field; item = p.item + 1 }
 
 -- the first want from the place on is handed out, and what comes next is behind it
-pub record GivesNextWant (s : WantIter) (answer : Option (WantPlace × Want)) (t : WantIter) : Type 0 where
+pub record GivesNextWant (s : WantIter) (answer : Option (WantPlace × Want))
+    (t : WantIter) : Type 0 where
   pub models : t.models.now ≡ s.models.now
   pub config : t.config.now ≡ s.config.now
   pub first : IsFirstWant s.models.now s.config.now s.from answer

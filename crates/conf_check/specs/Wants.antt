@@ -21,7 +21,8 @@ IsWantedText models config typed want =
     IsSomeAnd typed (λ t. (t.1 ≡ want.text) × IsWanted models config t.0 t.1 want.target)
 
 -- the text at that place has that want
-pub record IsWantAt (models : ModelSet) (config : Config) (place : WantPlace) (want : Want) : Type 0 where
+pub record IsWantAt (models : ModelSet) (config : Config) (place : WantPlace)
+    (want : Want) : Type 0 where
   pub row : Row
   pub at : row_at models config place.table place.key ≡ Some row
   pub shape : Shape
@@ -46,7 +47,8 @@ IsPlaceBefore a b =
     ⊎ ((a.field ≡ b.field) × (a.item < b.item))))))
 
 -- the wants of a configuration, each with its place, in the order of the places
-pub record AreWants (models : ModelSet) (config : Config) (wants : List (WantPlace × Want)) : Type 0 where
+pub record AreWants (models : ModelSet) (config : Config)
+    (wants : List (WantPlace × Want)) : Type 0 where
   pub each : All (λ w. IsWantAt models config w.0 w.1) wants
   pub all :
       (place : WantPlace) (want : Want) → IsWantAt models config place want

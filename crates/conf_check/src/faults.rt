@@ -1,4 +1,4 @@
-//! What is wrong with the key and the fields of an entry: the first rule that they break, and where.
+//! What is wrong with the key and the fields of an entry: the first rule that they break.
 ghost use Rattle.std.specs.Prelude.{◌↔◌, IsTrue, Any, Contains};
 ghost use Rattle.conf_check.specs.Faults.{
   IsFirst,
@@ -131,7 +131,8 @@ fn first_of_field(
     name: &str,
     value: &Value,
 ) -> Option<Rule>
-    ensures { IsFirstRule (FieldBreaks models.now config.now shape.now (name.now, value.now)) result }
+    ensures { let Breaks = FieldBreaks models.now config.now shape.now in
+        IsFirstRule (Breaks (name.now, value.now)) result }
 {
     match rule_of_field(shape, name) {
         None => Some(Rule::UnknownField),
