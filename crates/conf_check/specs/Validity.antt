@@ -58,6 +58,7 @@ abbrev pub context_of : NodeTree → Node → Option (List ℕ) → Option Node
 context_of tree entry None = Some entry
 context_of tree entry (Some leaf) = slice_get (tree.children entry leaf) 0
 
+-- the must is false over the nodes of a tree, where it is tested
 abbrev pub IsFalseIn : NodeTree → Node → MustRule → Type 0
 IsFalseIn tree entry must =
     IsSomeAnd (context_of tree entry must.leaf) (λ n. truth tree (expression must.expr) n ≡ false)

@@ -23,6 +23,7 @@ pub record HasPart (models : ModelSet) (table : Table) (target : Target)
   pub there : Contains (map (λ e. e.0) table) key
   pub met : IsMet models target text key
 
+-- whether a verdict is that the text is accepted
 abbrev pub is_accepted : Verdict → Bool
 is_accepted Refused = false
 is_accepted Accepted = true
@@ -34,10 +35,12 @@ AgreesWith IsAccepted Wants Refused = ¬ IsAccepted
 AgreesWith IsAccepted Wants Accepted = IsAccepted × ((r : Target) → ¬ Wants r)
 AgreesWith IsAccepted Wants (Wanted r) = IsAccepted × Wants r.now
 
+-- the verdict of a type on a text
 abbrev pub IsVerdict : ModelSet → Config → DataType → List ℕ → Verdict → Type 0
 IsVerdict models config t s =
     AgreesWith (AcceptsIn models config t s) (IsWanted models config t s)
 
+-- the verdict of several types, of which some member is to accept
 abbrev pub IsVerdictOfAny : ModelSet → Config → DataTypes → List ℕ → Verdict → Type 0
 IsVerdictOfAny models config ts s =
     AgreesWith (AcceptsAnyIn models config ts s) (IsFirstWanted models config ts s)

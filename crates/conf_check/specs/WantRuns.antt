@@ -37,9 +37,10 @@ pub record AreSmall (p : WantPlace) : Type 0 where
 abbrev pub base : ℕ
 base = 2 ^ 64 + 1
 
--- the places before one, and those that may come from it on
+-- how many places stand before one
 abbrev pub place_number : WantPlace → ℕ
 place_number p = ((p.table * base + p.key) * base + field_number p.field) * base + p.item
 
+-- how many places may come from one on
 abbrev pub places_left : WantPlace → ℕ
 places_left p = base * base * base * base - place_number p
