@@ -1,0 +1,6 @@
+pub mod Choices
+pub mod Entries
+pub mod FaultLists
+pub mod FileSteps
+pub mod Given
+pub mod Steps

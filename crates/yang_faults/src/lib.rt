@@ -1,0 +1,15 @@
+//! What is wrong with the statements of YANG texts (RFC 7950, in a profile): the least of all faults.
+#![tactic(auto)]
+
+mod duplicates;
+mod fields;
+mod files;
+mod forms;
+mod keys;
+mod kinds;
+mod name_sets;
+mod own;
+mod rows;
+mod scopes;
+mod sentences;
+mod walks;
