@@ -16,23 +16,24 @@ any_mapped p f [] = refl
 any_mapped p f (x ∷ xs) = ap (λ b. p (f x) || b) (any_mapped p f xs)
 
 -- the faults in a block are those of its statements
-pub block_faults-flat : (knows : List ℕ → Bool) (settle : Kind → Declaration → Kind) (file : ℕ) (ds : List Declaration) (kind : Kind)
-    → block_faults knows settle file (block_of ds) kind ≡ flat_map (below_faults knows settle file kind) ds
-block_faults-flat knows settle file [] kind = refl
-block_faults-flat knows settle file (d ∷ ds) kind = ap (λ fs. below_faults knows settle file kind d ++ fs) (block_faults-flat knows settle file ds kind)
-
--- five lists of faults, one after another
-pub least_of-five : (old a b c d e : Option Fault) (v w x y z : List Fault)
-    → a ≡ least_of old v → b ≡ least_of a w → c ≡ least_of b x → d ≡ least_of c y → e ≡ least_of d z → e ≡ least_of old (v ++ (w ++ (x ++ (y ++ z))))
-least_of-five old a b c d e v w x y z p q r s t =
-    t
-    ∙ ap (λ o. least_of o z) (s ∙ ap (λ o. least_of o y) (r ∙ ap (λ o. least_of o x) (q ∙ ap (λ o. least_of o w) p)))
-    ∙ sym (fold-append lesser old v (w ++ (x ++ (y ++ z))) ∙ fold-append lesser (least_of old v) w (x ++ (y ++ z))
-    ∙ fold-append lesser (least_of (least_of old v) w) x (y ++ z) ∙ fold-append lesser (least_of (least_of (least_of old v) w) x) y z)
+pub block_faults-flat : (knows : List ℕ → Bool) (settle : Kind → Declaration → Kind) (named : Kind → Declaration → List Fault) (file : ℕ) (ds : List Declaration) (kind : Kind)
+    → block_faults knows settle named file (block_of ds) kind ≡ flat_map (below_faults knows settle named file kind) ds
+block_faults-flat knows settle named file [] kind = refl
+block_faults-flat knows settle named file (d ∷ ds) kind = ap (λ fs. below_faults knows settle named file kind d ++ fs) (block_faults-flat knows settle named file ds kind)
 
 -- two lists of faults, one after another
 pub least_of-two : (old a b : Option Fault) (x y : List Fault) → a ≡ least_of old x → b ≡ least_of a y → b ≡ least_of old (x ++ y)
 least_of-two old a b x y p q = q ∙ ap (λ o. least_of o y) p ∙ sym (fold-append lesser old x y)
+
+-- six lists of faults, one after another
+pub least_of-six : (old a b c d e f : Option Fault) (u v w x y z : List Fault)
+    → a ≡ least_of old u → b ≡ least_of a v → c ≡ least_of b w → d ≡ least_of c x → e ≡ least_of d y → f ≡ least_of e z → f ≡ least_of old (u ++ (v ++ (w ++ (x ++ (y ++ z)))))
+least_of-six old a b c d e f u v w x y z p q r s t last =
+    least_of-two old a f u (v ++ (w ++ (x ++ (y ++ z)))) p
+    (least_of-two a b f v (w ++ (x ++ (y ++ z))) q
+    (least_of-two b c f w (x ++ (y ++ z)) r
+    (least_of-two c d f x (y ++ z) s
+    (least_of-two d e f y z t last))))
 
 -- a statement weighs no more than the list it stands in
 pub weight-at : (ss : List Statement) (i : ℕ) (s : Statement) → i < length ss → s ≡ get_or ss i s → weight (declaration s) ≤ total_weight (map declaration ss)

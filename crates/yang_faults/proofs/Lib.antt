@@ -3,4 +3,5 @@ pub mod Entries
 pub mod FaultLists
 pub mod FileSteps
 pub mod Given
+pub mod ModuleSteps
 pub mod Steps

@@ -1,4 +1,5 @@
 -- What public clauses cite.
+pub mod AllFaults
 pub mod Duplicates
 pub mod Fields
 pub mod Files
@@ -7,6 +8,8 @@ pub mod Keys
 pub mod Own
 pub mod Rows
 pub mod Sentences
+pub mod Tests
+pub mod Types
 pub mod Walks
 -- What only private clauses cite.
 pub mod Entries

@@ -49,11 +49,13 @@ own_faults knows file TableList d = list_faults file (block d)
 own_faults knows file FixedContainer d = flat_map (field_faults file []) (block d)
 own_faults knows file _ d = []
 
--- all sentences on a statement of a kind
-abbrev pub sentence_faults : (List ℕ → Bool) → ℕ → Kind → Declaration → List Fault
-sentence_faults knows file kind d =
+-- all sentences on a statement of a kind; named says what is wrong by what names stand for
+abbrev pub sentence_faults : (List ℕ → Bool) → (Kind → Declaration → List Fault) → ℕ → Kind
+    → Declaration → List Fault
+sentence_faults knows named file kind d =
     bad_argument file kind (argument d) (line d)
     ++ (repeated_in file kind (block d)
     ++ (missing_in file kind (line d) (block d)
     ++ (duplicates_in file kind (block d)
-    ++ own_faults knows file kind d)))
+    ++ (own_faults knows file kind d
+    ++ named kind d))))

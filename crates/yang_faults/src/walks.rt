@@ -1,10 +1,11 @@
 //! The walk over a statement and all that stands in it, for the faults of the table of statements.
-ghost use Rattle.std.specs.Prelude.{◌≡◌, map, OnOk};
+ghost use Rattle.std.specs.Prelude.{◌≡◌, OnOk};
 ghost use Rattle.yang_text.specs.Declarations.{block_of};
 ghost use Rattle.yang_text.specs.Statements.{declaration};
 ghost use Rattle.yang_scope.specs.Faults.{least_of};
 ghost use Rattle.yang_faults.specs.Sentences.{bad_argument};
 ghost use Rattle.yang_faults.specs.Own.{sentence_faults};
+ghost use Rattle.yang_faults.specs.Tests.{Notes};
 ghost use Rattle.yang_faults.specs.Walks.{statement_faults, block_faults, below_faults};
 
 use crate::duplicates::note_duplicates_in;
@@ -39,8 +40,9 @@ fn note_sentences<S: Scope>(
     kind: Kind,
     statement: &Statement,
 ) -> Result<(), Memory>
-    ensures { OnOk result (least.new ≡ least_of least.old
-        (sentence_faults (S.knows scope.now) file kind (declaration statement.now))) }
+    ensures { OnOk result (Notes least.old least.new (λ tests.
+        sentence_faults (S.knows scope.now) (S.named scope.now tests) file kind
+        (declaration statement.now))) }
 {
     let block = statement.block.items();
     note_argument(least, file, kind, statement);
@@ -48,6 +50,7 @@ fn note_sentences<S: Scope>(
     note_missing(least, file, kind, statement.line, block);
     note_duplicates_in(alloc, least, file, kind, block)?;
     note_own(alloc, least, scope, file, kind, statement)?;
+    scope.note_named(alloc, least, kind, statement)?;
     Ok(())
 }
 
@@ -61,8 +64,8 @@ pub(crate) fn note_statement<S: Scope>(
     kind: Kind,
     statement: &Statement,
 ) -> Result<(), Memory>
-    ensures { OnOk result (least.new ≡ least_of least.old
-        (statement_faults (S.knows scope.now) (S.settles scope.now) file
+    ensures { OnOk result (Notes least.old least.new (λ tests.
+        statement_faults (S.knows scope.now) (S.settles scope.now) (S.named scope.now tests) file
         (declaration statement.now) kind)) }
 {
     note_sentences(alloc, least, scope, file, kind, statement)?;
@@ -80,8 +83,9 @@ fn note_block<S: Scope>(
     kind: Kind,
     block: &Statements,
 ) -> Result<(), Memory>
-    ensures { OnOk result (least.new ≡ least_of least.old
-        (block_faults (S.knows scope.now) (S.settles scope.now) file (block_of block.now) kind)) }
+    ensures { OnOk result (Notes least.old least.new (λ tests.
+        block_faults (S.knows scope.now) (S.settles scope.now) (S.named scope.now tests) file
+        (block_of block.now) kind)) }
 {
     for statement in block.items() {
         note_below(alloc, least, scope, file, kind, statement)?;
@@ -99,8 +103,8 @@ fn note_below<S: Scope>(
     kind: Kind,
     statement: &Statement,
 ) -> Result<(), Memory>
-    ensures { OnOk result (least.new ≡ least_of least.old
-        (below_faults (S.knows scope.now) (S.settles scope.now) file kind
+    ensures { OnOk result (Notes least.old least.new (λ tests.
+        below_faults (S.knows scope.now) (S.settles scope.now) (S.named scope.now tests) file kind
         (declaration statement.now))) }
 {
     match kind_below(kind, statement.keyword.as_str()) {
