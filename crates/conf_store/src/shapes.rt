@@ -1,10 +1,18 @@
 //! Whether trees are of a configuration's shape, told without memory.
-ghost use Rattle.std.specs.Prelude.{◌≡◌, map};
+ghost use Rattle.std.specs.Prelude.{◌≡◌, is_ok, map};
 ghost use Rattle.std.specs.List.{list_all};
+ghost use Rattle.conf_doc.specs.Shaping.{configuration};
 ghost use Rattle.conf_doc.specs.Trees.{document};
 ghost use Rattle.conf_store.specs.Shapes.{is_named, is_text};
 
 use conf_doc::{Config, Entry, Items, Members, Table, Tree, Value};
+
+/// Whether a tree is that of a configuration, which takes no memory to tell.
+pub fn is_configuration(tree: &Tree) -> bool
+    ensures { result ≡ is_ok (configuration (document tree.now)) }
+{
+    Config::is_shaped(tree)
+}
 
 /// What a tree may be the tree of.
 pub(crate) trait Shaped {

@@ -9,3 +9,4 @@ pub mod Request
 pub mod FormView
 pub mod Preparing
 pub mod Printing
+pub mod Trees
