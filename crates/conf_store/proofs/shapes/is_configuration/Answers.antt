@@ -1,7 +1,11 @@
-use Rattle.std.proofs.Common.{◌∙◌}
+use Rattle.std.proofs.Common.{◌≡◌, ◌∙◌, sym, true}
 use Rattle.conf_doc.specs.Trees.{document}
-use Rattle.conf_store.proofs.Shaping.{ok_config}
+use Rattle.conf_store.proofs.Shaping.{ok_config, tree_shaped}
+use Rattle.conf_store.specs.Shapes.{is_config}
 use Rattle.conf_store.proofs.shapes.is_configuration.Goals as goal
 
-pub returns : goal.returns
-returns c = c.is_shaped.ensures ∙ ok_config (document c.args.tree.now)
+pub returns-clause-tells : goal.returns-clause-tells
+returns-clause-tells c = c.is_shaped.ensures ∙ ok_config (document c.args.tree.now)
+
+pub returns-clause-same : goal.returns-clause-same
+returns-clause-same c yes = tree_shaped (document c.args.tree.now) (sym c.is_shaped.ensures ∙ yes)

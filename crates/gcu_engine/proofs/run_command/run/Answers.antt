@@ -1,6 +1,7 @@
 use Rattle.std.proofs.Common.{sym, ◌++◌}
-use Rattle.conf_doc.specs.Texts.{file_text}
+use Rattle.conf_doc.specs.Trees.{document}
 use Rattle.gcu_engine.specs.Lines.{last_line}
+use Rattle.gcu_engine.specs.Printing.{text_in_lines}
 use Rattle.gcu_engine.proofs.Elapsing.{command_leaves, command_leaves_behind}
 use Rattle.gcu_engine.proofs.Answering.{said_answers, no_form_says, preview_says, preview_refuses, refused_cause}
 use Rattle.gcu_engine.specs.declared.outcomes.Outcome.TheVariants.{Usage, Done}
@@ -17,8 +18,8 @@ returns-in-Unknown-clause-answers g c =
 pub returns-in-Ok-clause-answers : goal.returns-in-Ok-clause-answers
 returns-in-Ok-clause-answers g c =
     said_answers c.args.words.now (g.H.Host.told c.args.host.now) (g.H.Host.told c.show.new.host) (g.H.Host.counts c.args.host.now) (g.H.Host.counts c.preview.new.host) (g.H.Host.counts c.show.new.host)
-    Done (file_text c.in-Ok.config ++ last_line Done) c.show.result (rw c.in-Ok.ensures.told at c.show.ensures.said) c.show.ensures.counts tt
-    (preview_says c.args.words.now _ (g.H.Host.told c.args.host.now) c.in-Ok.config (sym c.in-Preview.ensures) c.in-Ok.ensures.answer)
+    Done (text_in_lines (document c.in-Ok.tree) ++ last_line Done) c.show.result (rw c.in-Ok.ensures.told at c.show.ensures.said) c.show.ensures.counts tt
+    (preview_says c.args.words.now _ (g.H.Host.told c.args.host.now) c.in-Ok.tree (sym c.in-Preview.ensures) c.in-Ok.ensures.answer)
 
 -- a refused preview
 pub returns-in-Err-clause-answers : goal.returns-in-Err-clause-answers
