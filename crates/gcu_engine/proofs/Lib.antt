@@ -1,3 +1,4 @@
 pub mod Answering
 pub mod Elapsing
 pub mod Finding
+pub mod TreeTexts

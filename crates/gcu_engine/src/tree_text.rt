@@ -41,7 +41,8 @@ fn write_items(items: &Items, out: &mut Pretty) -> Result<(), AllocError>
     for i in 0..items.len() {
         write_tree(items.at(i), out)?;
     }
-    out.token(Token::EndArray)
+    out.token(Token::EndArray)?;
+    Ok(())
 }
 
 #[cycle(writing)]
@@ -53,5 +54,6 @@ fn write_members(members: &Members, out: &mut Pretty) -> Result<(), AllocError>
         out.token(Token::Key(members.name_at(i)))?;
         write_tree(members.at(i), out)?;
     }
-    out.token(Token::EndObject)
+    out.token(Token::EndObject)?;
+    Ok(())
 }

@@ -8,4 +8,4 @@ pub returns-clause-tells : goal.returns-clause-tells
 returns-clause-tells c = c.is_shaped.ensures ∙ ok_config (document c.args.tree.now)
 
 pub returns-clause-same : goal.returns-clause-same
-returns-clause-same c yes = tree_shaped (document c.args.tree.now) (sym c.is_shaped.ensures ∙ yes)
+returns-clause-same c shaped = tree_shaped (document c.args.tree.now) (sym c.is_shaped.ensures ∙ shaped)
