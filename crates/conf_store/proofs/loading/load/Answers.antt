@@ -3,7 +3,7 @@ use Rattle.std.proofs.lemmas.Result.{err_from_is_err_and}
 use Rattle.conf_doc.specs.Trees.{document}
 use Rattle.conf_store.specs.Files.{step_names}
 use Rattle.conf_store.specs.Folds.{StandsFor}
-use Rattle.conf_store.proofs.Finds.{loads, loads_no_list, loads_not, loads_shape_not, ok_of}
+use Rattle.conf_store.proofs.Finds.{loads, loads_not, loads_shape_not, ok_of}
 use Rattle.conf_store.proofs.loading.load.Goals as goal
 
 -- there is no such document

@@ -1,7 +1,6 @@
-use Rattle.std.proofs.Common.{◌≡◌, ◌∙◌, sym, true}
+use Rattle.std.proofs.Common.{◌∙◌, sym}
 use Rattle.conf_doc.specs.Trees.{document}
 use Rattle.conf_store.proofs.Shaping.{ok_config, tree_shaped}
-use Rattle.conf_store.specs.Shapes.{is_config}
 use Rattle.conf_store.proofs.shapes.is_configuration.Goals as goal
 
 pub returns-clause-tells : goal.returns-clause-tells

@@ -1,4 +1,4 @@
-use Rattle.std.proofs.Common.{◌≡◌, None, Some, IfSome, refl, subst}
+use Rattle.std.proofs.Common.{None, Some, IfSome, refl, subst}
 use Rattle.std.proofs.lemmas.Result.{err_from_is_err_and}
 use Rattle.host_core.specs.Answers.{Gives}
 use Rattle.conf_doc.specs.Trees.{document}

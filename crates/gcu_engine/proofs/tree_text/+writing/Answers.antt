@@ -35,8 +35,8 @@ write_members-loop-i-preserved t c =
     let d = document c.at.result.now in
     let more = take_more c.args.members.now c.loop-i.i (name, d) (member_at c.args.members.now c.loop-i.i name d c.name_at.ensures c.at.ensures) in
     let written =
-        c.in_ok-write_tree.ensures ∙ ap (λ ts. ts ++ document_tokens d) c.in_ok-token-2.ensures.ok
-        ∙ append_assoc c.loop-i.out (key name ∷ []) (document_tokens d) in
+    c.in_ok-write_tree.ensures ∙ ap (λ ts. ts ++ document_tokens d) c.in_ok-token-2.ensures.ok
+    ∙ append_assoc c.loop-i.out (key name ∷ []) (document_tokens d) in
     member_written itself _ _ (name, d) _ _ _ more c.loop-i.invariant written
 
 pub write_members-returns : goal.write_members-returns
