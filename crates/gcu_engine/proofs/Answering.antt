@@ -1,19 +1,23 @@
 -- From what was printed to what a command answers.
-use Rattle.std.proofs.Common.{◌≡◌, inl, inr, ℕ, List, ◌++◌, refl, sym, ap, subst, Option, Some, None, Result, Ok, Err, IfSome}
-use Rattle.host_core.specs.Answers.{FailsAs}
-use Rattle.host_core.specs.Counts.{Counts, Rose, PrintMayRise}
+use Rattle.std.proofs.Common.{◌≡◌, ◌≤◌, inl, inr, ℕ, List, ◌++◌, refl, sym, ap, subst, arith, Option, Some, None, Result, Ok, Err, IfSome}
+use Rattle.host_core.specs.Answers.{FailsAs, map_ok}
+use Rattle.host_core.specs.Counts.{Counts, NoneFell, NoneRose, Rose, PrintMayRise}
 use Rattle.host_core.specs.State.{State}
-use Rattle.conf_doc.specs.Texts.{file_text}
-use Rattle.conf_doc.specs.declared.configuration.Config.{Config}
-use Rattle.gcu_engine.specs.Answers.{Answers, HasCause, Leaves, Prints, PrintsAlone, Says}
+use Rattle.conf_doc.specs.Configuration.{tree}
+use Rattle.conf_doc.specs.Document.{Document}
+use Rattle.conf_doc.specs.Trees.{document}
+use Rattle.conf_doc.specs.declared.trees.Tree.{Tree}
+use Rattle.gcu_engine.specs.Answers.{Answers, Complete, HasCause, Leaves, Prints, PrintsAlone, Says, done_output}
 use Rattle.gcu_engine.specs.Asked.{asked, preview_asked}
 use Rattle.gcu_engine.specs.Asking.{Asking}
 use Rattle.gcu_engine.specs.Form.{form, preview}
 use Rattle.gcu_engine.specs.Lines.{last_line}
 use Rattle.gcu_engine.specs.Preparing.{Finds, Refuses, StandsIn, refusal}
-use Rattle.gcu_engine.specs.Printing.{IsPrinted, IsSaid}
+use Rattle.gcu_engine.specs.Printing.{IsPrinted, IsSaid, text_in_lines}
 use Rattle.gcu_engine.specs.Request as request
 use Rattle.gcu_engine.specs.Request.{Request}
+use Rattle.gcu_engine.specs.Trees.{document_in, preview_document}
+use Rattle.gcu_engine.proofs.Finding.{fails_before}
 use Rattle.gcu_engine.specs.declared.outcomes.Outcome.{Outcome}
 use Rattle.gcu_engine.specs.declared.outcomes.Outcome.TheVariants.{Done, Memory, Usage, InputFault, DiskFault, PrintFault}
 
@@ -90,17 +94,25 @@ pub no_form_says : (words : List (List ℕ)) (o : Option State) → form words �
 no_form_says words None is = tt
 no_form_says words (Some s) is = (rw is refl, refl)
 
+-- what is printed of a document is the file text of the configuration that is asked for
+printed_given : (gives : Result Request Outcome) (d : Document) → map_ok document_in gives ≡ Ok d
+    → (r : Request) × (gives ≡ Ok r) × (text_in_lines d ++ last_line Done ≡ done_output r)
+printed_given (Ok (request.preview c)) d is =
+    let same : tree c ≡ d = cc in (request.preview c, refl, ap (λ e. text_in_lines e ++ last_line Done) (sym same))
+printed_given (Err e) d is = absurd cc
+
 -- what a preview gives is what its words ask for
-pub preview_says : (words : List (List ℕ)) (path : List ℕ) (o : Option State) (c : Config) → form words ≡ Some (preview path)
-    → Finds o request.preview (Ok c) (preview_asked path) → IfSome o (λ s. Says (asked words s) Done (file_text c ++ last_line Done))
-preview_says words path None c is h = tt
-preview_says words path (Some s) c is h = (request.preview c, rw is h.gives, refl)
+pub preview_says : (words : List (List ℕ)) (path : List ℕ) (o : Option State) (t : Tree) → form words ≡ Some (preview path)
+    → Finds o document (Ok t) (preview_document path) → IfSome o (λ s. Says (asked words s) Done (text_in_lines (document t) ++ last_line Done))
+preview_says words path None t is h = tt
+preview_says words path (Some s) t is h = rw is (printed_given (preview_asked path s).gives (document t) h.gives)
 
 -- what a preview refuses is what its words are refused
 pub preview_refuses : (words : List (List ℕ)) (path : List ℕ) (o : Option State) (e : Outcome) (old new : Counts) → form words ≡ Some (preview path)
-    → Refuses old new e → Finds o request.preview (Err e) (preview_asked path) → IfSome o (λ s. Says (asked words s) e (last_line e))
+    → Refuses old new e → Finds {X = Tree} o document (Err e) (preview_document path) → IfSome o (λ s. Says (asked words s) e (last_line e))
 preview_refuses words path None e old new is h f = tt
-preview_refuses words path (Some s) e old new is h f = refused_says (asked words s) e old new h (rw is f.stands) (rw is f.gives)
+preview_refuses words path (Some s) e old new is h f =
+    refused_says (asked words s) e old new h (rw is f.stands) (rw is (fails_before document_in (refusal e) (preview_asked path s).gives f.gives))
 
 -- a refusal has its cause
 pub refused_cause : (old new : Counts) (e : Outcome) → Refuses old new e → HasCause old new e
@@ -111,3 +123,50 @@ refused_cause old new Memory h = tt
 refused_cause old new InputFault h = h
 refused_cause old new (DiskFault step) h = h
 refused_cause old new other h = tt
+
+-- ---- where nothing failed
+
+memory_completes : (gives : Result Request Outcome) → Complete gives Memory
+memory_completes (Ok (request.preview c)) = inl refl
+memory_completes (Err e) = inl refl
+
+refusal_completes : (gives : Result Request Outcome) (e : Outcome) → gives ≡ Err e → Complete gives e
+refusal_completes gives e is = subst (λ r. Complete r e) (sym is) (inr refl)
+
+refused_completes : (gives : Result Request Outcome) (old mid new : Counts) (e : Outcome) → PrintMayRise mid new → Refuses old mid e
+    → FailsAs (refusal e) gives → NoneRose old new → Complete gives e
+refused_completes gives old mid new Done rises never f none = absurd never
+refused_completes gives old mid new Usage rises never f none = absurd never
+refused_completes gives old mid new (PrintFault step) rises never f none = absurd never
+refused_completes gives old mid new Memory rises h f none = memory_completes gives
+refused_completes gives old mid new InputFault rises h f none = absurd (none.input (subst (λ n. Rose old.input n) (sym (ap (λ c. c.input) rises.2)) h))
+refused_completes gives old mid new (DiskFault step) rises h f none = absurd (none.disk (subst (λ n. Rose old.disk n) (sym (ap (λ c. c.disk) rises.2)) h.1))
+refused_completes gives old mid new other rises h f none = refusal_completes gives other f
+
+-- a print fault rose since before
+rose_since : (old mid new : ℕ) → old ≤ mid → Rose mid new → Rose old new
+rose_since old mid new le (inl more) = inl (omega (arith, le, more))
+rose_since old mid new le (inr last) = inr last
+
+printed_completes : (gives : Result Request Outcome) (old mid new : Counts) (e : Outcome) (text : List ℕ) (before after : Option State) (result : Outcome)
+    → IsPrinted e text before after mid new result → NoneFell old mid → NoneRose old new → Complete gives e → Complete gives result
+printed_completes gives old mid new e text before after result (inl whole) fell none is = subst (Complete gives) (sym whole.0) is
+printed_completes gives old mid new e text before after result (inr part) fell none is = absurd (none.print (rose_since old.print mid.print new.print fell.print part.2))
+
+-- what is said of a refusal, of a host that tells its state
+pub said_completes : (words : List (List ℕ)) (path : List ℕ) (o after told : Option State) (old mid new : Counts) (e result : Outcome) → form words ≡ Some (preview path)
+    → IsSaid e (last_line e) told after mid new result → PrintMayRise mid new → NoneFell old mid → Refuses old mid e
+    → Finds {X = Tree} o document (Err e) (preview_document path) → IfSome o (λ s. NoneRose old new → Complete (asked words s).gives result)
+said_completes words path None after told old mid new e result is said rises fell h f = tt
+said_completes words path (Some s) after told old mid new e result is said rises fell h f = λ none. by none said
+  where
+    refused : FailsAs (refusal e) (asked words s).gives
+    refused = rw is (fails_before document_in (refusal e) (preview_asked path s).gives f.gives)
+
+    by : NoneRose old new → IsSaid e (last_line e) told after mid new result → Complete (asked words s).gives result
+    by none (inl first) =
+        printed_completes (asked words s).gives old mid new e (last_line e) told after result first fell none
+        (refused_completes (asked words s).gives old mid new e rises h refused none)
+    by none (inr second) =
+        printed_completes (asked words s).gives old mid new Memory (last_line Memory) told after result second fell none
+        (memory_completes (asked words s).gives)

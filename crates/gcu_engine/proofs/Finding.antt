@@ -1,24 +1,31 @@
 -- How what the parts of a command find makes what the command finds.
-use Rattle.std.proofs.Common.{◌≡◌, ℕ, List, ◌++◌, refl, sym, ap, subst, arith, Option, Some, None, Result, Ok, Err, IfErr, IfSome}
+use Rattle.std.proofs.Common.{◌≡◌, ℕ, false, List, ◌++◌, refl, sym, ap, ◌∙◌, subst, arith, Option, Some, None, Result, Ok, Err, IfErr, IfSome, is_ok}
 use Rattle.std.proofs.lemmas.List.Elements.{Contains-append_left, Contains-append_right}
 use Rattle.host_core.specs.Answers.{FailsAs, Gives, map_ok}
 use Rattle.host_core.specs.Inputs.{input_of}
 use Rattle.host_core.specs.Counts.{Counts}
 use Rattle.host_core.specs.State.{State}
 use Rattle.host_core.specs.declared.host_calls.Input.{Input}
+use Rattle.conf_doc.specs.Configuration.{tree}
+use Rattle.conf_doc.specs.Document.{Document}
+use Rattle.conf_doc.specs.Reading.{Way}
+use Rattle.conf_doc.specs.Shaping.{configuration, shape_checked, shaping}
+use Rattle.conf_doc.specs.Trees.{document}
 use Rattle.conf_doc.specs.declared.configuration.Config.{Config}
+use Rattle.conf_doc.specs.declared.errors.ShapeError.TheVariants as shape
+use Rattle.conf_doc.specs.declared.trees.Tree.{Tree}
 use Rattle.patch_core.specs.Operation.{operations}
 use Rattle.patch_core.specs.declared.patches.Patch.{Patch}
-use Rattle.conf_store.specs.Loads.{Loads}
+use Rattle.conf_store.specs.Loads.{LoadsTree}
 use Rattle.conf_store.specs.declared.errors.LoadError.TheVariants.{Bad}
 use Rattle.conf_store.specs.declared.errors.StoredWhy.{StoredWhy}
-use Rattle.conf_store.specs.declared.loaded.Stored.{Stored}
-use Rattle.gcu_engine.specs.Asked.{patch_asked, patch_in, patch_limit, preview_asked, stored_asked, stored_answer, target}
+use Rattle.gcu_engine.specs.Asked.{patch_asked, patch_in, patch_limit, stored_asked, stored_answer, target, target_shape}
 use Rattle.gcu_engine.specs.Asking.{Asking, Source, ◌>>>◌}
 use Rattle.gcu_engine.specs.Preparing.{Finds, Found, Refuses, RefusesAlways, StandsIn, refusal}
 use Rattle.gcu_engine.specs.Request as request
+use Rattle.gcu_engine.specs.Trees.{document_in, document_shape, preview_document, stored_document, target_document, through}
 use Rattle.gcu_engine.specs.declared.outcomes.Outcome.{Outcome}
-use Rattle.gcu_engine.specs.declared.outcomes.Outcome.TheVariants.{BadStored, Done, Memory, Usage, InputFault, DiskFault, PrintFault}
+use Rattle.gcu_engine.specs.declared.outcomes.Outcome.TheVariants.{BadStored, Done, Memory, Usage, InputFault, DiskFault, PrintFault, TargetShape}
 
 -- ---- faults among calls
 
@@ -104,19 +111,22 @@ found_always view r asking gives h = record { gives = gives; stands = always_sta
 
 -- ---- the stored configuration
 
--- what was loaded decides the stored configuration
-pub found_stored : (o : Option State) (what : Stored) → IfSome o (λ s. Loads s.files (Ok what)) → Finds o (λ c. c) (Ok what.config) stored_asked
-found_stored None what loads = tt
-found_stored (Some s) what loads = record { gives = ap stored_answer loads.config; stands = tt }
+-- the tree that was loaded decides the stored configuration
+pub found_stored : (o : Option State) (t : Tree) → IfSome o (λ s. LoadsTree s.files (Ok t)) → Finds o document (Ok t) stored_document
+found_stored None t loads = tt
+found_stored (Some s) t loads = record {
+  gives = ap (λ r. map_ok tree (stored_answer r)) loads.stands ∙ ap (λ (d : Document). Ok d) (sym loads.same);
+  stands = tt;
+}
 
 -- so does why nothing was
-pub found_bad : (o : Option State) (why : StoredWhy) → IfSome o (λ s. Loads s.files (Err (Bad why)))
-    → Finds {X = Config} o (λ c. c) (Err (BadStored why)) stored_asked
+pub found_bad : (o : Option State) (why : StoredWhy) → IfSome o (λ s. LoadsTree s.files (Err (Bad why)))
+    → Finds {X = Tree} o document (Err (BadStored why)) stored_document
 found_bad None why loads = tt
-found_bad (Some s) why loads = record { gives = ap stored_answer loads; stands = tt }
+found_bad (Some s) why loads = record { gives = ap (λ r. map_ok tree (stored_answer r)) loads; stands = tt }
 
 -- a disk fault stands where the stored file is read
-pub disk_fault_found : (o : Option State) (step : ℕ) → Finds {X = Config} o (λ c. c) (Err (DiskFault step)) stored_asked
+pub disk_fault_found : (o : Option State) (step : ℕ) → Finds {X = Tree} o document (Err (DiskFault step)) stored_document
 disk_fault_found None step = tt
 disk_fault_found (Some s) step = record { gives = tt; stands = (0, omega arith, refl) }
 
@@ -141,38 +151,99 @@ pub input_fault_found : (o : Option State) (path : List ℕ) → Finds o operati
 input_fault_found None path = tt
 input_fault_found (Some s) path = record { gives = tt; stands = (0, omega arith, refl) }
 
+-- ---- from tree to tree
+
+go_through : {X Y Z : Type 0} (f : Y → Z) (calls : List Source) (gives : Result X Outcome) (next : X → Asking Y)
+    → through f (record { calls = calls; gives = gives } >>> next) ≡ (record { calls = calls; gives = gives } >>> λ x. through f (next x))
+go_through f calls (Ok x) next = refl
+go_through f calls (Err e) next = refl
+
+-- what f makes of the second answer
+through_next : {X Y Z : Type 0} (f : Y → Z) (first : Asking X) (next : X → Asking Y)
+    → through f (first >>> next) ≡ (first >>> λ x. through f (next x))
+through_next f first next = go_through f first.calls first.gives next
+
+-- what is found of both is found of the first answer and then of the second
+found_through : {X Y Z W : Type 0} (f : Y → Z) (view : W → Z) (r : Result W Outcome) (first : Asking X) (next : X → Asking Y)
+    → Found view r (first >>> λ x. through f (next x)) → Found view r (through f (first >>> next))
+found_through f view r first next h = subst (Found view r) (sym (through_next f first next)) h
+
+-- a document that was found is that of a configuration that is given
+tree_given : (gives : Result Config Outcome) (d : Document) → map_ok tree gives ≡ Ok d → (c : Config) × (gives ≡ Ok c) × (tree c ≡ d)
+tree_given (Ok c) d is = let same : tree c ≡ d = cc in (c, refl, same)
+tree_given (Err e) d is = absurd cc
+
+-- what f makes of the value doesn't tell of a refusal
+pub fails_before : {X Y : Type 0} (f : X → Y) (o : Option Outcome) (gives : Result X Outcome) → FailsAs o (map_ok f gives) → FailsAs o gives
+fails_before f None gives h = tt
+fails_before f (Some e) (Ok x) h = absurd cc
+fails_before f (Some e) (Err x) h = cc
+
+printed_as : (answer : Result Config Outcome) → map_ok document_in (map_ok request.preview answer) ≡ map_ok tree answer
+printed_as (Ok c) = refl
+printed_as (Err e) = refl
+
 -- ---- the preview
 
 -- nothing is found where the folder stands for no configuration
 pub no_stored : (o : Option State) (path : List ℕ) (e : Outcome)
-    → Finds {X = Config} o (λ c. c) (Err e) stored_asked → Finds o request.preview (Err e) (preview_asked path)
+    → Finds {X = Tree} o document (Err e) stored_document → Finds {X = Tree} o document (Err e) (preview_document path)
 no_stored None path e h = tt
-no_stored (Some s) path e h = first_refused (λ c. c) request.preview e (stored_asked s) _ h
+no_stored (Some s) path e h =
+    found_through document_in document (Err e) (stored_asked s) _
+    (first_refused (λ c. c) document e (stored_asked s) _
+    (record { gives = fails_before tree (refusal e) (stored_asked s).gives h.gives; stands = h.stands }))
+
+-- what is found at the stored configuration
+behind_stored : {W : Type 0} (s : State) (start : Tree) (view : W → Document) (r : Result W Outcome) (next : Config → Asking request.Request)
+    → Found document (Ok start) (stored_document s) → ((c : Config) → tree c ≡ document start → Found view r (through document_in (next c)))
+    → Found view r (through document_in (stored_asked s >>> next))
+behind_stored s start view r next h then =
+    let given = tree_given (stored_asked s).gives (document start) h.gives in
+    found_through document_in view r (stored_asked s) next
+    (then_found (λ c. c) view given.0 r (stored_asked s) _ (record { gives = given.1; stands = tt }) (then given.0 given.2))
 
 -- nothing is found where there is no patch
-pub no_patch : (o : Option State) (path : List ℕ) (start : Config) (e : Outcome)
-    → Finds o (λ c. c) (Ok start) stored_asked → Finds o operations (Err e) (patch_asked path)
-    → Finds o request.preview (Err e) (preview_asked path)
+pub no_patch : (o : Option State) (path : List ℕ) (start : Tree) (e : Outcome)
+    → Finds o document (Ok start) stored_document → Finds o operations (Err e) (patch_asked path)
+    → Finds {X = Tree} o document (Err e) (preview_document path)
 no_patch None path start e h f = tt
 no_patch (Some s) path start e h f =
-    then_found (λ c. c) request.preview start (Err e) (stored_asked s) _ h
-    (first_refused operations request.preview e (patch_asked path s) _ f)
-
-map_gives : (r : Result Config Outcome) (answer : Result Config Outcome) → Gives (λ c. c) refusal r answer → Gives request.preview refusal r (map_ok request.preview answer)
-map_gives (Ok c) answer h = ap (map_ok request.preview) h
-map_gives (Err e) answer h = map_fails (refusal e) answer h
-  where
-    map_fails : (o : Option Outcome) (a : Result Config Outcome) → FailsAs o a → FailsAs o (map_ok request.preview a)
-    map_fails None a f = tt
-    map_fails (Some x) a f = ap (map_ok request.preview) f
+    behind_stored s start document (Err e) _ h (λ c same.
+    found_through document_in document (Err e) (patch_asked path s) _
+    (first_refused operations document e (patch_asked path s) _ f))
 
 -- the target is what is found where there are a configuration and a patch
-pub target_found : (o : Option State) (path : List ℕ) (start : Config) (patch : Patch) (r : Result Config Outcome)
-    → Finds o (λ c. c) (Ok start) stored_asked → Finds o operations (Ok patch) (patch_asked path)
-    → Gives (λ c. c) refusal r (target (operations patch) start) → IfErr r RefusesAlways
-    → Finds o request.preview r (preview_asked path)
+pub target_found : (o : Option State) (path : List ℕ) (start : Tree) (patch : Patch) (r : Result Tree Outcome)
+    → Finds o document (Ok start) stored_document → Finds o operations (Ok patch) (patch_asked path)
+    → Gives document refusal r (target_document (operations patch) (document start)) → IfErr r RefusesAlways
+    → Finds o document r (preview_document path)
 target_found None path start patch r h f gives always = tt
 target_found (Some s) path start patch r h f gives always =
-    then_found (λ c. c) request.preview start r (stored_asked s) _ h
-    (then_found operations request.preview patch r (patch_asked path s) _ f
-    (found_always request.preview r _ (map_gives r (target (operations patch) start) gives) always))
+    behind_stored s start document r _ h (λ c same.
+    found_through document_in document r (patch_asked path s) _
+    (then_found operations document patch r (patch_asked path s) _ f
+    (found_always document r _
+    (subst (Gives document refusal r) (ap (λ d. target_document (operations patch) d) (sym same) ∙ sym (printed_as (target (operations patch) c))) gives) always)))
+
+-- ---- shapes
+
+-- a document of a configuration's shape is found as it is
+pub shape_found : (d : Document) → map_ok tree (configuration d) ≡ Ok d → document_shape d ≡ Ok d
+shape_found d is = by (configuration d) is
+  where
+    by : (r : Result Config Way) → map_ok tree r ≡ Ok d → map_ok tree (target_shape (shape_checked r)) ≡ Ok d
+    by (Ok c) is = let same : tree c ≡ d = cc in ap (λ (e : Document). Ok e) same
+    by (Err way) is = absurd cc
+
+-- another one is shaped as nothing
+pub no_shape : (d : Document) (c : Config) → is_ok (configuration d) ≡ false → shaping d ≡ Ok c → ⊥
+no_shape d c isnt is = by (configuration d) isnt is
+  where
+    by : (r : Result Config Way) → is_ok r ≡ false → shape_checked r ≡ Ok c → ⊥
+    by (Ok x) isnt is = absurd cc
+    by (Err way) isnt is = absurd cc
+
+-- its fault is the target's
+pub shape_refused : (d : Document) (place : List ℕ) → shaping d ≡ Err (shape.Shape place) → document_shape d ≡ Err (TargetShape place)
+shape_refused d place is = ap (λ r. map_ok tree (target_shape r)) is

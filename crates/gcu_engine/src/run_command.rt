@@ -41,7 +41,7 @@ pub fn run<H: Host>(alloc: Global, words: &[Txt], host: &mut H) -> Outcome
     match read_form(words) {
         Form::Unknown => say(alloc, Outcome::Usage, host),
         Form::Preview { patch } => match preview(alloc, patch, host) {
-            Ok(config) => show(alloc, &config, host),
+            Ok(tree) => show(alloc, &tree, host),
             Err(outcome) => say(alloc, outcome, host),
         },
     }

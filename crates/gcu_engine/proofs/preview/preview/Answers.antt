@@ -15,12 +15,12 @@ returns-in_err-patch-clause-answer g c =
 -- there are a configuration and a patch
 pub returns-clause-answer : goal.returns-clause-answer
 returns-clause-answer g c =
-    target_found (g.H.Host.told c.args.host.now) c.args.path.now c.in_ok-start.start c.in_ok-patch.patch c.patched_config.result
+    target_found (g.H.Host.told c.args.host.now) c.args.path.now c.in_ok-start.start c.in_ok-patch.patch c.patched_tree.result
     c.in_ok-start.ensures.answer (rw c.in_ok-start.ensures.told at c.in_ok-patch.ensures.answer)
-    c.patched_config.ensures.answer c.patched_config.ensures.cause
+    c.patched_tree.ensures.answer c.patched_tree.ensures.cause
 
 pub returns-clause-cause : goal.returns-clause-cause
-returns-clause-cause g c = always_refuses c.patched_config.result (g.H.Host.counts c.args.host.now) (g.H.Host.counts c.input_patch.new.host) c.patched_config.ensures.cause
+returns-clause-cause g c = always_refuses c.patched_tree.result (g.H.Host.counts c.args.host.now) (g.H.Host.counts c.input_patch.new.host) c.patched_tree.ensures.cause
 
 -- ---- time
 
