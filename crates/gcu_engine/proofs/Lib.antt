@@ -2,3 +2,4 @@ pub mod Answering
 pub mod Elapsing
 pub mod Finding
 pub mod Models
+pub mod TreeTexts

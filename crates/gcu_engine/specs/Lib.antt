@@ -10,3 +10,4 @@ pub mod Request
 pub mod FormView
 pub mod Preparing
 pub mod Printing
+pub mod Trees

@@ -10,6 +10,7 @@ mod preview;
 mod printing;
 mod run_command;
 mod stored;
+mod tree_text;
 
 pub use conf_store::StoredWhy;
 pub use outcomes::Outcome;
