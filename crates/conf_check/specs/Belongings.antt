@@ -54,7 +54,8 @@ AreBelongings-once models (t ∷ config) (x ∷ a) (y ∷ b) p q =
     let more = AreBelongings-once models config a b p.1 q.1 in
     λ i. here i ∷ more i
 
-Belongings-set : (a b : Belongings) → IsProp (a ≡ b)
+-- of two lists of them there is one way to be equal
+pub Belongings-set : (a b : Belongings) → IsProp (a ≡ b)
 Belongings-set a b = Coded-set (coded_list (coded_list (coded_option coded_ℕ))) a b
 
 -- those of a configuration, and that they are that
