@@ -73,11 +73,11 @@ modules_of s name = modules_named s.models.now s.config.now s.known.0 name
 
 -- whether a table is of the module at a place
 abbrev pub is_owner : ℕ → List ℕ → ModelSet → Bool
-is_owner module name models = option_map_or (λ o. o == module) (owner_of name models) false
+is_owner place name models = option_map_or (λ o. o == place) (owner_of name models) false
 
 -- the children of a module
 abbrev pub tables_of : ConfigNodes → ℕ → List ℕ → List Node
-tables_of s module name = tables_named s.models.now s.config.now s.known.0 module name
+tables_of s owner name = tables_named s.models.now s.config.now s.known.0 owner name
 
 -- the entry at a place with its shape
 abbrev pub shaped_row_of : ConfigNodes → ℕ → ℕ → Option (Row × Shape)

@@ -29,21 +29,21 @@ pub(crate) fn module_named(nodes: &ConfigNodes, name: &str) -> Option<Node>
 }
 
 /// Whether a table is one of the module at a place.
-fn is_owner(nodes: &ConfigNodes, module: usize, name: &str) -> bool
-    ensures { result ≡ is_owner module name.now nodes.now.models.now }
+fn is_owner(nodes: &ConfigNodes, owner: usize, name: &str) -> bool
+    ensures { result ≡ is_owner owner name.now nodes.now.models.now }
 {
     match nodes.models.module_of(name) {
-        Some(owner) => owner as usize == module,
+        Some(place) => place as usize == owner,
         None => false,
     }
 }
 
 /// The container of the table of a name, a child of the container of its module.
-pub(crate) fn table_named(nodes: &ConfigNodes, module: usize, name: &str) -> Option<Node>
-    ensures children { option_to_list result ≡ tables_of nodes.now module name.now }
+pub(crate) fn table_named(nodes: &ConfigNodes, owner: usize, name: &str) -> Option<Node>
+    ensures children { option_to_list result ≡ tables_of nodes.now owner name.now }
     ensures node { IfSome result (IsNodeOf nodes.now) }
 {
-    if !is_owner(nodes, module, name) {
+    if !is_owner(nodes, owner, name) {
         return None;
     }
     match place_of_table(nodes.config, name) {

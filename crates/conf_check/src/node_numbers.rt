@@ -36,12 +36,12 @@ pub(crate) fn root_node() -> Node
 }
 
 /// The container of a module, by its place among the modules.
-pub(crate) fn module_node(module: usize) -> Node
-    ensures { result ≡ module_node module }
+pub(crate) fn module_node(place: usize) -> Node
+    ensures { result ≡ module_node place }
 {
     Node {
         level: MODULE,
-        table: module,
+        table: place,
         key: 0,
         leaf: 0,
         item: 0,
