@@ -1,7 +1,8 @@
 -- A must that is false over the nodes as they are walked is false.
-use Rattle.std.proofs.Common.{◌≡◌, ◌↔◌, ℕ, Bool, true, false, Option, Some, None, IsTrue, IsSomeAnd, refl, sym, subst}
+use Rattle.std.proofs.Common.{◌≡◌, ◌↔◌, ℕ, Bool, true, false, not, Option, Some, None, IsTrue, IsSomeAnd, refl, sym, subst}
 use Rattle.std.specs.Coded.{Coded-set, coded_bool}
 use Rattle.std.proofs.Math.Logic.{∥∥₁_elim}
+use Rattle.std.proofs.lemmas.Bool.{false≢true}
 use Rattle.xpath_part.specs.Expressions.{expression}
 use Rattle.xpath_part.specs.Nodes.{NodeTree}
 use Rattle.xpath_part.specs.Truth.{truth}
@@ -36,6 +37,10 @@ module _ (s : ConfigNodes) (t k : ℕ) (must : MustRule) where
     from_false r (λ here. tells.1 (subst IsFalseWhere (sym is) here)),
   )
 
+not_tells : (h : Bool) → IsTrue (not h) ↔ (h ≡ false)
+not_tells true = (λ e. absurd (false≢true e), λ e. absurd (false≢true (sym e)))
+not_tells false = (λ _. refl, λ _. refl)
+
 -- what is not true is false
-pub not_true : (h r value : Bool) → h ≡ value → IsTrue r ↔ (h ≡ false) → IsTrue r ↔ (value ≡ false)
-not_true h r value is tells = subst (λ v. IsTrue r ↔ (v ≡ false)) is tells
+pub not_true : (h value : Bool) → h ≡ value → IsTrue (not h) ↔ (value ≡ false)
+not_true h value is = subst (λ v. IsTrue (not h) ↔ (v ≡ false)) is (not_tells h)

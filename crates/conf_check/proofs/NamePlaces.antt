@@ -5,12 +5,14 @@ use Rattle.std.specs.Str.{bytes_eq}
 use Rattle.std.proofs.lemmas.Bool.{cases_lt}
 use Rattle.std.proofs.lemmas.Cmp.{nat_list_cmp_total, tied_itself}
 use Rattle.std.proofs.lemmas.Iterator.Adapters.{position_from-zero}
-use Rattle.std.proofs.lemmas.List.{length-map}
+use Rattle.std.proofs.lemmas.List.{length-map, map-id}
 use Rattle.std.proofs.lemmas.Option.{slice_get_within}
 use Rattle.std.proofs.lemmas.Slice.Eq.{bytes_eq-Decides}
 use Rattle.conf_doc.specs.Pairs.{first_from, IsRising}
 use Rattle.host_core.specs.Names.{name_cmp}
 use Rattle.yang_model.specs.Names.{place_of_name}
+use Rattle.yang_model.specs.declared.shapes.FieldRule.{FieldRule}
+use Rattle.yang_model.specs.declared.shapes.KeyLeaf.{KeyLeaf}
 use Rattle.conf_check.proofs.Keys.{before_first, from_first, rising_at}
 
 some_same : {A : Type 0} (x y : A) → Some x ≡ Some y → x ≡ y
@@ -138,3 +140,37 @@ module _ {A : Type 0} (name : List ℕ) (ps : List (List ℕ × A)) where
                   not (sym q ∙ same)
             ]
           ]
+
+-- a name among key leaves and then fields
+module _ (name : List ℕ) (keys : List KeyLeaf) (fields : List FieldRule) where
+  abbrev key_place : Option ℕ
+  key_place = position (λ (k : KeyLeaf). bytes_eq name k.name) keys
+
+  abbrev field_place : Option ℕ
+  field_place = position (λ (f : FieldRule). bytes_eq name f.name) fields
+
+  abbrev key_names : List (List ℕ)
+  key_names = map (λ (k : KeyLeaf). k.name) keys
+
+  abbrev both_names : List (List ℕ)
+  both_names = key_names ++ map (λ (f : FieldRule). f.name) fields
+
+  both_place : (o p : Option ℕ) → o ≡ key_place → p ≡ field_place → place_of_name name both_names ≡ after_first (length keys) o p
+  both_place o p at_key at_field =
+      place_in_two name key_names (map (λ (f : FieldRule). f.name) fields)
+      ∙ ap (λ n. after_first n (place_of_name name key_names) (place_of_name name (map (λ (f : FieldRule). f.name) fields))) (length-map keys (λ (k : KeyLeaf). k.name))
+      ∙ ap (λ o. after_first (length keys) o (place_of_name name (map (λ (f : FieldRule). f.name) fields))) (sym (at_key ∙ place_is_position (λ (k : KeyLeaf). k.name) name keys))
+      ∙ ap (after_first (length keys) o) (sym (at_field ∙ place_is_position (λ (f : FieldRule). f.name) name fields))
+
+  pub among_keys : (i : ℕ) → Some i ≡ key_place → Some i ≡ place_of_name name both_names
+  among_keys i at = sym (both_place (Some i) field_place at refl)
+
+  pub among_fields : (i : ℕ) → None ≡ key_place → Some i ≡ field_place → Some (length keys + i) ≡ place_of_name name both_names
+  among_fields i none at = sym (both_place None (Some i) none at)
+
+  pub among_none : None ≡ key_place → None ≡ field_place → None ≡ place_of_name name both_names
+  among_none none nor = sym (both_place None None none nor)
+
+-- a module by its name
+pub name_placed : (name : List ℕ) (names : List (List ℕ)) (o : Option ℕ) → o ≡ position (bytes_eq name) names → o ≡ place_of_name name names
+name_placed name names o is = is ∙ place_is_position (λ n. n) name names ∙ ap (place_of_name name) (map-id names)
