@@ -1,22 +1,29 @@
 -- The first breach among the keys of a table, and among tables.
-use Rattle.std.proofs.Common.{◌≡◌, ◌⊎◌, ◌<◌, ◌≤◌, ◌+◌, ℕ, true, List, Option, Some, None, length, slice_get, is_some, refl, sym, ◌∙◌, subst, inl, inr, arith}
+use Rattle.std.proofs.Common.{◌≡◌, ◌⊎◌, ◌<◌, ◌≤◌, ◌+◌, ℕ, zero, suc, true, List, [], ◌∷◌, Option, Some, None, length, slice_get, is_some, refl, sym, ◌∙◌, subst, inl, inr, arith}
 use Rattle.std.proofs.lemmas.Bool.{cases_lt}
 use Rattle.conf_doc.specs.declared.configuration.Config.{Config}
 use Rattle.conf_doc.specs.declared.configuration.Table.{Table}
 use Rattle.yang_model.specs.ModelSets.{ModelSet, table_named}
 use Rattle.conf_check.specs.Faults.{IsFirstFault, IsFirstInTable, IsFirstOfTable}
 use Rattle.conf_check.specs.NodeTrees.{IsShapedAt, row_of_entry}
-use Rattle.conf_check.specs.Rows.{Row, row_at}
-use Rattle.conf_check.specs.Validity.{Breach, Breaks, BreaksShape, IsBreach, IsBreachBefore, IsFirstViolation, IsRuleBefore, IsValid, rule_number, violation_of}
+use Rattle.conf_check.specs.Rows.{Row, row_at, IsModelledAt}
+use Rattle.conf_check.specs.Validity.{Breach, Breaks, BreaksShape, IsBreach, IsBreachBefore, IsFirstViolation, IsRuleBefore, IsValid, rule_number}
 use Rattle.conf_check.specs.declared.faults.Fault.{Fault}
 use Rattle.conf_check.specs.declared.leaves.ShapedEntry.{ShapedEntry}
 use Rattle.conf_check.specs.declared.violations.Violation.{Violation}
 use Rattle.conf_check.proofs.EntryFaults.{shape_first}
+use Rattle.conf_check.proofs.Found.{some_from}
 use Rattle.conf_check.proofs.RowPlaces.{past_keys, past_tables}
-use Rattle.conf_check.proofs.ShapedEntries.{stands}
+use Rattle.conf_check.proofs.ShapedEntries.{row_from, row_here, stands}
 
 some_same : {A : Type 0} (x y : A) → Some x ≡ Some y → x ≡ y
 some_same x y e = cc
+
+-- what stands at a place of a list
+there : {A : Type 0} (xs : List A) (i : ℕ) → i < length xs → (x : A) × (slice_get xs i ≡ Some x)
+there [] i lt = absurd (omega arith)
+there (x ∷ xs) zero lt = (x, refl)
+there (x ∷ xs) (suc i) lt = there xs i (omega arith)
 
 module _ (models : ModelSet) (config : Config) where
   -- what an entry of a shape breaks first it breaks first
@@ -76,6 +83,17 @@ module _ (models : ModelSet) (config : Config) where
         none : (a : Breach) → a.table ≡ t → IsBreachBefore a (record { table = t; key = key; rule = f.rule; field = f.field }) → ¬ IsBreach models config a
         none a here (inl lt) broken = omega arith
         none a here (inr p) broken = same_key a here broken p.1
+
+    pub key_first_at : (key : ℕ) (p : List ℕ × Table) (f : Fault) (r : ℕ) → slice_get config t ≡ Some p → IsModelledAt models config t → key < length p.1
+        → r ≡ rule_number f.rule → NoneBefore key
+        → ((row : Row) → row_at models config t key ≡ Some row → IsFirstFault (Breaks models config t key row) (Some f))
+        → IsFirstInTable models config t (record { table = t; key = key; field = f.field; rule = r })
+    key_first_at key p f r at modelled within is before first =
+        let entry = there p.1 key within in
+        let named = some_from (λ (p : List ℕ × Table). is_some (table_named p.0 models) ≡ true) (slice_get config t) p at modelled in
+        let row = row_here models config t key p entry.0 at named entry.1 in
+        let P : ℕ → Type 0 = λ r. IsFirstInTable models config t (record { table = t; key = key; field = f.field; rule = r }) in
+        subst P (sym is) (key_first key (row_from p entry.0) f before row first)
 
     -- none at all
     pub keys_none : (key : ℕ) (p : List ℕ × Table) → slice_get config t ≡ Some p → length p.1 ≤ key → NoneBefore key → IsFirstOfTable models config t None

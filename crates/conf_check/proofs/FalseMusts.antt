@@ -1,14 +1,13 @@
 -- A must that is false over the nodes as they are walked is false.
-use Rattle.std.proofs.Common.{◌≡◌, ◌↔◌, ℕ, Bool, true, false, not, Option, Some, None, IsTrue, IsSomeAnd, refl, sym, subst}
+use Rattle.std.proofs.Common.{◌≡◌, ◌↔◌, ℕ, Bool, true, false, not, Option, IsTrue, IsSomeAnd, refl, sym, subst}
 use Rattle.std.specs.Coded.{Coded-set, coded_bool}
 use Rattle.std.proofs.Math.Logic.{∥∥₁_elim}
 use Rattle.std.proofs.lemmas.Bool.{false≢true}
 use Rattle.xpath_part.specs.Expressions.{expression}
-use Rattle.xpath_part.specs.Nodes.{NodeTree}
 use Rattle.xpath_part.specs.Truth.{truth}
 use Rattle.xpath_part.specs.declared.nodes.Node.{Node}
 use Rattle.yang_model.specs.declared.shapes.MustRule.{MustRule}
-use Rattle.conf_check.specs.Belongings.{AreBelongings, AreBelongings-once, Belongings, Belongings-set}
+use Rattle.conf_check.specs.Belongings.{AreBelongings-once, Belongings, Belongings-set}
 use Rattle.conf_check.specs.ConfigTree.{entry_node, node_tree}
 use Rattle.conf_check.specs.NodeTrees.{tree_of}
 use Rattle.conf_check.specs.Validity.{IsFalse, IsFalseIn, context_of}

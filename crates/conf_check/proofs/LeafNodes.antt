@@ -1,13 +1,13 @@
 -- The nodes of the leaves of an entry.
-use Rattle.std.proofs.Common.{◌≡◌, ◌≢◌, ◌+◌, ◌<◌, ◌≤◌, ◌^◌, ℕ, zero, suc, false, List, [], ◌∷◌, Option, Some, None, option_map, map, length, slice_get, refl, sym, ap, ◌∙◌, subst, arith, add-one}
+use Rattle.std.proofs.Common.{◌≡◌, ◌≢◌, ◌+◌, ◌<◌, ◌≤◌, ℕ, zero, suc, false, List, [], ◌∷◌, Option, Some, None, option_map, map, length, slice_get, refl, sym, ap, ◌∙◌, arith, add-one}
 use Rattle.std.specs.Option.{option_map_or}
 use Rattle.std.specs.Str.{bytes_eq}
 use Rattle.std.proofs.lemmas.Option.{slice_get_past, slice_get-map}
 use Rattle.yang_model.specs.Names.{place_of_name}
 use Rattle.yang_model.specs.declared.shapes.Shape.{Shape}
 use Rattle.xpath_part.specs.declared.nodes.Node.{Node}
-use Rattle.conf_check.specs.ConfigTree.{Held, absent, one, items, counted_from, held_at, held_nodes, held_text, is_shape_named, item_node, leaf_names, leaf_node}
-use Rattle.conf_check.specs.NodeTrees.{IsShapedAt, held_of, is_named_at, leaves_of, row_of_entry, shaped_row_of, tree_of}
+use Rattle.conf_check.specs.ConfigTree.{Held, absent, one, items, counted_from, held_at, held_nodes, held_text, is_shape_named, item_node, leaf_names}
+use Rattle.conf_check.specs.NodeTrees.{IsShapedAt, held_of, is_named_at, leaves_of, row_of_entry, shaped_row_of}
 use Rattle.conf_check.specs.Rows.{Row, row_at, HasNoShape}
 use Rattle.conf_check.specs.declared.config_nodes.ConfigNodes.{ConfigNodes}
 use Rattle.conf_check.specs.declared.leaves.HeldText.{HeldText}

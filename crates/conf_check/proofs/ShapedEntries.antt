@@ -1,5 +1,5 @@
 -- The entry at a place with its shape, as the nodes have it.
-use Rattle.std.proofs.Common.{◌≡◌, ◌<◌, ◌==◌, ℕ, Bool, true, false, cond, List, [], Option, Some, None, option_map, option_and_then, slice_get, is_some, IsSome, refl, sym, ap, ◌∙◌, subst, arith}
+use Rattle.std.proofs.Common.{◌≡◌, ◌==◌, ℕ, Bool, true, false, cond, List, Option, Some, None, option_map, option_and_then, slice_get, is_some, IsSome, refl, sym, ap, ◌∙◌, subst}
 use Rattle.std.specs.Coded.{Coded-set, coded_option, coded_ℕ}
 use Rattle.std.specs.Option.{option_map_or}
 use Rattle.std.proofs.Math.Logic.{∥∥₁_elim}
@@ -17,7 +17,7 @@ use Rattle.conf_check.proofs.Belonged.{belongings_at}
 some_same : {A : Type 0} (x y : A) → Some x ≡ Some y → x ≡ y
 some_same x y e = cc
 
-abbrev row_from : List ℕ × Table → List ℕ × Entry → Row
+abbrev pub row_from : List ℕ × Table → List ℕ × Entry → Row
 row_from p e = row_of p.0 e.0 e.1
 
 module _ (models : ModelSet) (config : Config) (t k : ℕ) where

@@ -1,12 +1,10 @@
 -- Which numbers are nodes, and the children and parents of those of each level.
-use Rattle.std.proofs.Common.{◌≡◌, ◌≢◌, ◌+◌, ◌-◌, ◌<◌, ◌≤◌, ◌^◌, ◌==◌, cond, ℕ, zero, suc, Bool, true, false, List, [], ◌∷◌, Option, Some, None, IsSome, IfSome, option_map, option_and_then, length, slice_get, refl, sym, ap, ◌∙◌, subst, arith, add-one}
-use Rattle.std.specs.Option.{option_map_or, option_to_list}
+use Rattle.std.proofs.Common.{◌≡◌, ◌≢◌, ◌+◌, ◌<◌, ◌==◌, cond, ℕ, Bool, true, false, List, [], Option, Some, None, IfSome, slice_get, refl, sym, ap, subst, arith}
+use Rattle.std.specs.Option.{option_to_list}
 use Rattle.std.proofs.lemmas.Bool.{ne_eqb}
-use Rattle.yang_model.specs.ModelSets.{owner_of}
-use Rattle.yang_model.specs.Names.{place_of_name}
 use Rattle.xpath_part.specs.declared.nodes.Node.{Node}
-use Rattle.conf_check.specs.ConfigTree.{entry_node, module_node, root_node, table_node}
-use Rattle.conf_check.specs.NodeTrees.{HasModule, IsLeafOf, IsNodeOf, entries_behind, entries_of, is_owner, keys_in, leaves_of, module_of, modules_of, tables_of, tree_of}
+use Rattle.conf_check.specs.ConfigTree.{entry_node, module_node, root_node}
+use Rattle.conf_check.specs.NodeTrees.{HasModule, IsLeafOf, IsNodeOf, entries_of, leaves_of, modules_of, tables_of, tree_of}
 use Rattle.conf_check.specs.declared.config_nodes.ConfigNodes.{ConfigNodes}
 use Rattle.conf_check.proofs.NodeLists.{level_0, level_1, level_2, level_3, level_4, none_at_level, none_behind}
 

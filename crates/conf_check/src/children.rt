@@ -155,12 +155,7 @@ fn node_of(table: usize, key: usize, leaf: HeldLeaf, i: usize) -> Option<Node>
 }
 
 /// The leaf of a name, or the first item of a leaf-list.
-pub(crate) fn first_leaf(
-    nodes: &ConfigNodes,
-    table: usize,
-    key: usize,
-    name: &str,
-) -> Option<Node>
+pub(crate) fn first_leaf(nodes: &ConfigNodes, table: usize, key: usize, name: &str) -> Option<Node>
     ensures first { result ≡ slice_get (leaves_of nodes.now table key name.now) 0 }
     ensures leaf { IfSome result (IsLeafOf table) }
     ensures fits { length (leaves_of nodes.now table key name.now) < 2 ^ 64 }

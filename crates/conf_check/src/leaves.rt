@@ -9,7 +9,7 @@ ghost use Rattle.conf_check.specs.NodeTrees.{IsEntryAt, field_held, held_of, row
 use crate::config_nodes::ConfigNodes;
 use crate::rows::shape_of;
 use conf_doc::{Entry, Value};
-use host_core::Txt;
+use host_core::Names;
 use key_split::KeyView;
 use yang_model::{FieldRule, Shape};
 
@@ -27,7 +27,7 @@ pub(crate) struct ShapedEntry<'a> {
 pub(crate) enum HeldText<'a> {
     Absent,
     One(&'a str),
-    Items(&'a [Txt]),
+    Items(&'a Names),
 }
 
 /// The entry at a place of a table, with its shape.
@@ -103,7 +103,7 @@ fn held_field<'a>(rule: &'a FieldRule, fields: &'a Entry) -> HeldText<'a>
         }
         Some(Value::List(texts)) => {
             if rule.list {
-                HeldText::Items(texts.items())
+                HeldText::Items(texts)
             } else {
                 HeldText::Absent
             }

@@ -4,13 +4,12 @@ ghost use Rattle.conf_check.specs.ConfigTree.{held_text, root_node};
 ghost use Rattle.std.specs.Option.{option_map_or};
 ghost use Rattle.conf_check.specs.NodeTrees.{IsNodeOf, held_of, module_of, tree_of};
 
-use crate::children::{
-    entry_named, first_leaf, module_named, next_entry, next_leaf, table_named,
-};
+use crate::children::{entry_named, first_leaf, module_named, next_entry, next_leaf, table_named};
 use crate::config_nodes::ConfigNodes;
 use crate::leaves::{HeldText, held_at, shaped_entry};
-use crate::node_numbers::{ENTRY, MODULE, ROOT, TABLE};
-use crate::node_numbers::{entry_node, module_node, root_node, table_node};
+use crate::node_numbers::{
+    ENTRY, MODULE, ROOT, TABLE, entry_node, module_node, root_node, table_node,
+};
 use xpath_part::{Node, Nodes};
 
 /// The first child of a name.
@@ -115,7 +114,7 @@ fn held_text<'a>(held: HeldText<'a>, item: usize) -> &'a str
     match held {
         HeldText::Absent => "",
         HeldText::One(text) => text,
-        HeldText::Items(texts) => match texts.get(item) {
+        HeldText::Items(texts) => match texts.items().get(item) {
             Some(text) => text.as_str(),
             None => "",
         },

@@ -1,4 +1,4 @@
-use Rattle.std.proofs.Common.{ℕ, List, [], Option, take, subst, arith}
+use Rattle.std.proofs.Common.{ℕ, List, [], Option, subst, arith}
 use Rattle.std.proofs.lemmas.List.{take_all}
 use Rattle.conf_doc.specs.declared.configuration.Config.{Config}
 use Rattle.conf_doc.specs.declared.configuration.Table.{Table}

@@ -1,4 +1,4 @@
-use Rattle.std.proofs.Common.{◌≡◌, ◌<◌, ◌≤◌, Some, ap, sym, ◌∙◌, subst}
+use Rattle.std.proofs.Common.{◌<◌, ◌≤◌, Some, ap, sym, ◌∙◌, subst}
 use Rattle.conf_check.specs.NodeTrees.{keys_in}
 use Rattle.conf_check.proofs.EntryNodes.{is_first, none_left, not_first}
 use Rattle.conf_check.proofs.children.entry_named.Goals as goal
