@@ -1,1 +1,5 @@
-
+pub mod Filters
+pub mod Found
+pub mod InOrder
+pub mod Named
+pub mod Steps

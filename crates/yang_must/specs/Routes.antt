@@ -41,6 +41,9 @@ pub record Route : Type 0 where
   pub origin : Spot
   pub steps : Strides
 
+abbrev pub route : Aim → Spot → Strides → Route
+route aim origin steps = record { aim = aim; origin = origin; steps = steps }
+
 -- where a path starts
 abbrev pub start_of : Spot → Origin → Spot → Spot
 start_of current Root context = root
@@ -73,7 +76,7 @@ abbrev mutual
   -- a path, and those in its predicates
   pub path_routes : List Module → ℕ → Spot → Aim → Path → Spot → List Route
   path_routes modules m current aim (along o ss) context =
-      record { aim = aim; origin = start_of current o context; steps = ss }
+      route aim (start_of current o context) ss
       ∷ inner_routes modules m current ss (start_of current o context)
 
   -- the paths in the predicates of steps, up to a step that names nothing

@@ -59,7 +59,7 @@ fn with_container<'a>(
     number: usize,
     statement: &'a Statement,
 ) -> Result<NodeList<ContainerNode<'a>>, Memory>
-    ensures { IfOk result (λ list. list ≡ containers ++ map (container_at file number)
+    ensures { IfOk result (λ list. list ≡ containers.entry ++ map (container_at file number)
         (filter (is_keyword (codes "container")) (declaration statement.now ∷ []))) }
 {
     if statement.keyword.as_str() == "container" {
@@ -76,7 +76,7 @@ fn with_containers<'a>(
     number: usize,
     owner: &ModulePrefixes<'a>,
 ) -> Result<NodeList<ContainerNode<'a>>, Memory>
-    ensures { IfOk result (λ list. list ≡ containers ++ containers_in number owner.now) }
+    ensures { IfOk result (λ list. list ≡ containers.entry ++ containers_in number owner.now) }
 {
     let mut all = containers;
     for statement in owner.statement().block.items() {

@@ -1,0 +1,8 @@
+//! What the words of the contracts say of one another.
+ghost use Rattle.xpath_part.specs.Reading.{read_expression};
+ghost use Rattle.yang_must.specs.Musts.{ReadsExpressions};
+
+/// There is a function that gives the expression of each text that spells one.
+pub fn reader_reads()
+    ensures { ReadsExpressions read_expression }
+{}
