@@ -1,17 +1,22 @@
 -- What is found by following paths one after another.
-use Rattle.std.proofs.Common.{◌≡◌, ◌||◌, ℕ, Bool, true, false, cond, List, [], ◌∷◌, ◌++◌, String, refl, sym, ap, ◌∙◌}
+use Rattle.std.proofs.Common.{◌≡◌, ◌||◌, not, ℕ, Option, is_none, subst, Bool, true, false, cond, Decides, List, [], ◌∷◌, ◌++◌, String, refl, sym, ap, ◌∙◌}
 use Rattle.std.specs.Global.{Global}
 use Rattle.std.specs.BTreeSet.{BTreeSet, contains_text}
 use Rattle.std.specs.List.{flat_map, list_any}
 use Rattle.std.specs.Str.{bytes_eq}
 use Rattle.std.proofs.lemmas.List.Folds.{list_any-append}
 use Rattle.std.proofs.lemmas.List.Concat.{flat_map-append}
+use Rattle.std.proofs.lemmas.Bool.Decides.{same_from_decides}
 use Rattle.std.proofs.lemmas.Slice.Eq.{bytes_eq-Decides}
 use Rattle.yang_scope.specs.Modules.{Module}
-use Rattle.yang_scope.proofs.Tables.{bytes_eq-swap, bytes_eq-same}
 use Rattle.yang_must.specs.Findings.{IsSetOf, Gains, Finds, IsFound}
 use Rattle.yang_must.specs.Musts.{tables_along}
-use Rattle.yang_must.specs.Routes.{Route, names_nothing, ends_badly}
+use Rattle.yang_must.specs.Routes.{Route, route, end_of, spots_along, may_end_at, table_at, names_nothing, ends_badly}
+use Rattle.yang_must.specs.Spots.{Spot}
+use Rattle.yang_must.specs.declared.aims.Aim.{Aim}
+use Rattle.xpath_part.specs.Expression.{Strides}
+use Rattle.std.specs.Option.{option_map_or}
+use Rattle.std.proofs.lemmas.List.{append-nil}
 use Rattle.yang_must.specs.declared.findings.Findings.{Findings}
 
 or_false : (b : Bool) → b ≡ (b || false)
@@ -34,6 +39,9 @@ or_last true true = refl
 or_last true false = refl
 or_last false true = refl
 or_last false false = refl
+
+bytes_eq-swap : (x y : List ℕ) → bytes_eq x y ≡ bytes_eq y x
+bytes_eq-swap x y = same_from_decides _ _ (bytes_eq-Decides x y) ((λ e. sym ((bytes_eq-Decides y x).0 e)), (λ e. (bytes_eq-Decides y x).1 (sym e)))
 
 -- what passes among two lists, one behind the other
 module _ {X : Type 0} (p : X → Bool) (a b c : Bool) (xs ys : List X) (first : b ≡ (a || list_any p xs)) (second : c ≡ (b || list_any p ys)) where
@@ -64,7 +72,7 @@ Gains-added old new name updates = record {
 -- a name that is there already
 pub Gains-again : (set : Texts) (name : List ℕ) → contains_text set name ≡ true → Gains set set (name ∷ [])
 Gains-again set name there = record {
-  gains = λ q. by (bytes_eq q name) (contains_text set q) (λ e. ap (contains_text set) (bytes_eq-same q name e) ∙ there);
+  gains = λ q. by (bytes_eq q name) (contains_text set q) (λ e. ap (contains_text set) ((bytes_eq-Decides q name).0 e) ∙ there);
 }
   where
     by : (b a : Bool) → (b ≡ true → a ≡ true) → a ≡ (a || (b || false))
@@ -118,3 +126,20 @@ module _ (modules : List Module) (m : ℕ) where
     misplaced = found.misplaced ∙ ap (λ o. o || list_any (ends_badly modules m) rs) placed;
     reads = record { holds = λ q. found.reads.gains q ∙ ap (λ o. o || list_any (bytes_eq q) (tables rs)) (empty.holds q) };
   }
+
+  -- one path: what is found at its end, and the tables on its way
+  pub Finds-route :
+      (a b : Findings) (aim : Aim) (origin : Spot) (ss : Strides) (end : Option Spot) → end ≡ end_of modules m ss origin
+      → b.unknown ≡ (a.unknown || is_none end) → b.misplaced ≡ (a.misplaced || option_map_or (λ spot. not (may_end_at aim spot)) end false)
+      → (reads : Texts) → Gains a.reads.names reads (flat_map table_at (spots_along modules m ss origin)) → b.reads.names ≡ reads
+      → Finds modules m a b (route aim origin ss ∷ [])
+  Finds-route a b aim origin ss end is unknown misplaced reads gains same =
+      let along : List (List ℕ) = flat_map table_at (spots_along modules m ss origin) in record {
+        unknown = unknown ∙ ap (λ o. a.unknown || is_none o) is ∙ ap (λ o. a.unknown || o) (or_false (is_none (end_of modules m ss origin)));
+        misplaced =
+            misplaced ∙ ap (λ o. a.misplaced || option_map_or (λ spot. not (may_end_at aim spot)) o false) is
+            ∙ ap (λ o. a.misplaced || o) (or_false (option_map_or (λ spot. not (may_end_at aim spot)) (end_of modules m ss origin) false));
+        reads =
+            subst (λ (names : List (List ℕ)). Gains a.reads.names b.reads.names names) (sym (append-nil along))
+            (subst (λ (set : Texts). Gains a.reads.names set along) (sym same) gains);
+      }

@@ -1,5 +1,5 @@
 -- The steps of a path, one after another.
-use Rattle.std.proofs.Common.{◌≡◌, ◌<◌, ◌≤◌, ◌+◌, ℕ, suc, zero, List, [], ◌∷◌, ◌++◌, map, drop, length, get_or, Option, Some, None, add-one, option_and_then, refl, sym, ap, ◌∙◌, arith}
+use Rattle.std.proofs.Common.{◌≡◌, ◌<◌, ◌≤◌, ◌+◌, ℕ, suc, zero, List, [], ◌∷◌, ◌++◌, map, drop, length, get_or, Option, Some, None, add-one, drop_of_length-le, option_and_then, refl, sym, ap, ◌∙◌, arith}
 use Rattle.std.specs.List.{flat_map}
 use Rattle.std.specs.Option.{option_map_or}
 use Rattle.std.proofs.Math.Seq.{drop-cons}
@@ -18,9 +18,7 @@ drop-here xs i x within is = drop-cons xs i x within ∙ ap (λ y. y ∷ drop (s
 
 -- nothing stands past the end
 drop-past : {X : Type 0} (xs : List X) (i : ℕ) → length xs ≤ i → drop i xs ≡ []
-drop-past [] i past = refl
-drop-past (x ∷ xs) zero past = absurd (omega (arith, past))
-drop-past (x ∷ xs) (suc i) past = drop-past xs i (omega (arith, past))
+drop-past xs i past = drop_of_length-le xs past
 
 abbrev steps_from : List Step → ℕ → Strides
 steps_from xs i = strides_of (map step_of (drop i xs))

@@ -1,8 +1,9 @@
 //! What is wrong with the musts of the models.
-ghost use Rattle.std.specs.Prelude.{◌≡◌, ◌++◌, List, Option, ℕ, map, IfOk, OnOk};
+ghost use Rattle.std.specs.Prelude.{◌≡◌, [], ◌∷◌, List, Option, ℕ, IfOk, OnOk, if◌then◌else◌};
 ghost use Rattle.std.specs.List.{flat_map};
+ghost use Rattle.yang_text.specs.Declarations.{block};
 ghost use Rattle.yang_text.specs.Statements.{declaration};
-ghost use Rattle.yang_scope.specs.Faults.{least_of};
+ghost use Rattle.yang_scope.specs.Faults.{fault_at, least_of};
 ghost use Rattle.xpath_part.specs.Expression.{Expression};
 ghost use Rattle.xpath_part.specs.Expressions.{expression};
 ghost use Rattle.yang_must.specs.Musts.{ReadsExpressions, route_faults, must_faults, if_must, if_leaf, in_shape_faults, shape_faults, table_faults, container_faults, all_must_faults};
@@ -19,6 +20,22 @@ use xpath_part::Expr;
 use yang_scope::{Fault, note};
 use yang_text::{ModelWhy, Statement};
 
+/// A fault at a statement, where it was found.
+fn note_where(
+    found: bool,
+    least: &mut Option<Fault>,
+    file: u32,
+    statement: &Statement,
+    why: ModelWhy,
+)
+    ensures { least.new ≡ least_of least.old
+        (if found then fault_at file why (declaration statement.now) ∷ [] else []) }
+{
+    if found {
+        note(least, file, statement.line, why);
+    }
+}
+
 /// What is wrong with the paths of the expression of a must.
 fn note_routes(
     alloc: Global,
@@ -34,12 +51,21 @@ fn note_routes(
         (routes tree.now owner.now.number (spot_at spot.entry) (expression expr.now) (spot_at spot.entry)))) }
 {
     let findings = findings_in(alloc, tree, owner.number(), spot, expr)?;
-    if findings.unknown {
-        note(least, owner.file(), statement.line, ModelWhy::UnknownName);
-    }
-    if findings.misplaced {
-        note(least, owner.file(), statement.line, ModelWhy::BadExpr);
-    }
+    let file = owner.file();
+    note_where(
+        findings.unknown,
+        least,
+        file,
+        statement,
+        ModelWhy::UnknownName,
+    );
+    note_where(
+        findings.misplaced,
+        least,
+        file,
+        statement,
+        ModelWhy::BadExpr,
+    );
     Ok(())
 }
 
@@ -89,6 +115,26 @@ fn note_if_must(
     }
 }
 
+/// What is wrong with the musts among the statements in one at a spot.
+fn note_musts_in(
+    alloc: Global,
+    least: &mut Option<Fault>,
+    tree: &ModelTree,
+    owner: &ContainerNode,
+    spot: SpotRef,
+    statement: &Statement,
+) -> Result<(), Memory>
+    ensures { IfOk result (λ _. (read : List ℕ → Option Expression) → ReadsExpressions read
+        → least.new ≡ least_of least.old
+        (flat_map (if_must read tree.now owner.now (spot_at spot.entry))
+        (block (declaration statement.now)))) }
+{
+    for inner in statement.block.items() {
+        note_if_must(alloc, least, tree, owner, spot, inner)?;
+    }
+    Ok(())
+}
+
 /// What is wrong with the musts of a statement that is a leaf.
 fn note_if_leaf(
     alloc: Global,
@@ -102,13 +148,11 @@ fn note_if_leaf(
         → least.new ≡ least_of least.old
         (if_leaf read tree.now owner.now (spot_at spot.entry) (declaration statement.now))) }
 {
-    if statement.keyword.as_str() != "leaf" {
-        return Ok(());
+    if statement.keyword.as_str() == "leaf" {
+        note_musts_in(alloc, least, tree, owner, spot, statement)
+    } else {
+        Ok(())
     }
-    for inner in statement.block.items() {
-        note_if_must(alloc, least, tree, owner, spot, inner)?;
-    }
-    Ok(())
 }
 
 /// What is wrong with a statement in a list or a fixed container that is a must or a leaf.

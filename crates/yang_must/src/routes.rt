@@ -1,10 +1,11 @@
 //! The paths of an expression, followed in the models.
-ghost use Rattle.std.specs.Prelude.{◌≡◌, [], ◌∷◌, ◌++◌, map, option_map, OnOk};
+ghost use Rattle.std.specs.Prelude.{◌≡◌, ◌||◌, not, false, [], ◌∷◌, ◌++◌, map, option_map, is_none, OnOk};
 ghost use Rattle.std.specs.List.{flat_map};
+ghost use Rattle.std.specs.Option.{option_map_or};
 ghost use Rattle.xpath_part.specs.Expression.{strides_of, predicates_of};
 ghost use Rattle.xpath_part.specs.Expressions.{expression, term_of, path_of, step_of};
 ghost use Rattle.yang_must.specs.Findings.{Finds, Gains};
-ghost use Rattle.yang_must.specs.Routes.{route, end_of, spots_along, table_at, routes, term_routes, path_routes, inner_routes, step_routes, test_routes};
+ghost use Rattle.yang_must.specs.Routes.{route, end_of, spots_along, may_end_at, table_at, routes, term_routes, path_routes, inner_routes, step_routes, test_routes};
 ghost use Rattle.yang_must.specs.declared.aims.Aim.TheVariants.{Texts};
 ghost use Rattle.yang_must.specs.SpotRefs.{spot_at};
 
@@ -81,14 +82,7 @@ impl<'t, 'a> Resolver<'t, 'a> {
             (route aim (spot_at origin.entry) (strides_of (map step_of steps.now)) ∷ [])) }
     {
         self.add_tables(alloc, &mut findings.reads, origin, steps)?;
-        match self.end_of(origin, steps) {
-            Some(end) => {
-                if !end.may_end(aim) {
-                    findings.misplaced = true;
-                }
-            }
-            None => findings.unknown = true,
-        }
+        note_end(findings, aim, self.end_of(origin, steps));
         Ok(())
     }
 
@@ -267,5 +261,23 @@ fn add_table(alloc: Global, reads: &mut NameSet, spot: SpotRef) -> Result<(), Me
     match spot.table() {
         Some(name) => reads.add(alloc, name.as_str()),
         None => Ok(()),
+    }
+}
+
+/// What is found at the end of a path, which is None where a step names nothing.
+fn note_end(findings: &mut Findings, aim: Aim, end: Option<SpotRef>)
+    ensures unknown { findings.new.unknown
+        ≡ (findings.old.unknown || is_none (option_map spot_at end.entry)) }
+    ensures misplaced { findings.new.misplaced ≡ (findings.old.misplaced
+        || option_map_or (λ spot. not (may_end_at aim spot)) (option_map spot_at end.entry) false) }
+    ensures reads { findings.new.reads.names ≡ findings.old.reads.names }
+{
+    match end {
+        Some(spot) => {
+            if !spot.may_end(aim) {
+                findings.misplaced = true;
+            }
+        }
+        None => findings.unknown = true,
     }
 }

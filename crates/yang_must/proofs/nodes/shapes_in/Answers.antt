@@ -9,7 +9,7 @@ use Rattle.yang_must.proofs.nodes.shapes_in.Goals as goal
 pub loop-statement-preserved : goal.loop-statement-preserved
 loop-statement-preserved c =
     let x = c.statement-item.result in
-    c.in_ok-with_shape.ensures
+    c.in_ok-shapes.ensures
     ∙ ap (λ ds. ds ++ filter is_shape (declaration x ∷ [])) c.loop-statement.invariant
     ∙ sym (filter-next is_shape declaration c.args.statements.now c.loop-statement.statement-index x (search rules) (search rules))
 
