@@ -1,5 +1,5 @@
 -- What is found by following paths one after another.
-use Rattle.std.proofs.Common.{◌≡◌, ◌||◌, not, ℕ, Option, is_none, subst, Bool, true, false, cond, Decides, List, [], ◌∷◌, ◌++◌, String, refl, sym, ap, ◌∙◌}
+use Rattle.std.proofs.Common.{◌≡◌, ◌||◌, not, ℕ, Option, is_none, subst, Bool, true, false, cond, List, [], ◌∷◌, ◌++◌, String, refl, sym, ap, ◌∙◌}
 use Rattle.std.specs.Global.{Global}
 use Rattle.std.specs.BTreeSet.{BTreeSet, contains_text}
 use Rattle.std.specs.List.{flat_map, list_any}

@@ -1,8 +1,8 @@
 -- The keys of a set of texts, as names in order.
 use Rattle.std.specs.declared.cmp.Ordering.TheVariants.{Less}
-use Rattle.std.proofs.Common.{◌≡◌, ◌||◌, ℕ, arith, length, Bool, true, false, cond, Decides, List, [], ◌∷◌, map, Option, Some, None, String, string_bytes, refl, sym, ap, ◌∙◌}
+use Rattle.std.proofs.Common.{◌≡◌, ◌||◌, ℕ, arith, length, Bool, true, false, cond, List, [], ◌∷◌, map, Some, None, String, string_bytes, refl, sym, ap, ◌∙◌}
 use Rattle.std.specs.Global.{Global}
-use Rattle.std.specs.BTreeSet.{BTreeSet, contains_text}
+use Rattle.std.specs.BTreeSet.{BTreeSet}
 use Rattle.std.specs.List.{list_any, AllByRecursion}
 use Rattle.std.specs.List.Sorted.{IsStrictlySortedBy}
 use Rattle.std.specs.Str.{bytes_eq}

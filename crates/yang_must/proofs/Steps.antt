@@ -1,15 +1,15 @@
 -- The steps of a path, one after another.
-use Rattle.std.proofs.Common.{◌≡◌, ◌<◌, ◌≤◌, ◌+◌, ℕ, suc, zero, List, [], ◌∷◌, ◌++◌, map, drop, length, get_or, Option, Some, None, add-one, drop_of_length-le, option_and_then, refl, sym, ap, ◌∙◌, arith}
+use Rattle.std.proofs.Common.{◌≡◌, ◌<◌, ◌≤◌, ◌+◌, ℕ, suc, zero, List, [], ◌∷◌, ◌++◌, map, drop, length, get_or, Option, Some, None, add-one, drop_of_length-le, option_and_then, sym, ap, ◌∙◌, arith}
 use Rattle.std.specs.List.{flat_map}
 use Rattle.std.specs.Option.{option_map_or}
 use Rattle.std.proofs.Math.Seq.{drop-cons}
 use Rattle.yang_scope.specs.Modules.{Module}
-use Rattle.xpath_part.specs.Expression.{Expression, Strides, no_strides, stride, Stride, stride_weight, strides_weight, Predicates, no_predicates, predicate, strides_of, predicates_of, Term, path, literal, term_weight}
+use Rattle.xpath_part.specs.Expression.{Strides, no_strides, stride, stride_weight, strides_weight, Predicates, no_predicates, predicate, strides_of, predicates_of, Term, path, literal, term_weight}
 use Rattle.xpath_part.specs.Expressions.{expression, step_of}
 use Rattle.xpath_part.specs.declared.expressions.Expr.{Expr}
 use Rattle.xpath_part.specs.declared.expressions.Step.{Step}
 use Rattle.xpath_part.proofs.Weights.{strides_weigh}
-use Rattle.yang_must.specs.Routes.{Route, spot_after, end_of, spots_along, table_at, inner_routes, step_routes, test_routes}
+use Rattle.yang_must.specs.Routes.{Route, spot_after, end_of, spots_along, table_at, inner_routes, step_routes}
 use Rattle.yang_must.specs.Spots.{Spot}
 
 -- the element at an index, and those behind it

@@ -20,13 +20,15 @@ pub record Gains (old new : BTreeSet (String Global)) (names : List (List ℕ)) 
       → contains_text new name ≡ (contains_text old name || list_any (bytes_eq name) names)
 
 -- what was found beside what had been found before, where some paths were followed
-pub record Finds (modules : List Module) (m : ℕ) (old new : Findings) (rs : List Route) : Type 0 where
+pub record Finds
+    (modules : List Module) (m : ℕ) (old new : Findings) (rs : List Route) : Type 0 where
   pub unknown : new.unknown ≡ (old.unknown || list_any (names_nothing modules m) rs)
   pub misplaced : new.misplaced ≡ (old.misplaced || list_any (ends_badly modules m) rs)
   pub reads : Gains old.reads.names new.reads.names (flat_map (tables_along modules m) rs)
 
 -- all that is found by following some paths
-pub record IsFound (modules : List Module) (m : ℕ) (found : Findings) (rs : List Route) : Type 0 where
+pub record IsFound
+    (modules : List Module) (m : ℕ) (found : Findings) (rs : List Route) : Type 0 where
   pub unknown : found.unknown ≡ list_any (names_nothing modules m) rs
   pub misplaced : found.misplaced ≡ list_any (ends_badly modules m) rs
   pub reads : IsSetOf found.reads.names (flat_map (tables_along modules m) rs)

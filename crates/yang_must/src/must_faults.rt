@@ -48,7 +48,8 @@ fn note_routes(
 ) -> Result<(), Memory>
     ensures { OnOk result (least.new ≡ least_of least.old
         (route_faults tree.now owner.now.file owner.now.number (declaration statement.now)
-        (routes tree.now owner.now.number (spot_at spot.entry) (expression expr.now) (spot_at spot.entry)))) }
+        (routes tree.now owner.now.number (spot_at spot.entry) (expression expr.now)
+        (spot_at spot.entry)))) }
 {
     let findings = findings_in(alloc, tree, owner.number(), spot, expr)?;
     let file = owner.file();
@@ -172,7 +173,8 @@ fn note_in_shape(
     let spot = SpotRef::Shape(owner, table, shape);
     note_if_must(alloc, least, tree, owner, spot, statement)?;
     let leaf = SpotRef::Leaf(owner, table, shape, statement);
-    note_if_leaf(alloc, least, tree, owner, leaf, statement)
+    note_if_leaf(alloc, least, tree, owner, leaf, statement)?;
+    Ok(())
 }
 
 /// What is wrong with the musts of a list or a fixed container.

@@ -261,8 +261,8 @@ fn with_table<'a>(
     tables: NodeList<TableNode<'a>>,
     statement: &'a Statement,
 ) -> Result<NodeList<TableNode<'a>>, Memory>
-    ensures { IfOk result (λ list. list
-        ≡ tables.entry ++ filter (is_keyword (codes "container")) (declaration statement.now ∷ [])) }
+    ensures { IfOk result (λ list. list ≡ tables.entry
+        ++ filter (is_keyword (codes "container")) (declaration statement.now ∷ [])) }
 {
     if statement.keyword.as_str() == "container" {
         tables.with(alloc, TableNode::new(alloc, statement)?)

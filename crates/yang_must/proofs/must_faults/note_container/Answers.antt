@@ -1,4 +1,4 @@
-use Rattle.std.proofs.Common.{rules, ◌∙◌, ap, sym, arith}
+use Rattle.std.proofs.Common.{rules, arith}
 use Rattle.yang_scope.proofs.FaultLists.{least_of-next}
 use Rattle.yang_must.proofs.Least.{least_of-all}
 use Rattle.yang_must.specs.Musts.{table_faults}

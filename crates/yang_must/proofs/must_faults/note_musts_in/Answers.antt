@@ -1,4 +1,4 @@
-use Rattle.std.proofs.Common.{rules, ◌∙◌, ap, sym, arith}
+use Rattle.std.proofs.Common.{rules, arith}
 use Rattle.yang_text.specs.Statements.{declaration}
 use Rattle.yang_scope.proofs.FaultLists.{least_of-next, least_of-block}
 use Rattle.yang_must.specs.Musts.{if_must}

@@ -1,13 +1,13 @@
-use Rattle.std.proofs.Common.{rules, ◌≡◌, ◌<◌, ◌+◌, suc, List, option_map, length, get_or, map, subst, ap, sym, ◌∙◌, arith}
-use Rattle.xpath_part.specs.Expression.{Expression, weight, Strides, Predicates, stride_weight, strides_weight, predicates_weight, strides_of, predicates_of}
-use Rattle.xpath_part.specs.Expressions.{expression, step_of}
+use Rattle.std.proofs.Common.{rules, ◌≡◌, ◌+◌, suc, List, option_map, subst, ap, sym, ◌∙◌, arith}
+use Rattle.xpath_part.specs.Expression.{Expression, weight, Strides, Predicates}
+use Rattle.xpath_part.specs.Expressions.{expression}
 use Rattle.xpath_part.specs.declared.expressions.Expr.{Expr}
 use Rattle.xpath_part.proofs.Weights.{test_lighter}
 use Rattle.yang_must.specs.Findings.{Finds}
-use Rattle.yang_must.specs.Routes.{Route, routes, inner_routes, step_routes, test_routes}
+use Rattle.yang_must.specs.Routes.{Route, routes, inner_routes, test_routes}
 use Rattle.yang_must.specs.SpotRefs.{spot_at}
 use Rattle.yang_must.proofs.Found.{Finds-none, Finds-both, Finds-swap}
-use Rattle.yang_must.proofs.Steps.{inner-next, inner-none, steps-past, step_lighter, tests-here, tests-past, term_weighs}
+use Rattle.yang_must.proofs.Steps.{inner-next, inner-none, steps-past, step_lighter, tests-here, tests-past}
 use Rattle.yang_must.proofs.routes.Resolver.+routes.Goals as goal
 
 pub note_expression-loop-at-preserved-in-Or : goal.note_expression-loop-at-preserved-in-Or

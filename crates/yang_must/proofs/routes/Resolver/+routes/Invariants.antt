@@ -1,4 +1,4 @@
-use Rattle.std.proofs.Common.{◌≡◌, ◌≤◌, ◌+◌, map, drop}
+use Rattle.std.proofs.Common.{◌≤◌, ◌+◌, map, drop}
 use Rattle.xpath_part.specs.Expression.{weight, term_weight, path_weight, strides_weight, stride_weight, predicates_weight, strides_of, predicates_of}
 use Rattle.xpath_part.specs.Expressions.{expression, term_of, path_of, step_of}
 use Rattle.yang_must.specs.Findings.{Finds}

@@ -1,6 +1,5 @@
 use Rattle.std.proofs.Common.{rules, ℕ, List, option_map, subst, ap, sym, ◌∙◌, arith}
 use Rattle.std.specs.List.{flat_map}
-use Rattle.xpath_part.specs.Expressions.{step_of}
 use Rattle.yang_must.specs.Findings.{Gains}
 use Rattle.yang_must.specs.Routes.{spots_along, table_at}
 use Rattle.yang_must.specs.SpotRefs.{spot_at}

@@ -1,6 +1,5 @@
-use Rattle.std.proofs.Common.{rules, ◌≡◌, Option, Some, None, option_map, ap, sym, ◌∙◌, arith}
-use Rattle.xpath_part.specs.Expressions.{step_of}
-use Rattle.yang_must.specs.Routes.{end_of, spot_after}
+use Rattle.std.proofs.Common.{rules, option_map, ap, sym, ◌∙◌, arith}
+use Rattle.yang_must.specs.Routes.{end_of}
 use Rattle.yang_must.specs.SpotRefs.{spot_at}
 use Rattle.yang_must.proofs.Steps.{end-next, end-none, steps-past}
 use Rattle.yang_must.proofs.routes.Resolver.end_of.Goals as goal
