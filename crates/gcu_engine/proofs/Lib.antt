@@ -3,3 +3,4 @@ pub mod Elapsing
 pub mod Finding
 pub mod Models
 pub mod TreeTexts
+pub mod Checked

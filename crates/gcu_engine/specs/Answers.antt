@@ -7,7 +7,7 @@ use Rattle.conf_doc.specs.Texts.{file_text}
 use Rattle.gcu_engine.specs.Asked.{asked}
 use Rattle.gcu_engine.specs.Asking.{Asking, an_input, a_file}
 use Rattle.gcu_engine.specs.Lines.{last_line}
-use Rattle.gcu_engine.specs.Request.{Request, preview}
+use Rattle.gcu_engine.specs.Request.{Request, preview, check}
 use Rattle.gcu_engine.specs.declared.outcomes.Outcome.{Outcome}
 use Rattle.gcu_engine.specs.declared.outcomes.Outcome.TheVariants.{Done, Memory, Usage, InputFault, DiskFault, PrintFault}
 
@@ -21,6 +21,7 @@ HasCause old new other = ⊤
 -- what is printed where the command did all that was requested
 abbrev pub done_output : Request → List ℕ
 done_output (preview c) = file_text c ++ last_line Done
+done_output check = last_line Done
 
 -- the whole output with that answer; a fault is answered only where a call of its kind stands
 abbrev pub Says : Asking Request → Outcome → List ℕ → Type 0
@@ -78,6 +79,7 @@ TellsUsage other = ⊥
 -- the answers to a request where nothing failed, but for want of memory
 abbrev pub Finishes : Request → Outcome → Type 0
 Finishes (preview c) result = result ≡ Done
+Finishes check result = result ≡ Done
 
 -- the answers where nothing failed: for want of memory, the refusal, or what the request says
 abbrev pub Complete : Asking Request → Outcome → Type 0

@@ -18,25 +18,14 @@ use Rattle.patch_core.specs.declared.errors.ApplyError.{ApplyError}
 use Rattle.patch_core.specs.declared.errors.ApplyError.TheVariants as failed
 use Rattle.patch_core.specs.declared.errors.PatchError.{PatchError}
 use Rattle.patch_core.specs.declared.errors.PatchError.TheVariants as bad
-use Rattle.conf_store.specs.Stored.{stored}
-use Rattle.conf_store.specs.declared.errors.StoredWhy.{StoredWhy}
-use Rattle.gcu_engine.specs.Asking.{Asking, an_input, a_file, asks, follows, ◌>>>◌}
-use Rattle.gcu_engine.specs.Form.{Form, preview, form}
+use Rattle.gcu_engine.specs.Asking.{Asking, an_input, asks, follows, ◌>>>◌}
+use Rattle.gcu_engine.specs.Checking.{check_asked}
+use Rattle.gcu_engine.specs.Form.{Form, preview, check, form}
 use Rattle.gcu_engine.specs.Request as request
 use Rattle.gcu_engine.specs.Request.{Request}
+use Rattle.gcu_engine.specs.StoredAsked.{stored_asked}
 use Rattle.gcu_engine.specs.declared.outcomes.Outcome.{Outcome}
-use Rattle.gcu_engine.specs.declared.outcomes.Outcome.TheVariants.{Memory, Usage, NoInput, TooBig, BadJson, BadPatch, PatchFailed, TargetShape, BadStored}
-
--- ---- the stored configuration
-
--- a folder that stands for none is refused
-abbrev pub stored_answer : Result Config StoredWhy → Result Config Outcome
-stored_answer (Ok c) = Ok c
-stored_answer (Err why) = Err (BadStored why)
-
--- the configuration that the folder stands for
-abbrev pub stored_asked : State → Asking Config
-stored_asked s = asks a_file (stored_answer (stored s.files))
+use Rattle.gcu_engine.specs.declared.outcomes.Outcome.TheVariants.{Memory, Usage, NoInput, TooBig, BadJson, BadPatch, PatchFailed, TargetShape}
 
 -- ---- the patch
 
@@ -95,6 +84,7 @@ preview_asked path s =
 abbrev form_asked : Option Form → State → Asking Request
 form_asked None s = follows (Err Usage)
 form_asked (Some (preview path)) s = preview_asked path s
+form_asked (Some check) s = check_asked s
 
 -- what the words ask of a host in this state
 abbrev pub asked : List (List ℕ) → State → Asking Request

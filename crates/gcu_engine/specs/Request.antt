@@ -5,3 +5,5 @@ use Rattle.conf_doc.specs.declared.configuration.Config.{Config}
 pub data Request : Type 0 where
   -- print this configuration
   preview : Config → Request
+  -- nothing but to say that the stored configuration is valid
+  check : Request

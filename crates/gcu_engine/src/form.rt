@@ -9,6 +9,8 @@ use host_core::Txt;
 pub(crate) enum Form<'a> {
     /// The words are no command.
     Unknown,
+    /// Says whether the stored configuration is valid.
+    Check,
     /// Prints the stored configuration as the patch of this input would leave it.
     Preview { patch: &'a Txt },
 }
@@ -18,6 +20,7 @@ pub(crate) fn read_form(words: &[Txt]) -> Form<'_>
     ensures { form_view result ≡ form words.now }
 {
     match words {
+        [command] if command.as_str() == "check" => Form::Check,
         [command, patch] if command.as_str() == "preview" && !patch.as_str().starts_with("--") => {
             Form::Preview { patch }
         }

@@ -1,10 +1,12 @@
 //! What the program `gcu` does: its commands, their answers and what they print.
 #![tactic(auto)]
 
+mod check;
 mod form;
 mod inputs;
 mod lines;
 mod model_files;
+mod models;
 mod outcomes;
 mod preview;
 mod printing;
@@ -12,6 +14,7 @@ mod run_command;
 mod stored;
 mod tree_text;
 
+pub use conf_check::Rule;
 pub use conf_store::StoredWhy;
 pub use outcomes::Outcome;
 pub use run_command::run;

@@ -2,6 +2,7 @@
 ghost use Rattle.std.specs.Prelude.{◌≡◌};
 ghost use Rattle.gcu_engine.specs.Lines.{number};
 
+use conf_check::Rule;
 use conf_store::StoredWhy;
 use host_core::{Memory, Txt};
 use patch_core::{FailWhy, PatchWhy};
@@ -36,6 +37,8 @@ pub enum Outcome {
     PatchFailed { index: usize, why: FailWhy },
     /// The patched configuration would have a wrong shape at this place, an RFC 6901 pointer.
     TargetShape { place: Txt },
+    /// The stored configuration breaks this rule at this place, an RFC 6901 pointer.
+    CurrentInvalid { place: Txt, rule: Rule },
     /// The folder stands for no configuration.
     BadStored { why: StoredWhy },
 }
@@ -59,6 +62,7 @@ impl Outcome {
             Outcome::BadPatch { .. } => 13,
             Outcome::PatchFailed { .. } => 14,
             Outcome::TargetShape { .. } => 15,
+            Outcome::CurrentInvalid { .. } => 16,
             Outcome::BadStored { .. } => 25,
         }
     }

@@ -9,6 +9,7 @@ ghost use Rattle.gcu_engine.specs.Form.{form};
 ghost use Rattle.gcu_engine.specs.declared.outcomes.Outcome.TheVariants.{Usage as usage};
 
 use crate::Outcome;
+use crate::check::check;
 use crate::form::{Form, read_form};
 use crate::preview::preview;
 use crate::printing::{say, show};
@@ -16,7 +17,7 @@ use host_core::{Host, Txt};
 use std::alloc::Global;
 
 /// Does the command that the words are, and prints its answer. `preview PATCH` prints the stored
-/// configuration as the patch would leave it.
+/// configuration as the patch would leave it; `check` says whether it is valid by its models.
 pub fn run<H: Host>(alloc: Global, words: &[Txt], host: &mut H) -> Outcome
     requires { longest_scoped_name ≤ H.longest_name }
     // The answer is the first refusal, or what the command asks for, and nothing but the output changes.
@@ -40,6 +41,10 @@ pub fn run<H: Host>(alloc: Global, words: &[Txt], host: &mut H) -> Outcome
 {
     match read_form(words) {
         Form::Unknown => say(alloc, Outcome::Usage, host),
+        Form::Check => match check(alloc, host) {
+            Ok(()) => say(alloc, Outcome::Done, host),
+            Err(outcome) => say(alloc, outcome, host),
+        },
         Form::Preview { patch } => match preview(alloc, patch, host) {
             Ok(tree) => show(alloc, &tree, host),
             Err(outcome) => say(alloc, outcome, host),
