@@ -1,0 +1,10 @@
+-- What public clauses cite.
+pub mod BoundFaults
+pub mod Characters
+pub mod Circles
+pub mod Defaults
+pub mod Numbers
+pub mod Parts
+pub mod Targets
+pub mod TypeValues
+pub mod Values
