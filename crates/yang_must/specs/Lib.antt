@@ -1,0 +1,7 @@
+-- What public clauses cite.
+pub mod Spots
+pub mod SpotRefs
+pub mod Routes
+pub mod Musts
+-- What only private clauses and the models of types cite.
+pub mod NodeNames
