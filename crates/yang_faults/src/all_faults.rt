@@ -35,10 +35,11 @@ fn note_module(
     alloc: Global,
     least: &mut Option<Fault>,
     names: &Names,
+    circular: bool,
     number: usize,
 ) -> Result<(), Memory>
     ensures { OnOk result (Notes least.old least.new
-        (faults_of_module names.now number (slice_get names.now number))) }
+        (faults_of_module names.now circular number (slice_get names.now number))) }
 {
     match names.module_at(number) {
         Some((file, statement)) => {
@@ -46,6 +47,7 @@ fn note_module(
                 names,
                 file,
                 number,
+                circular,
             };
             note_statement(alloc, least, &scope, file, Kind::Module, statement)
         }
@@ -53,16 +55,18 @@ fn note_module(
     }
 }
 
-/// What is wrong with the modules and all that stands in them.
+/// What is wrong with the modules and all that stands in them. Where some types go round in circles,
+/// no default is looked at.
 pub fn note_module_faults(
     alloc: Global,
     least: &mut Option<Fault>,
     names: &Names,
+    circular: bool,
 ) -> Result<(), Memory>
-    ensures { OnOk result (Notes least.old least.new (all_module_faults names.now)) }
+    ensures { OnOk result (Notes least.old least.new (all_module_faults names.now circular)) }
 {
     for number in 0..names.len() {
-        note_module(alloc, least, names, number)?;
+        note_module(alloc, least, names, circular, number)?;
     }
     Ok(())
 }

@@ -1,10 +1,14 @@
 //! The scope of a module of the files.
-ghost use Rattle.std.specs.Prelude.{◌≡◌, OnOk};
+ghost use Rattle.std.specs.Prelude.{◌≡◌, ◌++◌, OnOk};
 ghost use Rattle.yang_text.specs.Statements.{declaration};
+ghost use Rattle.yang_scope.specs.Faults.{least_of};
 ghost use Rattle.yang_scope.specs.Meanings.{is_module};
+ghost use Rattle.yang_scope.specs.TypeFaults.{bad_patterns};
+ghost use Rattle.yang_values.specs.BoundFaults.{bad_bounds};
 ghost use Rattle.yang_faults.specs.Tests.{Notes};
 ghost use Rattle.yang_faults.specs.Types.{restricted_kind, kind_of_base, type_kind, settle, named_faults};
 
+use crate::defaults::{note_fixed_defaults, note_list_defaults};
 use crate::kinds::Kind;
 use crate::scopes::Scope;
 use host_core::Memory;
@@ -13,6 +17,7 @@ use yang_scope::{
     Base, Fault, Meaning, Names, note_bad_patterns, note_unknown_type, note_wrong_paths,
 };
 use yang_text::Statement;
+use yang_values::note_bad_bounds;
 
 /// A module by its number, in the file that has it, among the names of all modules.
 #[derive(Clone, Copy)]
@@ -20,6 +25,8 @@ pub(crate) struct ModuleScope<'n, 'a> {
     pub(crate) names: &'n Names<'a>,
     pub(crate) file: u32,
     pub(crate) number: usize,
+    /// Whether some types go round in circles.
+    pub(crate) circular: bool,
 }
 
 /// What kind a type is that typedefs lead to.
@@ -57,12 +64,43 @@ fn type_kind(meaning: Meaning, base: Option<Base>) -> Kind
     }
 }
 
+impl<'n, 'a> ModuleScope<'n, 'a> {
+    /// The lengths and ranges of a type that are none.
+    fn note_bounds(
+        &self,
+        alloc: Global,
+        least: &mut Option<Fault>,
+        statement: &Statement,
+    ) -> Result<(), Memory>
+        ensures { OnOk result (least.new ≡ least_of least.old
+            (bad_bounds self.now.names.now self.now.file self.now.number (declaration statement.now))) }
+    {
+        note_bad_bounds(alloc, least, self.names, self.file, self.number, statement)
+    }
+
+    /// The patterns, lengths and ranges of a type that are none.
+    fn note_restrictions(
+        &self,
+        alloc: Global,
+        least: &mut Option<Fault>,
+        statement: &Statement,
+    ) -> Result<(), Memory>
+        ensures { OnOk result (Notes least.old least.new (λ tests.
+            bad_patterns tests.is_pattern self.now.file (declaration statement.now)
+            ++ bad_bounds self.now.names.now self.now.file self.now.number (declaration statement.now))) }
+    {
+        note_bad_patterns(alloc, least, self.file, statement)?;
+        note_bad_bounds(alloc, least, self.names, self.file, self.number, statement)?;
+        Ok(())
+    }
+}
+
 impl<'n, 'a> Scope for ModuleScope<'n, 'a> {
     ghost settles = { λ s. settle s.names.now s.number };
 
     ghost knows = { λ s. is_module s.names.now };
 
-    ghost named = { λ s tests. named_faults s.names.now tests s.file s.number };
+    ghost named = { λ s tests. named_faults s.names.now s.circular tests s.file s.number };
 
     fn settle(&self, kind: Kind, statement: &Statement) -> Kind {
         match kind {
@@ -88,11 +126,18 @@ impl<'n, 'a> Scope for ModuleScope<'n, 'a> {
         match kind {
             Kind::UnknownType => {
                 note_unknown_type(least, self.names, self.file, self.number, statement);
-                note_bad_patterns(alloc, least, self.file, statement)
+                self.note_restrictions(alloc, least, statement)
             }
-            Kind::TextType => note_bad_patterns(alloc, least, self.file, statement),
+            Kind::TextType => self.note_restrictions(alloc, least, statement),
+            Kind::NumberType => self.note_bounds(alloc, least, statement),
             Kind::LeafrefType => {
                 note_wrong_paths(alloc, least, self.names, self.file, self.number, statement)
+            }
+            Kind::TableList if !self.circular => {
+                note_list_defaults(alloc, least, self.names, self.file, self.number, statement)
+            }
+            Kind::FixedContainer if !self.circular => {
+                note_fixed_defaults(alloc, least, self.names, self.file, self.number, statement)
             }
             _ => Ok(()),
         }
