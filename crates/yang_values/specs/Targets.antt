@@ -1,12 +1,19 @@
 -- What a leafref's path leads to, as a key part of a shape of a table (RFC 7950, section 9.9.2).
 use Rattle.std.specs.Prelude.{ℕ, suc, ◌==◌, ◌&&◌, ◌||◌, not, Bool, List, [], ◌∷◌, length, filter, Option, Some, None, codes, option_map, option_and_then, if◌then◌else◌}
+use Rattle.std.specs.Option.{option_map_or}
 use Rattle.std.specs.Str.{bytes_eq}
 use Rattle.yang_text.specs.Declarations.{Declaration, argument, block}
 use Rattle.yang_types.specs.declared.types.Target.{Target}
 use Rattle.yang_scope.specs.Modules.{Module}
-use Rattle.yang_scope.specs.Paths.{slash, space, step_name, is_named, child_named, container_named}
+use Rattle.yang_scope.specs.Paths.{step_name, is_named, child_named, container_named}
 use Rattle.yang_scope.specs.Pieces.{pieces}
 use Rattle.yang_scope.specs.Statements.{is_keyword, first_child}
+
+abbrev slash : ℕ
+slash = 47
+
+abbrev space : ℕ
+space = 32
 
 -- the place of the first element that passes
 abbrev pub place_of : {X : Type 0} → (X → Bool) → List X → Option ℕ
@@ -25,13 +32,15 @@ is_list_named name d = is_keyword (codes "list") d && is_named name d
 abbrev pub shape_of : List ℕ → Declaration → Option ℕ
 shape_of list d = place_of (is_list_named list) (filter is_shape (block d))
 
--- the names in the key of a list
+-- a name that is there
+abbrev pub is_filled : List ℕ → Bool
+is_filled name = not (length name == 0)
+
+-- the names in the key of a list: what stands between spaces
 abbrev pub key_names : Declaration → List (List ℕ)
-key_names d = filter (λ name. not (length name == 0)) (key_pieces (option_and_then argument (first_child (codes "key") d)))
-  where
-    key_pieces : Option (List ℕ) → List (List ℕ)
-    key_pieces None = []
-    key_pieces (Some key) = pieces space key
+key_names d =
+    option_map_or (λ key. filter is_filled (pieces space key))
+    (option_and_then argument (first_child (codes "key") d)) []
 
 -- the number of a leaf among the names of the key
 abbrev pub part_in : List ℕ → Declaration → Option ℕ

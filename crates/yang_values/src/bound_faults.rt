@@ -1,0 +1,1 @@
+//! What is wrong with lengths and ranges.
