@@ -1,6 +1,6 @@
 -- The typedefs behind a meaning, one after another.
-use Rattle.std.proofs.Common.{◌≡◌, ◌<◌, ◌+◌, ◌-◌, ℕ, suc, List, [], ◌∷◌, ◌++◌, map, Option, Some, None, refl, sym, ap, ◌∙◌, arith}
-use Rattle.std.proofs.lemmas.List.{append-nil, append_assoc, map-append}
+use Rattle.std.proofs.Common.{◌≡◌, ◌<◌, ◌+◌, ◌-◌, ℕ, suc, List, [], ◌∷◌, ◌++◌, map, reverse, Option, Some, None, refl, sym, ap, ◌∙◌, arith}
+use Rattle.std.proofs.lemmas.List.{append-nil, append_assoc, map-append, reverse-append}
 use Rattle.std.specs.List.{fold}
 use Rattle.std.specs.Option.{option_map_or}
 use Rattle.yang_text.specs.Declarations.{Declaration}
@@ -51,3 +51,11 @@ chain_full modules most i g whole found here full before =
 pub fold-map : {W X Y : Type 0} (f : Y → X → Y) (g : W → X) (a : Y) (ws : List W) → fold f a (map g ws) ≡ fold (λ y w. f y (g w)) a ws
 fold-map f g a [] = refl
 fold-map f g a (w ∷ ws) = fold-map f g (f a (g w)) ws
+
+pub reverse-map : {W X : Type 0} (g : W → X) (ws : List W) → reverse (map g ws) ≡ map g (reverse ws)
+reverse-map g [] = refl
+reverse-map g (w ∷ ws) =
+    reverse-append (g w ∷ []) (map g ws)
+    ∙ ap (λ xs. xs ++ g w ∷ []) (reverse-map g ws)
+    ∙ sym (map-append g (reverse ws) (w ∷ []))
+    ∙ ap (map g) (sym (reverse-append (w ∷ []) ws))

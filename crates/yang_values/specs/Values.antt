@@ -69,13 +69,15 @@ types_within modules zero meaning = []
 types_within modules (suc most) meaning =
     option_map_or (λ t. t.0 ∷ types_within modules most t.1) (next_typedef modules meaning) []
 
--- the values of a meaning that has a base: what its typedefs leave of the base's, from the furthest
--- one on; of what has no base nothing is known
+-- what the typedefs behind a meaning leave of the values of their base, from the furthest one on
+abbrev pub values_behind : List Module → Meaning → Option Base → List Bounds
+values_behind modules meaning base =
+    fold (values_by base) (base_bounds base ∷ []) (reverse (types_within modules most_steps meaning))
+
+-- the values of a meaning; of what has no base nothing is known
 abbrev pub values_of : List Module → Meaning → Option Base → List Bounds
 values_of modules meaning None = all_numbers ∷ []
-values_of modules meaning (Some base) =
-    fold (values_by (Some base)) (base_bounds (Some base) ∷ [])
-    (reverse (types_within modules most_steps meaning))
+values_of modules meaning (Some base) = values_behind modules meaning (Some base)
 
 -- the values of the type that a type statement of a module restricts
 abbrev pub restricted_values : List Module → ℕ → Declaration → List Bounds

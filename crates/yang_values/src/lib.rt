@@ -8,3 +8,5 @@ mod parts;
 mod statements;
 mod values;
 
+
+pub use bound_faults::note_bad_bounds;

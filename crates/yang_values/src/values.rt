@@ -3,7 +3,8 @@
 ghost use Rattle.std.specs.Prelude.{◌≡◌, ◌^◌, [], ◌∷◌, map, option_map, IfOk};
 ghost use Rattle.std.specs.List.{fold};
 ghost use Rattle.yang_text.specs.Statements.{declaration};
-ghost use Rattle.yang_values.specs.Values.{most_steps, base_bounds, is_restriction, parts_in, values_left, values_by, next_typedef, types_within, restricted_values};
+ghost use Rattle.yang_values.specs.Parts.{parts};
+ghost use Rattle.yang_values.specs.Values.{most_steps, base_bounds, is_restriction, parts_in, values_left, values_by, next_typedef, types_within, values_behind, values_of, restricted_values};
 
 use crate::parts::{common, parts};
 use crate::statements::typedef_type;
@@ -170,6 +171,36 @@ fn values_along(
     Ok(left)
 }
 
+/// What the typedefs behind a meaning leave of the values of their base.
+fn values_behind(
+    alloc: Global,
+    names: &Names,
+    meaning: Meaning,
+    base: Option<Base>,
+) -> Result<Sequence<Bounds>, Memory>
+    ensures { IfOk result (λ found. found ≡ values_behind names.now meaning base) }
+{
+    let mut statements = typedef_types(alloc, names, meaning)?;
+    statements.reverse();
+    let first = only(alloc, base_bounds(base))?;
+    values_along(alloc, base, first, statements.as_slice())
+}
+
+/// The values of a meaning with this base.
+fn values_of(
+    alloc: Global,
+    names: &Names,
+    meaning: Meaning,
+    base: Option<Base>,
+) -> Result<Sequence<Bounds>, Memory>
+    ensures { IfOk result (λ found. found ≡ values_of names.now meaning base) }
+{
+    match base {
+        None => only(alloc, base_bounds(base)),
+        Some(_) => values_behind(alloc, names, meaning, base),
+    }
+}
+
 /// The values of the type that a type statement of a module restricts.
 pub(crate) fn restricted_values(
     alloc: Global,
@@ -180,13 +211,29 @@ pub(crate) fn restricted_values(
     ensures { IfOk result
         (λ found. found ≡ restricted_values names.now number (declaration statement.now)) }
 {
-    let base = names.base_of(number, &statement.argument);
-    let first = only(alloc, base_bounds(base))?;
-    if base.is_none() {
-        return Ok(first);
-    }
     let meaning = names.type_meaning(number, &statement.argument);
-    let mut statements = typedef_types(alloc, names, meaning)?;
-    statements.reverse();
-    values_along(alloc, base, first, statements.as_slice())
+    let base = names.base_of(number, &statement.argument);
+    values_of(alloc, names, meaning, base)
+}
+
+/// The parts of a length or a range at a type statement of a module, where the text is one. The typedefs
+/// are looked at only where it needs their values.
+pub(crate) fn parts_at(
+    alloc: Global,
+    names: &Names,
+    number: usize,
+    statement: &Statement,
+    text: &str,
+) -> Result<Option<Sequence<Bounds>>, Memory>
+    ensures { IfOk result (λ found. found
+        ≡ parts (restricted_values names.now number (declaration statement.now)) text.now) }
+{
+    let nothing = Sequence::new(alloc);
+    match parts(alloc, nothing.items(), text)? {
+        Some(found) => Ok(Some(found)),
+        None => {
+            let values = restricted_values(alloc, names, number, statement)?;
+            parts(alloc, values.items(), text)
+        }
+    }
 }
