@@ -1,4 +1,5 @@
 pub mod Chains
 pub mod Given
 pub mod Narrow
+pub mod Places
 pub mod Without

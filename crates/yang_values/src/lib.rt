@@ -6,6 +6,7 @@ mod bound_faults;
 mod numbers;
 mod parts;
 mod statements;
+mod targets;
 mod values;
 
 
