@@ -2,4 +2,5 @@ pub mod Chains
 pub mod Given
 pub mod Narrow
 pub mod Places
+pub mod Visits
 pub mod Without

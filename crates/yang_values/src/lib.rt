@@ -8,6 +8,7 @@ mod parts;
 mod statements;
 mod targets;
 mod values;
+mod walks;
 
 
 pub use bound_faults::note_bad_bounds;
