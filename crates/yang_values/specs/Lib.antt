@@ -8,3 +8,5 @@ pub mod Parts
 pub mod Targets
 pub mod TypeValues
 pub mod Values
+-- What only private clauses cite.
+pub mod Walks

@@ -69,10 +69,13 @@ abbrev pub parts : List Bounds → List ℕ → Option (List Bounds)
 parts values s = all_given (part values) (pieces bar s)
 
 -- what two parts have in common
-abbrev pub common_part : Bounds → Bounds → List Bounds
-common_part a b =
-    option_to_list (between (Some (int_max a.low b.low)) (Some (int_min a.high b.high)))
+abbrev pub common_part : Bounds → Bounds → Option Bounds
+common_part a b = between (Some (int_max a.low b.low)) (Some (int_min a.high b.high))
+
+-- what some parts have in common with one
+abbrev pub common_with : List Bounds → Bounds → List Bounds
+common_with ys a = flat_map (λ b. option_to_list (common_part a b)) ys
 
 -- what some parts have in common with others
 abbrev pub common : List Bounds → List Bounds → List Bounds
-common xs ys = flat_map (λ a. flat_map (common_part a) ys) xs
+common xs ys = flat_map (common_with ys) xs

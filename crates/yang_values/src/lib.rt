@@ -1,13 +1,14 @@
-// A library with one function.
+//! The types of YANG models as values (RFC 7950, sections 7.3 and 9, in a profile), and the faults of
+//! types beyond their names.
 #![tactic(auto)]
 
-ghost use Rattle.std.specs.Prelude.{◌≡◌};
-ghost use Rattle.yang_values.specs.Echo.{echo_of};
+mod bound_faults;
+mod numbers;
+mod parts;
+mod statements;
+mod targets;
+mod values;
+mod walks;
 
-// The `ensures` clause is the contract: what `echo` returns is `echo_of` of its argument, a definition
-// in `specs/Echo.antt`, which a caller's clause can cite too.
-pub fn echo(x: usize) -> usize
-    ensures { result ≡ echo_of x }
-{
-    x
-}
+
+pub use bound_faults::note_bad_bounds;

@@ -1,0 +1,6 @@
+pub mod Chains
+pub mod Given
+pub mod Narrow
+pub mod Places
+pub mod Visits
+pub mod Without
