@@ -6,7 +6,7 @@ ghost use Rattle.yang_scope.specs.Meanings.{is_module};
 ghost use Rattle.yang_scope.specs.TypeFaults.{bad_patterns};
 ghost use Rattle.yang_values.specs.BoundFaults.{bad_bounds};
 ghost use Rattle.yang_faults.specs.Tests.{Notes};
-ghost use Rattle.yang_faults.specs.Types.{restricted_kind, kind_of_base, type_kind, settle, named_faults};
+ghost use Rattle.yang_faults.specs.Types.{restricted_kind, kind_of_base, type_kind, settle, type_faults, all_type_faults, named_faults};
 
 use crate::defaults::{note_fixed_defaults, note_list_defaults};
 use crate::kinds::Kind;
@@ -17,7 +17,7 @@ use yang_scope::{
     Base, Fault, Meaning, Names, note_bad_patterns, note_unknown_type, note_wrong_paths,
 };
 use yang_text::Statement;
-use yang_values::note_bad_bounds;
+use yang_values::{note_bad_bounds, note_circle};
 
 /// A module by its number, in the file that has it, among the names of all modules.
 #[derive(Clone, Copy)]
@@ -25,8 +25,8 @@ pub(crate) struct ModuleScope<'n, 'a> {
     pub(crate) names: &'n Names<'a>,
     pub(crate) file: u32,
     pub(crate) number: usize,
-    /// Whether some types go round in circles.
-    pub(crate) circular: bool,
+    /// How many steps a way over type statements may have.
+    pub(crate) most: u64,
 }
 
 /// What kind a type is that typedefs lead to.
@@ -93,6 +93,49 @@ impl<'n, 'a> ModuleScope<'n, 'a> {
         note_bad_bounds(alloc, least, self.names, self.file, self.number, statement)?;
         Ok(())
     }
+
+    /// What is wrong with a type statement of a kind by its name and its restrictions.
+    fn note_type_alone(
+        &self,
+        alloc: Global,
+        least: &mut Option<Fault>,
+        kind: Kind,
+        statement: &Statement,
+    ) -> Result<(), Memory>
+        ensures { OnOk result (Notes least.old least.new (λ tests.
+            type_faults self.now.names.now tests self.now.file self.now.number kind
+            (declaration statement.now))) }
+    {
+        match kind {
+            Kind::UnknownType => {
+                note_unknown_type(least, self.names, self.file, self.number, statement);
+                self.note_restrictions(alloc, least, statement)
+            }
+            Kind::TextType => self.note_restrictions(alloc, least, statement),
+            Kind::NumberType => self.note_bounds(alloc, least, statement),
+            Kind::LeafrefType => {
+                note_wrong_paths(alloc, least, self.names, self.file, self.number, statement)
+            }
+            _ => Ok(()),
+        }
+    }
+
+    /// All that is wrong with a type statement of a kind.
+    fn note_type(
+        &self,
+        alloc: Global,
+        least: &mut Option<Fault>,
+        kind: Kind,
+        statement: &Statement,
+    ) -> Result<(), Memory>
+        ensures { OnOk result (Notes least.old least.new (λ tests.
+            all_type_faults self.now.names.now tests self.now.file self.now.number kind
+            (declaration statement.now))) }
+    {
+        note_circle(alloc, least, self.names, self.most, self.file, self.number, statement)?;
+        self.note_type_alone(alloc, least, kind, statement)?;
+        Ok(())
+    }
 }
 
 impl<'n, 'a> Scope for ModuleScope<'n, 'a> {
@@ -100,7 +143,7 @@ impl<'n, 'a> Scope for ModuleScope<'n, 'a> {
 
     ghost knows = { λ s. is_module s.names.now };
 
-    ghost named = { λ s tests. named_faults s.names.now s.circular tests s.file s.number };
+    ghost named = { λ s tests. named_faults s.names.now tests s.file s.number };
 
     fn settle(&self, kind: Kind, statement: &Statement) -> Kind {
         match kind {
@@ -124,20 +167,18 @@ impl<'n, 'a> Scope for ModuleScope<'n, 'a> {
         statement: &Statement,
     ) -> Result<(), Memory> {
         match kind {
-            Kind::UnknownType => {
-                note_unknown_type(least, self.names, self.file, self.number, statement);
-                self.note_restrictions(alloc, least, statement)
+            Kind::UnknownType
+            | Kind::TextType
+            | Kind::NumberType
+            | Kind::EnumerationType
+            | Kind::LeafrefType
+            | Kind::UnionType
+            | Kind::PlainType => self.note_type(alloc, least, kind, statement),
+            Kind::TableList => {
+                note_list_defaults(alloc, least, self, statement)
             }
-            Kind::TextType => self.note_restrictions(alloc, least, statement),
-            Kind::NumberType => self.note_bounds(alloc, least, statement),
-            Kind::LeafrefType => {
-                note_wrong_paths(alloc, least, self.names, self.file, self.number, statement)
-            }
-            Kind::TableList if !self.circular => {
-                note_list_defaults(alloc, least, self.names, self.file, self.number, statement)
-            }
-            Kind::FixedContainer if !self.circular => {
-                note_fixed_defaults(alloc, least, self.names, self.file, self.number, statement)
+            Kind::FixedContainer => {
+                note_fixed_defaults(alloc, least, self, statement)
             }
             _ => Ok(()),
         }

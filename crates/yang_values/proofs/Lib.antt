@@ -1,4 +1,5 @@
 pub mod Chains
+pub mod Endings
 pub mod Given
 pub mod Narrow
 pub mod Places

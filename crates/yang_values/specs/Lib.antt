@@ -9,4 +9,5 @@ pub mod Targets
 pub mod TypeValues
 pub mod Values
 -- What only private clauses cite.
+pub mod Endings
 pub mod Walks

@@ -3,6 +3,7 @@
 #![tactic(auto)]
 
 mod bound_faults;
+mod circles;
 mod numbers;
 mod parts;
 mod statements;
@@ -12,3 +13,4 @@ mod walks;
 
 
 pub use bound_faults::note_bad_bounds;
+pub use circles::note_circle;

@@ -139,7 +139,7 @@ fn next_by<'a>(
 }
 
 /// The type statements that one leads to.
-fn next<'a>(
+pub(crate) fn next<'a>(
     alloc: Global,
     names: &Names<'a>,
     place: Place<'a>,
@@ -151,7 +151,7 @@ fn next<'a>(
 }
 
 /// Puts statements on those that are still to be visited, the first on top.
-fn push_steps<'a>(
+pub(crate) fn push_steps<'a>(
     pending: &mut Vec<Step<'a>>,
     most: u64,
     places: &[Place<'a>],

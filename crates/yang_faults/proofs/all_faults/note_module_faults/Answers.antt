@@ -16,10 +16,10 @@ pub loop-number-preserved : goal.loop-number-preserved
 loop-number-preserved c = λ tests decide.
     let modules = c.args.names.now in
     let n = c.loop-number.number in
-    let f = module_faults_at modules c.args.circular tests in
+    let f = module_faults_at modules tests in
     least_of-two c.args.least.now c.loop-number.least c.note_module.new.least
     (each_from f 0 (take n modules))
-    (faults_of_module modules c.args.circular n (slice_get modules n) tests)
+    (faults_of_module modules n (slice_get modules n) tests)
     (c.loop-number.invariant tests decide)
     (c.in_ok-note_module.ensures tests decide)
     ∙ ap (least_of c.args.least.now) (sym (each_from-one_more f modules n (omega arith)))
@@ -28,5 +28,5 @@ pub returns : goal.returns
 returns c = λ tests decide.
     let modules = c.args.names.now in
     c.loop-number.invariant tests decide
-    ∙ ap (λ (ms : List Module). least_of c.args.least.now (each_from (module_faults_at modules c.args.circular tests) 0 ms))
+    ∙ ap (λ (ms : List Module). least_of c.args.least.now (each_from (module_faults_at modules tests) 0 ms))
     (take_end c.loop-number.number modules (omega arith) (omega arith))

@@ -12,7 +12,7 @@ use Rattle.yang_faults.proofs.defaults.note_default_at.Goals as goal
 pub returns-in_ok-note_default_in : goal.returns-in_ok-note_default_in
 returns-in_ok-note_default_in c = λ known set tests decide.
     let s = c.args.statement.now in
-    let faults = bad_default_in c.args.names.now tests c.args.file c.args.number in
+    let faults = bad_default_in c.args.scope.now.names.now tests c.args.scope.now.file c.args.scope.now.number in
     let word : bytes_eq s.keyword (codes "leaf") ≡ true = ap (λ (k : List ℕ). bytes_eq k (codes "leaf")) (sym c.as_str.ensures.text) ∙ sym c.if-eq.ensures in
     let none : is_key_leaf known s.argument ≡ false = sym (c.if-not-is_key_leaf.ensures known set) in
     c.in_ok-note_default_in.ensures tests decide

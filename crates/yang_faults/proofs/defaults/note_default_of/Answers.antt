@@ -7,6 +7,6 @@ use Rattle.yang_faults.proofs.defaults.note_default_of.Goals as goal
 
 pub returns : goal.returns
 returns c = λ tests decide.
-    c.in_ok-note_bad_default.ensures tests.accepts decide.texts
-    ∙ ap (λ (t : DataType). least_of c.args.least.now (bad_default tests.accepts c.args.file t (declaration c.args.default.now)))
+    c.note_bad_default.ensures tests.accepts decide.texts
+    ∙ ap (λ (t : DataType). least_of c.args.least.now (bad_default tests.accepts c.args.scope.now.file t (declaration c.args.default.now)))
     (c.in_ok-value.ensures tests.is_pattern decide.patterns)

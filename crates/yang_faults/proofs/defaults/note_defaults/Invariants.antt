@@ -7,4 +7,4 @@ use Rattle.yang_faults.proofs.defaults.note_defaults.Given as goal
 
 abbrev pub invariant-loop-statement : goal.invariant-loop-statement
 invariant-loop-statement l = (known : List (List ℕ)) → IsSetOf l.keys.names known
-    → Notes l.initial.least l.least (λ tests. bad_defaults l.names tests l.file l.number known (map declaration (take l.statement-index l.statements)))
+    → Notes l.initial.least l.least (λ tests. bad_defaults l.scope.names.now tests l.scope.file l.scope.number known (map declaration (take l.statement-index l.statements)))
