@@ -1,8 +1,8 @@
 -- What is wrong with the musts of the models (RFC 7950, section 7.5.3), and what each is as a value.
-use Rattle.std.specs.Prelude.{◌≡◌, ◌↔◌, ◌||◌, ℕ, Bool, List, [], ◌∷◌, ◌++◌, codes, Option, Some, None, option_and_then, if◌then◌else◌}
+use Rattle.std.specs.Prelude.{◌≡◌, ◌↔◌, ◌||◌, ℕ, List, [], ◌∷◌, ◌++◌, map, codes, Option, Some, None, option_and_then, if◌then◌else◌}
 use Rattle.std.specs.List.{flat_map, list_any}
 use Rattle.std.specs.Option.{option_map_or}
-use Rattle.std.specs.FinSet.{items, from_list}
+use Rattle.std.specs.FinMap.{keys, from_entries}
 use Rattle.host_core.specs.Names.{name_cmp}
 use Rattle.yang_text.specs.Declarations.{Declaration, argument, block}
 use Rattle.yang_text.specs.declared.errors.ModelWhy.TheVariants.{UnknownName, BadExpr}
@@ -31,9 +31,9 @@ abbrev pub must_faults : (List ℕ → Option Expression) → List Module → �
 must_faults read modules file m spot d =
     option_map_or
     (λ s.
-      option_map_or (λ e. route_faults modules file m d (routes modules m spot e spot))
-      (read s)
-      (fault_at file BadExpr d ∷ []))
+    option_map_or (λ e. route_faults modules file m d (routes modules m spot e spot))
+    (read s)
+    (fault_at file BadExpr d ∷ []))
     (argument d) []
 
 -- of a statement at a spot, where it is a must
@@ -48,15 +48,17 @@ abbrev pub if_leaf : (List ℕ → Option Expression) → List Module → ModelC
 if_leaf read modules x spot d =
     if is_keyword (codes "leaf") d then flat_map (if_must read modules x spot) (block d) else []
 
--- of a list or a fixed container in a table's container: its own musts, and those of its leaves
+-- of a statement in a list or a fixed container: a must of it, or the musts of a leaf
+abbrev pub in_shape_faults : (List ℕ → Option Expression) → List Module → ModelContainer
+    → Declaration → Declaration → Declaration → List Fault
+in_shape_faults read modules x t s d =
+    if_must read modules x (shape x.statement t s) d
+    ++ if_leaf read modules x (leaf x.statement t s d) d
+
+-- of a list or a fixed container in a table's container
 abbrev pub shape_faults : (List ℕ → Option Expression) → List Module → ModelContainer
     → Declaration → Declaration → List Fault
-shape_faults read modules x t s =
-    flat_map
-    (λ d.
-      if_must read modules x (shape x.statement t s) d
-      ++ if_leaf read modules x (leaf x.statement t s d) d)
-    (block s)
+shape_faults read modules x t s = flat_map (in_shape_faults read modules x t s) (block s)
 
 -- of a table's container
 abbrev pub table_faults : (List ℕ → Option Expression) → List Module → ModelContainer
@@ -78,9 +80,13 @@ all_must_faults read modules =
 abbrev pub tables_along : List Module → ℕ → Route → List (List ℕ)
 tables_along modules m r = flat_map table_at (spots_along modules m r.steps r.origin)
 
+-- a name as a key with nothing at it
+abbrev pub mark : List ℕ → List ℕ × Unit {0}
+mark name = (name, tt)
+
 -- names in the order of their bytes, each once
 abbrev pub in_order : List (List ℕ) → List (List ℕ)
-in_order names = items (from_list {R = name_cmp} names)
+in_order names = keys (from_entries {R = name_cmp} (map mark names))
 
 -- the tables that the paths of an expression read
 abbrev pub tables_read : List Module → ℕ → List Route → List (List ℕ)

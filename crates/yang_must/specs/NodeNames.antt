@@ -1,5 +1,5 @@
 -- The names of nodes, and how a node is told from others.
-use Rattle.std.specs.Prelude.{ℕ, List, [], ◌∷◌, refl}
+use Rattle.std.specs.Prelude.{ℕ, List, refl}
 use Rattle.std.specs.Coded.{Coded, code_by, coded×, coded_ℕ}
 use Rattle.yang_text.specs.Coding.{coded_declaration}
 use Rattle.yang_text.specs.Declarations.{Declaration, argument}

@@ -1,14 +1,14 @@
 -- The paths of an expression (XPath 1.0, section 2; RFC 7950, section 6.4.1), resolved in the models.
 use Rattle.std.specs.Prelude.{ℕ, not, Bool, true, false, List, [], ◌∷◌, ◌++◌, codes, Option, Some, None, is_none, option_and_then, if◌then◌else◌}
 use Rattle.std.specs.Option.{option_map_or, option_to_list}
-use Rattle.yang_text.specs.Declarations.{Declaration, argument}
+use Rattle.yang_text.specs.Declarations.{argument}
 use Rattle.yang_scope.specs.Modules.{Module}
 use Rattle.yang_scope.specs.Paths.{is_prefix}
 use Rattle.yang_scope.specs.Statements.{is_keyword}
 use Rattle.xpath_part.specs.Expression.{Expression, or_of, and_of, not_of, alone, equal, differ, count, Term, path, literal, Path, along, Strides, no_strides, stride, Stride, up, stay, child, Predicates, no_predicates, predicate}
 use Rattle.xpath_part.specs.declared.origins.Origin.{Origin}
 use Rattle.xpath_part.specs.declared.origins.Origin.TheVariants.{Root, Context, Current}
-use Rattle.yang_must.specs.Spots.{Spot, root, container, table, shape, leaf, spot_named, parent_spot}
+use Rattle.yang_must.specs.Spots.{Spot, root, table, shape, leaf, spot_named, parent_spot}
 use Rattle.yang_must.specs.declared.aims.Aim.{Aim}
 use Rattle.yang_must.specs.declared.aims.Aim.TheVariants.{Nodes, Texts}
 
@@ -40,6 +40,10 @@ pub record Route : Type 0 where
   pub aim : Aim
   pub origin : Spot
   pub steps : Strides
+
+-- by its parts
+abbrev pub route : Aim → Spot → Strides → Route
+route aim origin steps = record { aim = aim; origin = origin; steps = steps }
 
 -- where a path starts
 abbrev pub start_of : Spot → Origin → Spot → Spot
@@ -73,7 +77,7 @@ abbrev mutual
   -- a path, and those in its predicates
   pub path_routes : List Module → ℕ → Spot → Aim → Path → Spot → List Route
   path_routes modules m current aim (along o ss) context =
-      record { aim = aim; origin = start_of current o context; steps = ss }
+      route aim (start_of current o context) ss
       ∷ inner_routes modules m current ss (start_of current o context)
 
   -- the paths in the predicates of steps, up to a step that names nothing

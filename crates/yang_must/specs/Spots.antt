@@ -1,5 +1,5 @@
 -- The tree of the models (RFC 7950, section 5.1), in which the paths of musts are resolved.
-use Rattle.std.specs.Prelude.{ℕ, ◌||◌, Bool, List, [], ◌∷◌, map, codes, filter, Option, Some, None, option_map}
+use Rattle.std.specs.Prelude.{ℕ, ◌||◌, Bool, List, map, codes, filter, Option, Some, None, option_map}
 use Rattle.std.specs.List.{find}
 use Rattle.yang_text.specs.Declarations.{Declaration, block}
 use Rattle.yang_scope.specs.Modules.{Module}
@@ -25,6 +25,7 @@ pub record ModelContainer : Type 0 where
   pub number : ℕ
   pub statement : Declaration
 
+-- by its parts
 abbrev pub container_at : ℕ → ℕ → Declaration → ModelContainer
 container_at file number d = record { file = file; number = number; statement = d }
 

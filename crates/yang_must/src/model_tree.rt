@@ -1,5 +1,6 @@
 //! The tree of the models.
-ghost use Rattle.std.specs.Prelude.{◌≡◌, [], ◌∷◌, ◌++◌, List, codes, find, filter, map, option_map, IfOk};
+ghost use Rattle.std.specs.Prelude.{◌≡◌, [], ◌∷◌, ◌++◌, List, codes, find, filter, map, option_map, slice_get, IfOk, OnOk};
+ghost use Rattle.std.specs.Option.{option_to_list};
 ghost use Rattle.yang_text.specs.Declarations.{Declaration};
 ghost use Rattle.yang_text.specs.Statements.{declaration};
 ghost use Rattle.yang_scope.specs.Paths.{is_named, is_prefix};
@@ -38,15 +39,32 @@ impl<'a> Model for ModelTree<'a> {
     ghost invariant = { λ t. t.containers ≡ containers_of t.modules.items };
 }
 
+/// Adds the module of a number, where there is one.
+fn push_module<'a>(
+    alloc: Global,
+    modules: &mut Vec<ModulePrefixes<'a>>,
+    names: &Names<'a>,
+    number: usize,
+) -> Result<(), Memory>
+    ensures { OnOk result (modules.new.items
+        ≡ modules.old.items ++ option_to_list (slice_get names.now number)) }
+{
+    match names.module_at(number) {
+        Some((file, statement)) => {
+            modules.push(ModulePrefixes::new(alloc, file, statement)?)?;
+            Ok(())
+        }
+        None => Ok(()),
+    }
+}
+
 /// The modules of some names, with their prefixes.
 fn all_modules<'a>(alloc: Global, names: &Names<'a>) -> Result<Vec<ModulePrefixes<'a>>, Memory>
     ensures { IfOk result (λ modules. modules.items ≡ names.now) }
 {
     let mut modules = Vec::new(alloc);
     for number in 0..names.len() {
-        if let Some((file, statement)) = names.module_at(number) {
-            modules.push(ModulePrefixes::new(alloc, file, statement)?)?;
-        }
+        push_module(alloc, &mut modules, names, number)?;
     }
     Ok(modules)
 }
@@ -59,7 +77,7 @@ fn with_container<'a>(
     number: usize,
     statement: &'a Statement,
 ) -> Result<NodeList<ContainerNode<'a>>, Memory>
-    ensures { IfOk result (λ list. list ≡ containers ++ map (container_at file number)
+    ensures { IfOk result (λ list. list ≡ containers.entry ++ map (container_at file number)
         (filter (is_keyword (codes "container")) (declaration statement.now ∷ []))) }
 {
     if statement.keyword.as_str() == "container" {
@@ -76,7 +94,7 @@ fn with_containers<'a>(
     number: usize,
     owner: &ModulePrefixes<'a>,
 ) -> Result<NodeList<ContainerNode<'a>>, Memory>
-    ensures { IfOk result (λ list. list ≡ containers ++ containers_in number owner.now) }
+    ensures { IfOk result (λ list. list ≡ containers.entry ++ containers_in number owner.now) }
 {
     let mut all = containers;
     for statement in owner.statement().block.items() {

@@ -85,7 +85,7 @@ fn with_leaf<'a>(
     statement: &'a Statement,
 ) -> Result<NodeList<LeafNode<'a>>, Memory>
     ensures { IfOk result (λ list.
-        list ≡ leaves ++ filter is_leaf (declaration statement.now ∷ [])) }
+        list ≡ leaves.entry ++ filter is_leaf (declaration statement.now ∷ [])) }
 {
     match statement.keyword.as_str() {
         "leaf" | "leaf-list" => leaves.with(alloc, LeafNode { statement }),
@@ -169,7 +169,7 @@ fn with_shape<'a>(
     statement: &'a Statement,
 ) -> Result<NodeList<ShapeNode<'a>>, Memory>
     ensures { IfOk result (λ list.
-        list ≡ shapes ++ filter is_shape (declaration statement.now ∷ [])) }
+        list ≡ shapes.entry ++ filter is_shape (declaration statement.now ∷ [])) }
 {
     match statement.keyword.as_str() {
         "list" | "container" => shapes.with(alloc, ShapeNode::new(alloc, statement)?),
@@ -261,8 +261,8 @@ fn with_table<'a>(
     tables: NodeList<TableNode<'a>>,
     statement: &'a Statement,
 ) -> Result<NodeList<TableNode<'a>>, Memory>
-    ensures { IfOk result (λ list. list
-        ≡ tables ++ filter (is_keyword (codes "container")) (declaration statement.now ∷ [])) }
+    ensures { IfOk result (λ list. list ≡ tables.entry
+        ++ filter (is_keyword (codes "container")) (declaration statement.now ∷ [])) }
 {
     if statement.keyword.as_str() == "container" {
         tables.with(alloc, TableNode::new(alloc, statement)?)

@@ -22,24 +22,15 @@ pub enum SpotRef<'t, 'a> {
     /// A container of a table.
     Table(&'t ContainerNode<'a>, &'t TableNode<'a>),
     /// A list or a fixed container.
-    Shape(
-        &'t ContainerNode<'a>,
-        &'t TableNode<'a>,
-        &'t ShapeNode<'a>,
-    ),
+    Shape(&'t ContainerNode<'a>, &'t TableNode<'a>, &'t ShapeNode<'a>),
     /// A leaf or a leaf-list.
-    Leaf(
-        &'t ContainerNode<'a>,
-        &'t TableNode<'a>,
-        &'t ShapeNode<'a>,
-        &'a Statement,
-    ),
+    Leaf(&'t ContainerNode<'a>, &'t TableNode<'a>, &'t ShapeNode<'a>, &'a Statement),
 }
 
 impl<'t, 'a> SpotRef<'t, 'a> {
     /// The spot above this one.
     fn parent(self) -> Option<SpotRef<'t, 'a>>
-        ensures { option_map spot_at result ≡ parent_spot (spot_at self) }
+        ensures { option_map spot_at result ≡ parent_spot (spot_at self.entry) }
     {
         match self {
             SpotRef::Root => None,
@@ -54,7 +45,7 @@ impl<'t, 'a> SpotRef<'t, 'a> {
 
     /// The spot of a name below this one.
     fn named(self, tree: &'t ModelTree<'a>, name: &str) -> Option<SpotRef<'t, 'a>>
-        ensures { option_map spot_at result ≡ spot_named tree.now name.now (spot_at self) }
+        ensures { option_map spot_at result ≡ spot_named tree.now name.now (spot_at self.entry) }
     {
         match self {
             SpotRef::Root => match tree.container_named(name) {
@@ -85,7 +76,7 @@ impl<'t, 'a> SpotRef<'t, 'a> {
         step: &Step,
     ) -> Option<SpotRef<'t, 'a>>
         ensures { option_map spot_at result
-            ≡ spot_after tree.now number (step_of step.now) (spot_at self) }
+            ≡ spot_after tree.now number (step_of step.now) (spot_at self.entry) }
     {
         match step {
             Step::Up => self.parent(),
@@ -102,7 +93,7 @@ impl<'t, 'a> SpotRef<'t, 'a> {
 
     /// Where a path starts.
     pub(crate) fn start(self, origin: Origin, current: SpotRef<'t, 'a>) -> SpotRef<'t, 'a>
-        ensures { spot_at result ≡ start_of (spot_at current) origin (spot_at self) }
+        ensures { spot_at result ≡ start_of (spot_at current.entry) origin (spot_at self.entry) }
     {
         match origin {
             Origin::Root => SpotRef::Root,
@@ -113,7 +104,7 @@ impl<'t, 'a> SpotRef<'t, 'a> {
 
     /// Whether a path may end here.
     pub(crate) fn may_end(self, aim: Aim) -> bool
-        ensures { result ≡ may_end_at aim (spot_at self) }
+        ensures { result ≡ may_end_at aim (spot_at self.entry) }
     {
         match self {
             SpotRef::Leaf(..) => true,
@@ -126,14 +117,11 @@ impl<'t, 'a> SpotRef<'t, 'a> {
 
     /// The name of the table whose container this is.
     pub(crate) fn table(self) -> Option<&'a Txt>
-        ensures { option_to_list (option_map (λ t. t.now) result) ≡ table_at (spot_at self) }
+        ensures { option_to_list (option_map (λ t. t.now) result) ≡ table_at (spot_at self.entry) }
     {
         match self {
             SpotRef::Table(_, table) => table.statement().argument.as_ref(),
-            SpotRef::Root
-            | SpotRef::Container(_)
-            | SpotRef::Shape(..)
-            | SpotRef::Leaf(..) => None,
+            SpotRef::Root | SpotRef::Container(_) | SpotRef::Shape(..) | SpotRef::Leaf(..) => None,
         }
     }
 }
