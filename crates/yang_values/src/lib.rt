@@ -1,0 +1,16 @@
+//! The types of YANG models as values (RFC 7950, sections 7.3 and 9, in a profile), and the faults of
+//! types beyond their names.
+#![tactic(auto)]
+
+mod bound_faults;
+mod circles;
+mod numbers;
+mod parts;
+mod statements;
+mod targets;
+mod values;
+mod walks;
+
+
+pub use bound_faults::note_bad_bounds;
+pub use circles::note_circle;
