@@ -1,3 +1,4 @@
+pub mod Based
 pub mod Chains
 pub mod Endings
 pub mod Given

@@ -11,6 +11,5 @@ mod targets;
 mod values;
 mod walks;
 
-
 pub use bound_faults::note_bad_bounds;
 pub use circles::note_circle;
