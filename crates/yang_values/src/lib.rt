@@ -3,12 +3,17 @@
 #![tactic(auto)]
 
 mod bound_faults;
+mod defaults;
+mod named_types;
 mod numbers;
 mod parts;
+mod restrictions;
 mod statements;
 mod targets;
+mod type_values;
 mod values;
 mod walks;
 
-
 pub use bound_faults::note_bad_bounds;
+pub use defaults::note_bad_default;
+pub use type_values::type_value;
