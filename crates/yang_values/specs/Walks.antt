@@ -21,6 +21,7 @@ step_type is_pattern modules s = type_within is_pattern modules s.most (placed s
 abbrev pub Visited : Type 0
 Visited = Placed × ℕ
 
+-- the same of a visit
 abbrev pub visited : Visit → Visited
 visited v = (placed v.place, v.children)
 

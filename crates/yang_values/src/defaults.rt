@@ -62,12 +62,7 @@ fn note_bad_text(least: &mut Option<Fault>, ty: &Ty, file: u32, statement: &Stat
 
 /// A default that its type doesn't take: one that it refuses, or any where it holds a leafref. It takes
 /// no memory.
-pub fn note_bad_default(
-    least: &mut Option<Fault>,
-    ty: &Ty,
-    file: u32,
-    statement: &Statement,
-)
+pub fn note_bad_default(least: &mut Option<Fault>, ty: &Ty, file: u32, statement: &Statement)
     ensures { (accepts : DataType → List ℕ → Bool) → DecidesTexts accepts
         → least.new ≡ least_of least.old
         (bad_default accepts file (data_type ty.now) (declaration statement.now)) }

@@ -16,11 +16,7 @@ use yang_text::Statement;
 use yang_types::{Target, Ty, TyBox, Types};
 
 /// Adds the name of an enum, where a statement is one.
-fn push_enum(
-    alloc: Global,
-    enums: &mut Sequence<Txt>,
-    statement: &Statement,
-) -> Result<(), Memory>
+fn push_enum(alloc: Global, enums: &mut Sequence<Txt>, statement: &Statement) -> Result<(), Memory>
     ensures { IfOk result (λ _. enums.new ≡ enums.old ++ enum_name (declaration statement.now)) }
 {
     if statement.keyword.as_str() != "enum" {

@@ -18,11 +18,7 @@ use yang_text::Statement;
 use yang_types::{Bounds, Ty, TyBox};
 
 /// A type with a length round it, where that has parts.
-fn with_length(
-    alloc: Global,
-    ty: Ty,
-    parts: Option<Sequence<Bounds>>,
-) -> Result<Ty, Memory>
+fn with_length(alloc: Global, ty: Ty, parts: Option<Sequence<Bounds>>) -> Result<Ty, Memory>
     ensures { IfOk result (λ more. data_type more
         ≡ option_map_or (length_within (data_type ty)) parts (data_type ty)) }
 {
@@ -36,11 +32,7 @@ fn with_length(
 }
 
 /// A type with a range round it, where that has parts.
-fn with_range(
-    alloc: Global,
-    ty: Ty,
-    parts: Option<Sequence<Bounds>>,
-) -> Result<Ty, Memory>
+fn with_range(alloc: Global, ty: Ty, parts: Option<Sequence<Bounds>>) -> Result<Ty, Memory>
     ensures { IfOk result (λ more. data_type more
         ≡ option_map_or (value_within (data_type ty)) parts (data_type ty)) }
 {

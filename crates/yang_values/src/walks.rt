@@ -139,12 +139,9 @@ fn next_by<'a>(
 }
 
 /// The type statements that one leads to.
-fn next<'a>(
-    alloc: Global,
-    names: &Names<'a>,
-    place: Place<'a>,
-) -> Result<Vec<Place<'a>>, Memory>
-    ensures { IfOk result (λ places. map placed places.items ≡ next names.now (placed place.entry)) }
+fn next<'a>(alloc: Global, names: &Names<'a>, place: Place<'a>) -> Result<Vec<Place<'a>>, Memory>
+    ensures { IfOk result
+        (λ places. map placed places.items ≡ next names.now (placed place.entry)) }
 {
     let meaning = names.type_meaning(place.number, &place.statement.argument);
     next_by(alloc, names, place.number, place.statement, meaning)

@@ -1,4 +1,4 @@
-use Rattle.std.proofs.Common.{◌≡◌, ◌∙◌, map, sym, ap, arith}
+use Rattle.std.proofs.Common.{◌∙◌, map, sym, ap, arith}
 use Rattle.std.specs.List.{fold}
 use Rattle.yang_text.specs.Declarations.{block}
 use Rattle.yang_text.specs.Statements.{declaration}
