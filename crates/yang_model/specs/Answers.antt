@@ -1,5 +1,5 @@
 -- What `compile` answers: the models of the files, or the least of their faults.
-use Rattle.std.specs.Prelude.{◌≡◌, ⊤, false, List, [], ◌++◌, Some, None}
+use Rattle.std.specs.Prelude.{◌≡◌, ⊤, List, [], ◌++◌, Some, None}
 use Rattle.yang_text.specs.Declarations.{Declaration}
 use Rattle.yang_scope.specs.Faults.{least_of}
 use Rattle.yang_scope.specs.Modules.{modules_of}
@@ -16,7 +16,7 @@ use Rattle.yang_model.specs.declared.errors.ModelError.TheVariants.{Fault as AtF
 abbrev pub faults : Readers → List (List Declaration) → List Fault
 faults readers files =
     all_file_faults files
-    ++ (all_module_faults (modules_of files) false readers.tests
+    ++ (all_module_faults (modules_of files) readers.tests
     ++ all_must_faults readers.read (modules_of files))
 
 -- nothing is wrong with the files, and these are their models

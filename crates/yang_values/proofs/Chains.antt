@@ -1,12 +1,12 @@
 -- The typedefs behind a meaning, one after another.
-use Rattle.std.proofs.Common.{◌≡◌, ◌<◌, ◌+◌, ◌-◌, ℕ, suc, List, [], ◌∷◌, ◌++◌, map, reverse, Option, Some, None, refl, sym, ap, ◌∙◌, arith}
+use Rattle.std.proofs.Common.{◌≡◌, ◌<◌, ◌+◌, ◌-◌, ℕ, suc, List, [], ◌∷◌, ◌++◌, map, reverse, Some, None, refl, sym, ap, ◌∙◌, arith}
 use Rattle.std.proofs.lemmas.List.{append-nil, append_assoc, map-append, reverse-append}
 use Rattle.std.specs.List.{fold}
 use Rattle.std.specs.Option.{option_map_or}
 use Rattle.yang_text.specs.Declarations.{Declaration}
 use Rattle.yang_scope.specs.Modules.{Module}
 use Rattle.yang_scope.specs.declared.meanings.Meaning.{Meaning}
-use Rattle.yang_values.specs.Values.{most_steps, next_typedef, types_within}
+use Rattle.yang_values.specs.Values.{next_typedef, types_within}
 
 types_within-suc : (modules : List Module) (most : ℕ) (meaning : Meaning)
     → types_within modules (suc most) meaning ≡ option_map_or (λ t. t.0 ∷ types_within modules most t.1) (next_typedef modules meaning) []

@@ -1,5 +1,5 @@
 -- A type statement from which all ways end is on no circle.
-use Rattle.std.proofs.Common.{◌≡◌, ◌<◌, ℕ, zero, suc, List, [], ◌∷◌, ◌++◌, Contains, All, map, reverse, length, get_or, refl, sym, ap, subst, ◌∙◌, arith}
+use Rattle.std.proofs.Common.{◌≡◌, ◌+◌, ℕ, zero, suc, List, [], ◌∷◌, ◌++◌, All, map, reverse, length, refl, sym, subst, arith}
 use Rattle.std.proofs.lemmas.List.{length-append, get_or_append_left, get_or-append-add, reverse-append}
 use Rattle.std.proofs.lemmas.List.Elements.{All-nil, All-cons, All-head, All-tail, All-same, All-push, All-map}
 use Rattle.yang_scope.specs.Modules.{Module}
@@ -10,7 +10,7 @@ use Rattle.yang_values.specs.TypeValues.{next}
 use Rattle.yang_values.specs.Walks.{placed}
 use Rattle.yang_values.specs.declared.walks.Place.{Place}
 use Rattle.yang_values.specs.declared.walks.Step.{Step}
-use Rattle.yang_values.proofs.Visits.{reverse_push, reverse_twice}
+use Rattle.yang_values.proofs.Visits.{reverse_twice}
 
 module _ (modules : List Module) where
   -- no way is so long

@@ -1,5 +1,5 @@
 -- A walk over type statements, one visit after another.
-use Rattle.std.proofs.Common.{◌≡◌, ◌+◌, ℕ, suc, Bool, List, [], ◌∷◌, ◌++◌, map, reverse, length, take, drop, refl, sym, ap, ◌∙◌}
+use Rattle.std.proofs.Common.{◌≡◌, ℕ, suc, Bool, List, [], ◌∷◌, ◌++◌, map, reverse, length, drop, refl, sym, ap, ◌∙◌}
 use Rattle.std.proofs.lemmas.List.{map-append, reverse-append, take_at, drop_at}
 use Rattle.yang_types.specs.DataType.{DataType}
 use Rattle.yang_scope.specs.Modules.{Module}
@@ -66,6 +66,7 @@ visit_more is_pattern modules found rest step n places most leads =
 pub steps_pushed : (most : ℕ) (places twice : List Place) (pending old : List Step) (step : Step) (before : List Step)
     → before ≡ old ++ step ∷ [] → twice ≡ reverse places → reverse pending ≡ map (λ p. record { most = most; place = p }) (reverse twice) ++ reverse old
     → (reverse pending ≡ map (λ p. record { most = most; place = p }) places ++ reverse old) × (reverse before ≡ step ∷ reverse old)
-steps_pushed most places twice pending old step before popped turned pushed =
-    (pushed ∙ ap (λ ps. map (λ p. record { most = most; place = p }) ps ++ reverse old) (ap reverse turned ∙ reverse_twice places),
-    ap reverse popped ∙ reverse_push old step)
+steps_pushed most places twice pending old step before popped turned pushed = (
+  pushed ∙ ap (λ ps. map (λ p. record { most = most; place = p }) ps ++ reverse old) (ap reverse turned ∙ reverse_twice places),
+  ap reverse popped ∙ reverse_push old step,
+)

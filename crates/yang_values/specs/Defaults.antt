@@ -1,5 +1,5 @@
 -- Defaults that their types don't take (RFC 7950, section 7.6.4, in a profile).
-use Rattle.std.specs.Prelude.{◌↔◌, ◌⊎◌, IsTrue, ◌||◌, Bool, true, false, ℕ, List, [], ◌∷◌, if◌then◌else◌}
+use Rattle.std.specs.Prelude.{◌↔◌, IsTrue, ◌||◌, Bool, true, false, ℕ, List, [], ◌∷◌, if◌then◌else◌}
 use Rattle.std.specs.Option.{option_map_or}
 use Rattle.yang_text.specs.Declarations.{Declaration, argument}
 use Rattle.yang_text.specs.declared.errors.ModelWhy.TheVariants.{BadArgument}

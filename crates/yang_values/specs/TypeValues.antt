@@ -1,6 +1,6 @@
 -- The data type of a type statement (RFC 7950, sections 7.3, 7.4 and 9). Where it has no fault it is
 -- all that the statement says; a part that has a fault says nothing.
-use Rattle.std.specs.Prelude.{ℕ, zero, suc, Bool, List, [], ◌∷◌, map, Option, Some, None, codes, option_map, option_and_then, if◌then◌else◌}
+use Rattle.std.specs.Prelude.{ℕ, zero, suc, Bool, List, [], ◌∷◌, map, Option, Some, None, codes, option_and_then, if◌then◌else◌}
 use Rattle.std.specs.List.{fold, flat_map}
 use Rattle.std.specs.Option.{option_map_or, option_to_list}
 use Rattle.yang_text.specs.Declarations.{Declaration, argument, block}
@@ -11,7 +11,6 @@ use Rattle.yang_scope.specs.Meanings.{type_meaning}
 use Rattle.yang_scope.specs.Modules.{Module}
 use Rattle.yang_scope.specs.Paths.{Placed, path_end}
 use Rattle.yang_scope.specs.Statements.{is_keyword, first_child, children_of}
-use Rattle.yang_scope.specs.declared.bases.Base.{Base}
 use Rattle.yang_scope.specs.declared.bases.Base.TheVariants.{Text, Number, Enumeration, Truth, Leafref, Union, Builtin as BuiltIn}
 use Rattle.yang_scope.specs.declared.meanings.Meaning.{Meaning}
 use Rattle.yang_scope.specs.declared.meanings.Meaning.TheVariants.{Ends, Goes, Nothing}

@@ -72,7 +72,8 @@ types_within modules (suc most) meaning =
 -- what the typedefs behind a meaning leave of the values of their base, from the furthest one on
 abbrev pub values_behind : List Module → Meaning → Option Base → List Bounds
 values_behind modules meaning base =
-    fold (values_by base) (base_bounds base ∷ []) (reverse (types_within modules most_steps meaning))
+    fold (values_by base) (base_bounds base ∷ [])
+    (reverse (types_within modules most_steps meaning))
 
 -- the values of a meaning; of what has no base nothing is known
 abbrev pub values_of : List Module → Meaning → Option Base → List Bounds

@@ -1,5 +1,5 @@
 -- Type statements on the way of a walk from one to all that it leads to, and types built from it.
-use Rattle.std.specs.Prelude.{ℕ, Bool, List, [], ◌∷◌, take, drop}
+use Rattle.std.specs.Prelude.{◌≡◌, ℕ, Bool, List, [], ◌∷◌, take, drop}
 use Rattle.yang_text.specs.Statements.{declaration}
 use Rattle.yang_types.specs.DataType.{DataType}
 use Rattle.yang_scope.specs.Modules.{Module}
@@ -21,6 +21,7 @@ step_type is_pattern modules s = type_within is_pattern modules s.most (placed s
 abbrev pub Visited : Type 0
 Visited = Placed × ℕ
 
+-- the same of a visit
 abbrev pub visited : Visit → Visited
 visited v = (placed v.place, v.children)
 
@@ -30,3 +31,8 @@ abbrev pub built : (List ℕ → Bool) → List Module → List Visited → List
 built is_pattern modules [] types = only_type types
 built is_pattern modules (v ∷ vs) types =
     built is_pattern modules vs (type_by is_pattern modules v.0 (take v.1 types) ∷ drop v.1 types)
+
+-- so many types taken off others, and those that are left
+pub record IsTaken (count : ℕ) (types first rest : List DataType) : Type 0 where
+  pub taken : first ≡ take count types
+  pub left : rest ≡ drop count types

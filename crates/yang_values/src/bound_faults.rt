@@ -25,8 +25,8 @@ fn note_if_bounds(
 ) -> Result<(), Memory>
     ensures { OnOk result (let d = declaration statement.now in
         least.new ≡ least_of least.old
-        (bad_if_bounds (base_of names.now number (argument d)) (restricted_values names.now number d)
-        file (declaration child.now))) }
+        (bad_if_bounds (base_of names.now number (argument d))
+        (restricted_values names.now number d) file (declaration child.now))) }
 {
     if !is_restriction(names.base_of(number, &statement.argument), child) {
         return Ok(());

@@ -4,13 +4,13 @@ ghost use Rattle.yang_text.specs.Statements.{declaration};
 ghost use Rattle.yang_scope.specs.Faults.{least_of};
 ghost use Rattle.yang_scope.specs.Paths.{Placed};
 ghost use Rattle.yang_values.specs.Circles.{DecidesCircles, circle};
-ghost use Rattle.yang_values.specs.Endings.{EndsIn};
+ghost use Rattle.yang_values.specs.Endings.{EndsIn, leads_on};
 ghost use Rattle.yang_values.specs.Walks.{placed};
 
 use crate::walks::{Place, Step, next, push_steps};
 use host_core::Memory;
 use std::alloc::Global;
-use yang_scope::{Fault, Names};
+use yang_scope::{Base, Fault, Names};
 use yang_text::Statement;
 
 /// Whether it is found that each way on from a type statement ends before so many steps.
@@ -39,6 +39,16 @@ fn do_all_end<'a>(
     Ok(false)
 }
 
+/// Whether a type with this base may lead to others.
+fn leads_on(base: Option<Base>) -> bool
+    ensures { result ≡ leads_on base }
+{
+    match base {
+        Some(Base::Leafref) | Some(Base::Union) | None => true,
+        Some(_) => false,
+    }
+}
+
 /// A type statement that is on a circle. Where a way on from it is as long as `most` steps, no memory is
 /// enough to tell.
 pub fn note_circle<'a>(
@@ -54,6 +64,9 @@ pub fn note_circle<'a>(
         → least.new ≡ least_of least.old
         (circle is_on_circle file number (declaration statement.now))) }
 {
+    if !leads_on(names.base_of(number, &statement.argument)) {
+        return Ok(());
+    }
     if do_all_end(alloc, names, most, Place { number, statement })? {
         Ok(())
     } else {

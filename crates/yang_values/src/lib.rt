@@ -4,13 +4,18 @@
 
 mod bound_faults;
 mod circles;
+mod defaults;
+mod named_types;
 mod numbers;
 mod parts;
+mod restrictions;
 mod statements;
 mod targets;
+mod type_values;
 mod values;
 mod walks;
 
-
 pub use bound_faults::note_bad_bounds;
 pub use circles::note_circle;
+pub use defaults::note_bad_default;
+pub use type_values::type_value;

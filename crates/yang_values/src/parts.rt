@@ -135,10 +135,7 @@ pub(crate) fn parts(
 fn common_part(one: &Bounds, other: &Bounds) -> Option<Bounds>
     ensures { result ≡ common_part one.now other.now }
 {
-    between(
-        Some(one.low.max(other.low)),
-        Some(one.high.min(other.high)),
-    )
+    between(Some(one.low.max(other.low)), Some(one.high.min(other.high)))
 }
 
 /// Adds a part, where there is one.
@@ -152,11 +149,7 @@ fn push_some(found: &mut Sequence<Bounds>, part: Option<Bounds>) -> Result<(), M
 }
 
 /// Adds what a part has in common with some others.
-fn push_common(
-    found: &mut Sequence<Bounds>,
-    one: &Bounds,
-    others: &[Bounds],
-) -> Result<(), Memory>
+fn push_common(found: &mut Sequence<Bounds>, one: &Bounds, others: &[Bounds]) -> Result<(), Memory>
     ensures { IfOk result (λ _. found.new ≡ found.old ++ common_with others.now one.now) }
 {
     for other in others {

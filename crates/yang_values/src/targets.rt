@@ -148,11 +148,7 @@ fn target_below(
 }
 
 /// The key part that the pieces of a path lead to.
-fn target_of_pieces(
-    alloc: Global,
-    names: &Names,
-    pieces: &[&str],
-) -> Result<Option<Target>, Memory>
+fn target_of_pieces(alloc: Global, names: &Names, pieces: &[&str]) -> Result<Option<Target>, Memory>
     ensures { IfOk result (λ found. found ≡ target_of_pieces names.now (texts pieces.now)) }
 {
     match pieces {
@@ -167,11 +163,7 @@ fn target_of_pieces(
 }
 
 /// The key part that a path leads to.
-pub(crate) fn target_of(
-    alloc: Global,
-    names: &Names,
-    path: &str,
-) -> Result<Option<Target>, Memory>
+pub(crate) fn target_of(alloc: Global, names: &Names, path: &str) -> Result<Option<Target>, Memory>
     ensures { IfOk result (λ found. found ≡ target_of names.now path.now) }
 {
     let pieces = split_pieces(alloc, '/', path)?;

@@ -237,3 +237,21 @@ pub(crate) fn parts_at(
         }
     }
 }
+
+/// The parts of a statement in a type statement of a module, where it is a length or a range.
+pub(crate) fn parts_in_at(
+    alloc: Global,
+    names: &Names,
+    number: usize,
+    statement: &Statement,
+    child: &Statement,
+) -> Result<Option<Sequence<Bounds>>, Memory>
+    ensures { IfOk result (λ found. found
+        ≡ parts_in (restricted_values names.now number (declaration statement.now))
+        (declaration child.now)) }
+{
+    match &child.argument {
+        Some(text) => parts_at(alloc, names, number, statement, text.as_str()),
+        None => Ok(None),
+    }
+}

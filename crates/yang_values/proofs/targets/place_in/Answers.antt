@@ -1,8 +1,7 @@
-use Rattle.std.proofs.Common.{rules, ◌≡◌, ◌∙◌, ℕ, List, [], Bor, length, get_or, sym, ap, arith}
+use Rattle.std.proofs.Common.{rules, ◌∙◌, ℕ, List, [], Bor, get_or, sym, arith}
 use Rattle.std.specs.Str.{bytes_eq}
-use Rattle.yang_scope.specs.Pieces.{texts}
 use Rattle.yang_values.specs.Targets.{is_filled}
-use Rattle.yang_values.proofs.Places.{among, among-map, found_place, no_place, get_or-again}
+use Rattle.yang_values.proofs.Places.{among-map, found_place, no_place, get_or-again}
 use Rattle.yang_values.proofs.targets.place_in.Goals as goal
 
 pub returns-then-eq : goal.returns-then-eq

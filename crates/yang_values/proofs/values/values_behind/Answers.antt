@@ -1,6 +1,5 @@
-use Rattle.std.proofs.Common.{rules, List, IfOk, subst, ◌≡◌, ◌∙◌, [], ◌∷◌, map, reverse, Bor, sym, ap}
+use Rattle.std.proofs.Common.{List, IfOk, subst, ◌≡◌, ◌∙◌, [], ◌∷◌, map, reverse, Bor, sym, ap}
 use Rattle.std.specs.List.{fold}
-use Rattle.yang_text.specs.Declarations.{Declaration}
 use Rattle.yang_text.specs.Statements.{declaration}
 use Rattle.yang_text.specs.declared.statements.Statement.{Statement}
 use Rattle.yang_types.specs.declared.types.Bounds.{Bounds}

@@ -1,4 +1,4 @@
-use Rattle.std.proofs.Common.{rules, ◌≡◌, ◌∙◌, ◌-◌, ◌++◌, ℕ, suc, List, [], ◌∷◌, length, map, reverse, sym, ap, arith}
+use Rattle.std.proofs.Common.{rules, ◌≡◌, ◌∙◌, ◌-◌, ◌++◌, ℕ, List, [], ◌∷◌, length, map, reverse, sym, ap, arith}
 use Rattle.yang_scope.specs.Modules.{Module}
 use Rattle.yang_values.specs.Walks.{step_type, visited, built}
 use Rattle.yang_values.specs.declared.walks.Place.{Place}
