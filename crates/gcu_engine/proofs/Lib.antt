@@ -1,6 +1,6 @@
 pub mod Answering
 pub mod Elapsing
 pub mod Finding
-pub mod Models
+pub mod ModelTexts
 pub mod TreeTexts
 pub mod Checked

@@ -4,8 +4,9 @@ ghost use Rattle.host_core.specs.Counts.{NoneFell};
 ghost use Rattle.host_core.specs.Crashes.{Elapses, MayLeaveNow};
 ghost use Rattle.host_core.specs.Names.{longest_scoped_name};
 ghost use Rattle.conf_check.specs.Validity.{IsFirstViolation};
+ghost use Rattle.gcu_engine.specs.Asking.{follows_by};
 ghost use Rattle.gcu_engine.specs.Checking.{IsJudged, check_asked};
-ghost use Rattle.gcu_engine.specs.Preparing.{Finds, IsTold, Refuses, RefusesAlways};
+ghost use Rattle.gcu_engine.specs.Preparing.{FailsIn, Finds, IsTold, Refuses, RefusesAlways, refusal};
 ghost use Rattle.gcu_engine.specs.Request.{check as check_of};
 
 use crate::Outcome;
@@ -47,7 +48,7 @@ fn judge(alloc: Global, models: &Models, config: &Config) -> Result<(), Outcome>
 /// The refusal of a violation.
 fn invalid(alloc: Global, models: &Models, config: &Config, violation: &Violation) -> Outcome
     requires { IsFirstViolation models.now config.now violation.now }
-    ensures answer { IsTold (λ _. check_of) (Err result) (IsJudged models.now config.now) }
+    ensures answer { FailsIn (refusal result) (follows_by (IsJudged models.now config.now)) }
     ensures cause { RefusesAlways result }
 {
     match (place_of(alloc, models, config, violation), rule_numbered(violation.rule)) {
