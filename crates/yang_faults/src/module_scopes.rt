@@ -73,7 +73,8 @@ impl<'n, 'a> ModuleScope<'n, 'a> {
         statement: &Statement,
     ) -> Result<(), Memory>
         ensures { OnOk result (least.new ≡ least_of least.old
-            (bad_bounds self.now.names.now self.now.file self.now.number (declaration statement.now))) }
+            (bad_bounds self.now.names.now self.now.file self.now.number
+            (declaration statement.now))) }
     {
         note_bad_bounds(alloc, least, self.names, self.file, self.number, statement)
     }
@@ -87,7 +88,8 @@ impl<'n, 'a> ModuleScope<'n, 'a> {
     ) -> Result<(), Memory>
         ensures { OnOk result (Notes least.old least.new (λ tests.
             bad_patterns tests.is_pattern self.now.file (declaration statement.now)
-            ++ bad_bounds self.now.names.now self.now.file self.now.number (declaration statement.now))) }
+            ++ bad_bounds self.now.names.now self.now.file self.now.number
+            (declaration statement.now))) }
     {
         note_bad_patterns(alloc, least, self.file, statement)?;
         note_bad_bounds(alloc, least, self.names, self.file, self.number, statement)?;

@@ -192,7 +192,8 @@ pub(crate) fn fields(
     shape: &Statement,
 ) -> Result<Sequence<FieldRule>, Memory>
     ensures { IfOk result (λ rules. Gives rules (λ readers.
-        flat_map (field_at names.now readers number (texts keys.now)) (block (declaration shape.now)))) }
+        flat_map (field_at names.now readers number (texts keys.now))
+        (block (declaration shape.now)))) }
 {
     let mut rules = Sequence::new(alloc);
     for statement in shape.block.items() {
