@@ -1,5 +1,5 @@
 -- The entries and the values of a configuration by their names, and what the rules say of one entry.
-use Rattle.std.specs.Prelude.{◌≡◌, ◌≢◌, ℕ, List, [], ◌∷◌, Option, Some, option_and_then, slice_get, All, IsSome}
+use Rattle.std.specs.Prelude.{◌≡◌, ◌≢◌, ℕ, List, [], ◌∷◌, Option, Some, None, option_and_then, slice_get, map}
 use Rattle.std.specs.Option.{option_to_list}
 use Rattle.conf_doc.specs.Changes.{part_at, HasPlace}
 use Rattle.conf_doc.specs.Pairs.{find}
@@ -22,6 +22,15 @@ entry_of c t k = option_and_then (find k) (find t c)
 abbrev pub value_of : Config → List ℕ → List ℕ → List ℕ → Option Value
 value_of c t k f = option_and_then (find f) (entry_of c t k)
 
+-- each item is as P says
+abbrev pub AreAll : {A : Type 0} → (A → Type 0) → List A → Type 0
+AreAll {A = A} P xs = (i : ℕ) (a : A) → slice_get xs i ≡ Some a → P a
+
+-- each key is, of a table that may be there
+abbrev pub AreKeys : (List ℕ → Type 0) → Option Table → Type 0
+AreKeys P None = Unit {0}
+AreKeys P (Some table) = AreAll P (map (λ e. e.0) table)
+
 -- ---- create-only
 
 -- where the entry is in both, the field is absent in both or equal in both
@@ -35,7 +44,7 @@ KeepsRuleField cur next t k c = c.table ≡ t → KeepsField cur next t k c.fiel
 
 -- those of all create-only rules
 abbrev pub KeepsFields : List CreateOnly → Config → Config → List ℕ → List ℕ → Type 0
-KeepsFields rules cur next t k = All (KeepsRuleField cur next t k) rules
+KeepsFields rules cur next t k = AreAll (KeepsRuleField cur next t k) rules
 
 -- ---- required
 
@@ -62,8 +71,8 @@ KeepsPlaceIn t r cur next key q = q.table ≡ t → KeepsPlace r cur next key q
 
 -- of a rule
 abbrev pub KeepsPlaces : List ℕ → List ℕ → Config → Config → Required → Type 0
-KeepsPlaces t key cur next r = All (KeepsPlaceIn t r cur next key) r.requiring
+KeepsPlaces t key cur next r = AreAll (KeepsPlaceIn t r cur next key) r.requiring
 
--- the table is there and has the key
-abbrev pub HasKey : Option Table → List ℕ → Type 0
-HasKey entries k = IsSome (option_and_then (find k) entries)
+-- of all rules
+abbrev pub KeepsAllPlaces : List Required → List ℕ → Config → Config → List ℕ → Type 0
+KeepsAllPlaces rules t cur next key = AreAll (KeepsPlaces t key cur next) rules

@@ -1,12 +1,12 @@
 //! The rule of fields that are set only when their entry is made.
-ghost use Rattle.std.specs.Prelude.{◌≡◌, ◌↔◌, ℕ, List, IsTrue};
-ghost use Rattle.conf_doc.specs.Changes.{HasPlace};
+ghost use Rattle.std.specs.Prelude.{◌≡◌, ◌↔◌, map, IsTrue};
+ghost use Rattle.conf_doc.specs.Pairs.{find};
 ghost use Rattle.move_core.specs.Contexts.{IsResult};
 ghost use Rattle.move_core.specs.Rules.{KeepsCreateOnly};
-ghost use Rattle.move_rules.specs.Entries.{KeepsField, KeepsFields, KeepsRuleField};
+ghost use Rattle.move_rules.specs.Entries.{AreAll, AreKeys, KeepsField, KeepsFields, KeepsRuleField};
 
 use crate::entries::{agrees_at_field, has_entry, table_of};
-use conf_doc::Config;
+use conf_doc::{Config, Table};
 use move_core::{CreateOnly, Ctx, Move, MoveRule, Settings};
 
 /// No move changes a create-only field of an entry that stays. It fits all models.
@@ -71,19 +71,34 @@ fn keeps_fields(rules: &[CreateOnly], cur: &Config, next: &Config, table: &str, 
     true
 }
 
-/// Whether those of all entries of a table are so.
-fn keeps_table(rules: &[CreateOnly], cur: &Config, next: &Config, table: &str) -> bool
-    ensures { IsTrue result
-        ↔ ((k : List ℕ) → KeepsFields rules.now cur.now next.now table.now k) }
+/// Whether those at all keys of a table are so.
+fn keeps_keys(
+    rules: &[CreateOnly],
+    cur: &Config,
+    next: &Config,
+    table: &str,
+    entries: &Table,
+) -> bool
+    ensures { let Keeps = KeepsFields rules.now cur.now next.now table.now in
+        IsTrue result ↔ AreAll Keeps (map (λ e. e.0) entries.now) }
 {
-    if let Some(entries) = next.table(table) {
-        for i in 0..entries.len() {
-            if !keeps_fields(rules, cur, next, table, entries.name_at(i)) {
-                return false;
-            }
+    for i in 0..entries.len() {
+        if !keeps_fields(rules, cur, next, table, entries.name_at(i)) {
+            return false;
         }
     }
     true
+}
+
+/// Whether those of all entries of next are so.
+fn keeps_table(rules: &[CreateOnly], cur: &Config, next: &Config, table: &str) -> bool
+    ensures { let Keeps = KeepsFields rules.now cur.now next.now table.now in
+        IsTrue result ↔ AreKeys Keeps (find table.now next.now) }
+{
+    match next.table(table) {
+        Some(entries) => keeps_keys(rules, cur, next, table, entries),
+        None => true,
+    }
 }
 
 /// Whether the create-only fields of all entries that are in both stay. Only the move's table is looked at,

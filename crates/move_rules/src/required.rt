@@ -1,10 +1,11 @@
 //! The rule of values that are required while places change.
-ghost use Rattle.std.specs.Prelude.{◌≡◌, ◌≢◌, ◌↔◌, ℕ, List, All, IsTrue, option_copied};
+ghost use Rattle.std.specs.Prelude.{◌≡◌, ◌≢◌, ◌↔◌, map, IsTrue};
 ghost use Rattle.conf_doc.specs.Changes.{part_at};
+ghost use Rattle.conf_doc.specs.Pairs.{find};
 ghost use Rattle.move_core.specs.Contexts.{IsResult};
 ghost use Rattle.move_core.specs.Extensions.{HasRequired};
 ghost use Rattle.move_core.specs.Rules.{KeepsRequired};
-ghost use Rattle.move_rules.specs.Entries.{HasKey, HasRequiredInBoth, KeepsPlace, KeepsPlaceIn, KeepsPlaces, requiring_place};
+ghost use Rattle.move_rules.specs.Entries.{AreAll, AreKeys, HasRequiredInBoth, KeepsAllPlaces, KeepsPlace, KeepsPlaceIn, KeepsPlaces, requiring_place};
 
 use crate::entries::{agrees_at_entry, agrees_at_field, has_entry, table_of, value_at};
 use conf_doc::{Config, Table, Value};
@@ -111,11 +112,19 @@ fn keeps_place_in(
     requiring.table.as_str() != table || keeps_place(rule, requiring, key, cur, next)
 }
 
-/// The same of the requiring places of a rule.
-fn keeps_places(table: &str, key: &str, cur: &Config, next: &Config, rule: &Required) -> bool
-    ensures { IsTrue result ↔ KeepsPlaces table.now key.now cur.now next.now rule.now }
+/// The same of some requiring places of a rule.
+fn keeps_each(
+    table: &str,
+    rule: &Required,
+    places: &[Requiring],
+    key: &str,
+    cur: &Config,
+    next: &Config,
+) -> bool
+    ensures { let Keeps = KeepsPlaceIn table.now rule.now cur.now next.now key.now in
+        IsTrue result ↔ AreAll Keeps places.now }
 {
-    for requiring in rule.requiring.items() {
+    for requiring in places {
         if !keeps_place_in(table, rule, requiring, key, cur, next) {
             return false;
         }
@@ -123,9 +132,17 @@ fn keeps_places(table: &str, key: &str, cur: &Config, next: &Config, rule: &Requ
     true
 }
 
+/// The same of the requiring places of a rule.
+fn keeps_places(table: &str, key: &str, cur: &Config, next: &Config, rule: &Required) -> bool
+    ensures { IsTrue result ↔ KeepsPlaces table.now key.now cur.now next.now rule.now }
+{
+    keeps_each(table, rule, rule.requiring.items(), key, cur, next)
+}
+
 /// The same of those of all rules.
 fn keeps_rules(rules: &[Required], table: &str, key: &str, cur: &Config, next: &Config) -> bool
-    ensures { IsTrue result ↔ All (KeepsPlaces table.now key.now cur.now next.now) rules.now }
+    ensures { let Keeps = KeepsAllPlaces rules.now table.now cur.now next.now in
+        IsTrue result ↔ Keeps key.now }
 {
     for rule in rules {
         if !keeps_places(table, key, cur, next, rule) {
@@ -135,25 +152,28 @@ fn keeps_rules(rules: &[Required], table: &str, key: &str, cur: &Config, next: &
     true
 }
 
-/// The same at all keys of a table of one of the two configurations.
-fn keeps_keys(
-    rules: &[Required],
-    table: &str,
-    entries: Option<&Table>,
-    cur: &Config,
-    next: &Config,
-) -> bool
-    ensures { IsTrue result ↔ ((k : List ℕ) → HasKey (option_copied entries.entry) k
-        → All (KeepsPlaces table.now k cur.now next.now) rules.now) }
+/// The same at all keys of a table.
+fn keeps_keys(rules: &[Required], table: &str, entries: &Table, cur: &Config, next: &Config) -> bool
+    ensures { let Keeps = KeepsAllPlaces rules.now table.now cur.now next.now in
+        IsTrue result ↔ AreAll Keeps (map (λ e. e.0) entries.now) }
 {
-    if let Some(entries) = entries {
-        for i in 0..entries.len() {
-            if !keeps_rules(rules, table, entries.name_at(i), cur, next) {
-                return false;
-            }
+    for i in 0..entries.len() {
+        if !keeps_rules(rules, table, entries.name_at(i), cur, next) {
+            return false;
         }
     }
     true
+}
+
+/// The same at all keys of a table of one of the two configurations.
+fn keeps_table(rules: &[Required], table: &str, of: &Config, cur: &Config, next: &Config) -> bool
+    ensures { let Keeps = KeepsAllPlaces rules.now table.now cur.now next.now in
+        IsTrue result ↔ AreKeys Keeps (find table.now of.now) }
+{
+    match of.table(table) {
+        Some(entries) => keeps_keys(rules, table, entries, cur, next),
+        None => true,
+    }
 }
 
 /// Whether required values are there wherever requiring places change. Only places in the move's table are
@@ -168,7 +188,6 @@ fn keeps_required(settings: &Settings, cur: &Config, next: &Config, mv: &Move) -
     if place.len() > 1 {
         keeps_rules(rules, table, place.name_at(1), cur, next)
     } else {
-        keeps_keys(rules, table, cur.table(table), cur, next)
-            && keeps_keys(rules, table, next.table(table), cur, next)
+        keeps_table(rules, table, cur, cur, next) && keeps_table(rules, table, next, cur, next)
     }
 }
