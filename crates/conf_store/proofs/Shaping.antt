@@ -1,5 +1,5 @@
 -- The walk over a document tells what its shaping tells; and the document of a configuration is the one shaped.
-use Rattle.std.proofs.Common.{◌≡◌, ℕ, suc, ◌+◌, Bool, not, ◌&&◌, ◌==◌, List, [], ◌∷◌, map, length, Result, Ok, Err, decimal, ne_eqb, suc-ne-zero, is_ok, refl, sym, ap, ◌∙◌}
+use Rattle.std.proofs.Common.{◌≡◌, ℕ, suc, ◌+◌, true, Bool, not, ◌&&◌, ◌==◌, List, [], ◌∷◌, map, length, Result, Ok, Err, decimal, ne_eqb, suc-ne-zero, is_ok, refl, sym, ap, ◌∙◌}
 use Rattle.std.specs.List.{list_all}
 use Rattle.host_core.specs.Answers.{both, map_ok}
 use Rattle.conf_doc.specs.Document.{Document, text, list, object, documents, pairs, items_of, members_of, Items, no_items, item, Members, no_members, member}
@@ -131,3 +131,11 @@ table_back = mapping_back entry_of entry_tree entry_back
 -- what is shaped as a configuration is its document
 pub config_back : (d : Document) (c : Config) → configuration d ≡ Ok c → tree c ≡ d
 config_back = mapping_back table_of table_tree table_back
+
+-- what passes the walk is the document of what it is shaped as
+pub tree_shaped : (d : Document) → is_config d ≡ true → map_ok tree (configuration d) ≡ Ok d
+tree_shaped d is = by (configuration d) refl (sym (ok_config d) ∙ is)
+  where
+    by : (r : Result Config Way) → configuration d ≡ r → is_ok r ≡ true → map_ok tree (configuration d) ≡ Ok d
+    by (Ok c) at is = ap (map_ok tree) at ∙ ap (λ (e : Document). Ok e) (config_back d c at)
+    by (Err way) at is = absurd cc

@@ -6,14 +6,15 @@ use Rattle.host_core.specs.State.{Files}
 use Rattle.conf_doc.specs.Document.{Document}
 use Rattle.conf_doc.specs.Reading.{document_of, json}
 use Rattle.conf_doc.specs.Shaping.{configuration}
-use Rattle.conf_doc.specs.declared.configuration.Config.{Config}
+use Rattle.conf_doc.specs.Trees.{document}
+use Rattle.conf_doc.specs.declared.trees.Tree.{Tree}
 use Rattle.patch_core.specs.Apply.{apply_plain}
 use Rattle.patch_core.specs.Operation.{Operation}
 use Rattle.patch_core.specs.Reading.{patch}
-use Rattle.conf_store.specs.Files.{folded_file, last_step, step_name}
-use Rattle.conf_store.specs.Stored.{or_none, or_why, stored}
+use Rattle.conf_store.specs.Files.{config_file, folded_file, last_step, step_name}
+use Rattle.conf_store.specs.Stored.{or_none, or_why}
 use Rattle.conf_store.specs.declared.errors.StoredWhy.{StoredWhy}
-use Rattle.conf_store.specs.declared.errors.StoredWhy.TheVariants.{BadJson, BadKind, BadShape, BadStep}
+use Rattle.conf_store.specs.declared.errors.StoredWhy.TheVariants.{NoFile, BadJson, BadKind, BadShape, BadStep}
 
 -- the document, where it is a configuration
 abbrev pub shaped : StoredWhy → Document → Result Document StoredWhy
@@ -51,6 +52,24 @@ documents_after (suc more) n files d =
 abbrev pub document_after_all : Files → Document → Result Document StoredWhy
 document_after_all files d = documents_after last_step 1 files d
 
--- the configuration that the files stand for, and whether the folded file is there
-abbrev pub config_found : Files → Result (Config × Bool) StoredWhy
-config_found files = stored files >>= λ c. Ok (c, is_some (get files folded_file))
+-- the document of the one file and the steps
+abbrev pub document_stepped : Files → Result Document StoredWhy
+document_stepped files =
+    or_none NoFile (get files config_file) >>= λ bytes. shaped_in bytes >>= document_after_all files
+
+-- what the folded file holds where it is there, else the other
+abbrev pub or_unfolded : Option (List ℕ) → Result Document StoredWhy → Result Document StoredWhy
+or_unfolded None unfolded = unfolded
+or_unfolded (Some bytes) unfolded = shaped_in bytes
+
+-- the document that the files stand for
+abbrev pub document_stored : Files → Result Document StoredWhy
+document_stored files = or_unfolded (get files folded_file) (document_stepped files)
+
+-- that document, and whether the folded file is there
+abbrev pub document_found : Files → Result (Document × Bool) StoredWhy
+document_found files = document_stored files >>= λ d. Ok (d, is_some (get files folded_file))
+
+-- a tree that was found, seen so
+abbrev pub tree_found : Tree × Bool → Document × Bool
+tree_found f = (document f.0, f.1)

@@ -16,11 +16,13 @@ mod shapes;
 mod step_files;
 mod steps_read;
 mod stored_files;
+mod trees_found;
 
 pub use errors::{LoadError, StoredWhy};
 pub use folding::fold;
 pub use loaded::Stored;
-pub use loading::load;
+pub use loading::{load, load_tree};
 pub use putting::put_file;
 pub use putting_steps::put_step;
+pub use shapes::is_configuration;
 pub use step_files::step_name;

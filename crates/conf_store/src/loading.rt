@@ -6,18 +6,14 @@ ghost use Rattle.host_core.specs.Crashes.{Elapses, MayLeaveNow};
 ghost use Rattle.host_core.specs.Names.{longest_plain_name};
 ghost use Rattle.conf_doc.specs.WellFormed.{IsConfig};
 ghost use Rattle.conf_store.specs.Files.{is_step_name};
-ghost use Rattle.conf_store.specs.Loads.{Loads};
-ghost use Rattle.conf_store.specs.Reads.{FoundIn, OnlyReads};
-ghost use Rattle.conf_store.specs.Stored.{after_all_steps};
-ghost use Rattle.conf_store.specs.Walk.{config_found};
+ghost use Rattle.conf_store.specs.Loads.{Loads, LoadsTree};
 ghost use Rattle.conf_store.specs.declared.errors.LoadError.TheVariants.{Disk as disk_failed};
 
-use crate::folder_files::{list_steps, read_file};
-use crate::folding::{CONFIG_FILE, FOLDED_FILE};
-use crate::steps_read::apply_steps;
-use crate::stored_files::{read_config, read_shaped, shape_config};
-use crate::{LoadError, Stored, StoredWhy};
-use conf_doc::Config;
+use crate::folder_files::list_steps;
+use crate::stored_files::shape_config;
+use crate::trees_found::find_tree;
+use crate::{LoadError, Stored};
+use conf_doc::Tree;
 use host_core::Host;
 use std::alloc::Global;
 
@@ -37,7 +33,8 @@ pub fn load<H: Host>(alloc: Global, host: &mut H) -> Result<Stored, LoadError>
     ensures time { Elapses H.moment H.left_since host.old host.new (MayLeaveNow (H.told host.old)) }
     ensures goes { H.goes_on host.old host.new }
 {
-    let (config, folded) = load_config(alloc, host)?;
+    let (tree, folded) = find_tree(alloc, host)?;
+    let config = shape_config(alloc, tree)?;
     let steps = list_steps(alloc, host)?;
     Ok(Stored {
         config,
@@ -46,42 +43,20 @@ pub fn load<H: Host>(alloc: Global, host: &mut H) -> Result<Stored, LoadError>
     })
 }
 
-/// The stored configuration, and whether the folded file holds it.
-fn load_config<H: Host>(alloc: Global, host: &mut H) -> Result<(Config, bool), LoadError>
+/// The tree of the configuration that the folder stands for: `load` without building a configuration and
+/// without a look at the other files. `Disk` comes only where the disk count rose.
+pub fn load_tree<H: Host>(alloc: Global, host: &mut H) -> Result<Tree, LoadError>
     requires { longest_plain_name ≤ H.longest_name }
-    ensures found { FoundIn (H.told host.old) (λ f. f) config_found result }
-    ensures formed { IfOk result (λ f. IsConfig f.0) }
-    ensures reads { OnlyReads H.told H.counts H.moment H.left_since H.goes_on host.old host.new }
+    // It is the tree of the stored configuration, or `Bad` with why the folder stands for none.
+    ensures loads { IfSome (H.told host.old) (λ s. LoadsTree s.files result) }
+    ensures told { H.told host.new ≡ H.told host.old }
+    ensures counts { DiskMayRise (H.counts host.old) (H.counts host.new) }
     ensures cause { IsErrOf result disk_failed
         → Rose (H.counts host.old).disk (H.counts host.new).disk }
+    // A crash leaves at each moment what it would have left before.
+    ensures time { Elapses H.moment H.left_since host.old host.new (MayLeaveNow (H.told host.old)) }
+    ensures goes { H.goes_on host.old host.new }
 {
-    match read_file(alloc, host, FOLDED_FILE)? {
-        Some(bytes) => {
-            let config = read_config(alloc, &bytes)?;
-            Ok((config, true))
-        }
-        None => {
-            let config = load_unfolded(alloc, host)?;
-            Ok((config, false))
-        }
-    }
-}
-
-/// The configuration of the one file and the steps.
-fn load_unfolded<H: Host>(alloc: Global, host: &mut H) -> Result<Config, LoadError>
-    requires { longest_plain_name ≤ H.longest_name }
-    ensures found { FoundIn (H.told host.old) (λ c. c) after_all_steps result }
-    ensures formed { IfOk result IsConfig }
-    ensures reads { OnlyReads H.told H.counts H.moment H.left_since H.goes_on host.old host.new }
-    ensures cause { IsErrOf result disk_failed
-        → Rose (H.counts host.old).disk (H.counts host.new).disk }
-{
-    match read_file(alloc, host, CONFIG_FILE)? {
-        None => Err(LoadError::Bad(StoredWhy::NoFile)),
-        Some(bytes) => {
-            let start = read_shaped(alloc, &bytes)?;
-            let tree = apply_steps(alloc, host, start)?;
-            shape_config(alloc, tree)
-        }
-    }
+    let (tree, _folded) = find_tree(alloc, host)?;
+    Ok(tree)
 }

@@ -1,10 +1,23 @@
 //! Whether trees are of a configuration's shape, told without memory.
-ghost use Rattle.std.specs.Prelude.{◌≡◌, map};
+ghost use Rattle.std.specs.Prelude.{◌≡◌, is_ok, map, true, Ok};
 ghost use Rattle.std.specs.List.{list_all};
+ghost use Rattle.host_core.specs.Answers.{map_ok};
+ghost use Rattle.conf_doc.specs.Configuration.{tree as tree_of};
+ghost use Rattle.conf_doc.specs.Shaping.{configuration};
 ghost use Rattle.conf_doc.specs.Trees.{document};
 ghost use Rattle.conf_store.specs.Shapes.{is_named, is_text};
 
 use conf_doc::{Config, Entry, Items, Members, Table, Tree, Value};
+
+/// Whether a tree is that of a configuration, which takes no memory to tell.
+pub fn is_configuration(tree: &Tree) -> bool
+    ensures tells { result ≡ is_ok (configuration (document tree.now)) }
+    // Then it is the tree of what it is shaped as.
+    ensures same { result ≡ true
+        → map_ok tree_of (configuration (document tree.now)) ≡ Ok (document tree.now) }
+{
+    Config::is_shaped(tree)
+}
 
 /// What a tree may be the tree of.
 pub(crate) trait Shaped {

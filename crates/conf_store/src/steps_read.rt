@@ -36,6 +36,7 @@ pub(crate) fn apply_steps<H: Host>(
     requires shaped { is_config (document start) ≡ true }
     ensures found { FoundIn (H.told host.old) document
         (λ files. document_after_all files (document start)) result }
+    ensures shaped { IfOk result (λ t. is_config (document t) ≡ true) }
     ensures reads { OnlyReads H.told H.counts H.moment H.left_since H.goes_on host.old host.new }
     ensures cause { IsErrOf result disk_failed
         → Rose (H.counts host.old).disk (H.counts host.new).disk }

@@ -67,7 +67,8 @@ patch_asked path s = asks an_input (patch_in path (input_of s path patch_limit))
 
 -- ---- the target
 
-abbrev target_shape : Result Config ShapeError → Result Config Outcome
+-- the configuration that was shaped, or a refusal with the place of the fault
+abbrev pub target_shape : Result Config ShapeError → Result Config Outcome
 target_shape (Ok c) = Ok c
 target_shape (Err (shape.Shape place)) = Err (TargetShape place)
 target_shape (Err shape.Memory) = Err Memory

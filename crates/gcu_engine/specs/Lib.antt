@@ -4,8 +4,10 @@ pub mod Asked
 pub mod Asking
 pub mod Form
 pub mod Lines
+pub mod ModelFiles
 pub mod Request
 -- what only private clauses cite
 pub mod FormView
 pub mod Preparing
 pub mod Printing
+pub mod Trees

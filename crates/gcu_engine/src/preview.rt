@@ -4,15 +4,17 @@ ghost use Rattle.host_core.specs.Answers.{Gives};
 ghost use Rattle.host_core.specs.Counts.{InputMayRise, NoneFell};
 ghost use Rattle.host_core.specs.Crashes.{Elapses, MayLeaveNow};
 ghost use Rattle.host_core.specs.Names.{longest_scoped_name};
-ghost use Rattle.gcu_engine.specs.Asked.{preview_asked, patch_asked, patch_in, patch_answer, target};
+ghost use Rattle.conf_doc.specs.Trees.{document};
+ghost use Rattle.gcu_engine.specs.Asked.{patch_asked, patch_in, patch_answer};
 ghost use Rattle.gcu_engine.specs.Preparing.{Finds, Refuses, RefusesAlways, refusal};
-ghost use Rattle.gcu_engine.specs.Request.{preview as preview_of};
+ghost use Rattle.gcu_engine.specs.Trees.{document_shape, preview_document, target_document};
 ghost use Rattle.patch_core.specs.Operation.{operations};
 ghost use Rattle.patch_core.specs.Reading.{patch as patch_of};
 
 use crate::Outcome;
 use crate::stored::read_stored;
-use conf_doc::{Config, ShapeError, config_of_tree, tree_of_config};
+use conf_doc::{ShapeError, Tree, config_of_tree};
+use conf_store::is_configuration;
 use host_core::{Host, HostError, Input, Txt};
 use patch_core::{ApplyError, Patch, PatchError, apply_owned, read_patch};
 use std::alloc::Global;
@@ -20,10 +22,10 @@ use std::alloc::Global;
 /// How many bytes a patch may have.
 pub(crate) const PATCH_LIMIT: u64 = 1_048_576;
 
-/// The configuration that the patch would leave.
-pub(crate) fn preview<H: Host>(alloc: Global, path: &Txt, host: &mut H) -> Result<Config, Outcome>
+/// The tree of the configuration that the patch would leave.
+pub(crate) fn preview<H: Host>(alloc: Global, path: &Txt, host: &mut H) -> Result<Tree, Outcome>
     requires { longest_scoped_name ≤ H.longest_name }
-    ensures answer { Finds (H.told host.old) preview_of result (preview_asked path.now) }
+    ensures answer { Finds (H.told host.old) document result (preview_document path.now) }
     ensures told { H.told host.new ≡ H.told host.old }
     ensures counts { NoneFell (H.counts host.old) (H.counts host.new) }
     ensures cause { IfErr result (Refuses (H.counts host.old) (H.counts host.new)) }
@@ -32,7 +34,7 @@ pub(crate) fn preview<H: Host>(alloc: Global, path: &Txt, host: &mut H) -> Resul
 {
     let start = read_stored(alloc, host)?;
     let patch = input_patch(alloc, path, host)?;
-    patched_config(alloc, &patch, start)
+    patched_tree(alloc, &patch, start)
 }
 
 /// The patch that an input holds.
@@ -83,19 +85,29 @@ fn patch_of_bytes(alloc: Global, path: &Txt, bytes: &[u8]) -> Result<Patch, Outc
     }
 }
 
-/// The configuration after the patch.
-fn patched_config(alloc: Global, patch: &Patch, start: Config) -> Result<Config, Outcome>
-    ensures answer { Gives (λ c. c) refusal result (target (operations patch.now) start) }
+/// The tree of the configuration after the patch.
+fn patched_tree(alloc: Global, patch: &Patch, start: Tree) -> Result<Tree, Outcome>
+    ensures answer { Gives document refusal result
+        (target_document (operations patch.now) (document start)) }
     ensures cause { IfErr result RefusesAlways }
 {
-    let tree = tree_of_config(alloc, start)?;
-    let tree = match apply_owned(alloc, patch, tree) {
-        Ok(tree) => tree,
-        Err(ApplyError::Failed { index, why }) => return Err(Outcome::PatchFailed { index, why }),
-        Err(ApplyError::Memory) => return Err(Outcome::Memory),
-    };
+    match apply_owned(alloc, patch, start) {
+        Ok(tree) => test_target(alloc, tree),
+        Err(ApplyError::Failed { index, why }) => Err(Outcome::PatchFailed { index, why }),
+        Err(ApplyError::Memory) => Err(Outcome::Memory),
+    }
+}
+
+/// The tree, where it is a configuration's. Where it isn't, its first fault is looked for.
+fn test_target(alloc: Global, tree: Tree) -> Result<Tree, Outcome>
+    ensures answer { Gives document refusal result (document_shape (document tree)) }
+    ensures cause { IfErr result RefusesAlways }
+{
+    if is_configuration(&tree) {
+        return Ok(tree);
+    }
     match config_of_tree(alloc, tree) {
-        Ok(config) => Ok(config),
+        Ok(_) => unreachable!(),
         Err(ShapeError::Shape { place }) => Err(Outcome::TargetShape { place }),
         Err(ShapeError::Memory) => Err(Outcome::Memory),
     }

@@ -2,15 +2,16 @@
 ghost use Rattle.std.specs.Prelude.{◌≡◌, ◌++◌, IfOk};
 ghost use Rattle.host_core.specs.Counts.{PrintMayRise};
 ghost use Rattle.host_core.specs.Crashes.{Elapses};
-ghost use Rattle.conf_doc.specs.Texts.{file_text};
+ghost use Rattle.conf_doc.specs.Trees.{document};
 ghost use Rattle.gcu_engine.specs.Answers.{LeftWithOutput};
 ghost use Rattle.gcu_engine.specs.Lines.{last_line};
-ghost use Rattle.gcu_engine.specs.Printing.{IsPrinted, IsSaid};
+ghost use Rattle.gcu_engine.specs.Printing.{IsPrinted, IsSaid, text_in_lines};
 ghost use Rattle.gcu_engine.specs.declared.outcomes.Outcome.TheVariants.{Done as done, Memory as no_memory};
 
 use crate::Outcome;
 use crate::lines::line;
-use conf_doc::{Config, file_bytes};
+use crate::tree_text::tree_text;
+use conf_doc::Tree;
 use host_core::{Host, Memory};
 use std::alloc::Global;
 
@@ -29,16 +30,16 @@ pub(crate) fn say<H: Host>(alloc: Global, outcome: Outcome, host: &mut H) -> Out
     }
 }
 
-/// Prints a configuration's file text and the last line of Done.
-pub(crate) fn show<H: Host>(alloc: Global, config: &Config, host: &mut H) -> Outcome
-    ensures said { IsSaid done (file_text config.now ++ last_line done)
+/// Prints the file text of a configuration's tree and the last line of Done.
+pub(crate) fn show<H: Host>(alloc: Global, tree: &Tree, host: &mut H) -> Outcome
+    ensures said { IsSaid done (text_in_lines (document tree.now) ++ last_line done)
         (H.told host.old) (H.told host.new) (H.counts host.old) (H.counts host.new) result }
     ensures counts { PrintMayRise (H.counts host.old) (H.counts host.new) }
     ensures time { Elapses H.moment H.left_since host.old host.new
         (LeftWithOutput (H.told host.old)) }
     ensures goes { H.goes_on host.old host.new }
 {
-    match shown(alloc, config) {
+    match shown(alloc, tree) {
         Ok(text) => print(Outcome::Done, &text, host),
         Err(Memory) => say_memory(host),
     }
@@ -56,11 +57,11 @@ fn say_memory<H: Host>(host: &mut H) -> Outcome
     print(Outcome::Memory, b"refused 1 memory\n", host)
 }
 
-/// The whole output with a configuration.
-fn shown(alloc: Global, config: &Config) -> Result<Vec<u8>, Memory>
-    ensures { IfOk result (λ b. b.items ≡ file_text config.now ++ last_line done) }
+/// The whole output with a configuration's tree.
+fn shown(alloc: Global, tree: &Tree) -> Result<Vec<u8>, Memory>
+    ensures { IfOk result (λ b. b.items ≡ text_in_lines (document tree.now) ++ last_line done) }
 {
-    let mut text = file_bytes(alloc, config)?;
+    let mut text = tree_text(alloc, tree)?;
     match text.extend_from_slice(b"done\n") {
         Ok(()) => Ok(text),
         Err(_) => Err(Memory),

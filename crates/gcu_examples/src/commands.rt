@@ -10,8 +10,9 @@ const CONFIG_FILE: &str = "config_db.json";
 const PATCH_FILE: &str = "p.json";
 
 /// A row has the `words` of a command, the stored `config` and the `patch` that is the input `p.json`
-/// where they are there, and the `output` and `status`. `blanks` stand after the patch. `fails` has the
-/// numbers of the calls of the host that fail, counted from 0.
+/// where they are there, other `files` of the folder, each a name with its bytes, and the `output` and
+/// `status`. `blanks` stand after the patch. `fails` has the numbers of the calls of the host that fail,
+/// counted from 0.
 pub struct Commands;
 
 impl Table for Commands {
@@ -45,7 +46,20 @@ fn host_at(alloc: Global, row: &Value) -> Result<MemHost, Fail> {
         let bytes = text_bytes(alloc, row, "config")?;
         files.push((Txt::new(alloc, CONFIG_FILE)?, bytes))?;
     }
+    push_others(alloc, row, &mut files)?;
     Ok(MemHost::new(alloc, inputs, files, faults_at(alloc, row)?)?)
+}
+
+/// Adds the other files of the folder.
+fn push_others(alloc: Global, row: &Value, files: &mut Vec<(Txt, Vec<u8>)>) -> Result<(), Fail> {
+    let Some(others) = row.get("files") else {
+        return Ok(());
+    };
+    for (name, _) in others.as_object().ok_or(Fail::Row)? {
+        let bytes = text_bytes(alloc, others, name.as_str())?;
+        files.push((Txt::new(alloc, name.as_str())?, bytes))?;
+    }
+    Ok(())
 }
 
 /// The bytes of the input.

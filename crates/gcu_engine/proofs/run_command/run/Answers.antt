@@ -1,8 +1,9 @@
 use Rattle.std.proofs.Common.{sym, ◌++◌}
-use Rattle.conf_doc.specs.Texts.{file_text}
+use Rattle.conf_doc.specs.Trees.{document}
 use Rattle.gcu_engine.specs.Lines.{last_line}
+use Rattle.gcu_engine.specs.Printing.{text_in_lines}
 use Rattle.gcu_engine.proofs.Elapsing.{command_leaves, command_leaves_behind}
-use Rattle.gcu_engine.proofs.Answering.{said_answers, no_form_says, preview_says, preview_refuses, refused_cause}
+use Rattle.gcu_engine.proofs.Answering.{said_answers, done_completes, said_completes, no_form_says, preview_says, preview_refuses, refused_cause}
 use Rattle.gcu_engine.specs.declared.outcomes.Outcome.TheVariants.{Usage, Done}
 use Rattle.gcu_engine.proofs.run_command.run.Goals as goal
 
@@ -17,8 +18,8 @@ returns-in-Unknown-clause-answers g c =
 pub returns-in-Ok-clause-answers : goal.returns-in-Ok-clause-answers
 returns-in-Ok-clause-answers g c =
     said_answers c.args.words.now (g.H.Host.told c.args.host.now) (g.H.Host.told c.show.new.host) (g.H.Host.counts c.args.host.now) (g.H.Host.counts c.preview.new.host) (g.H.Host.counts c.show.new.host)
-    Done (file_text c.in-Ok.config ++ last_line Done) c.show.result (rw c.in-Ok.ensures.told at c.show.ensures.said) c.show.ensures.counts tt
-    (preview_says c.args.words.now _ (g.H.Host.told c.args.host.now) c.in-Ok.config (sym c.in-Preview.ensures) c.in-Ok.ensures.answer)
+    Done (text_in_lines (document c.in-Ok.tree) ++ last_line Done) c.show.result (rw c.in-Ok.ensures.told at c.show.ensures.said) c.show.ensures.counts tt
+    (preview_says c.args.words.now _ (g.H.Host.told c.args.host.now) c.in-Ok.tree (sym c.in-Preview.ensures) c.in-Ok.ensures.answer)
 
 -- a refused preview
 pub returns-in-Err-clause-answers : goal.returns-in-Err-clause-answers
@@ -54,3 +55,18 @@ returns-in-Ok-clause-goes g c =
 pub returns-in-Err-clause-goes : goal.returns-in-Err-clause-goes
 returns-in-Err-clause-goes g c =
     g.met.H.Host.continues c.args.host.now c.preview.new.host c.say-in-Err.new.host c.preview.ensures.goes c.say-in-Err.ensures.goes
+
+-- ---- where nothing failed
+
+pub returns-in-Err-clause-complete : goal.returns-in-Err-clause-complete
+returns-in-Err-clause-complete g c =
+    said_completes c.args.words.now _ (g.H.Host.told c.args.host.now) (g.H.Host.told c.say-in-Err.new.host) (g.H.Host.told c.preview.new.host)
+    (g.H.Host.counts c.args.host.now) (g.H.Host.counts c.preview.new.host) (g.H.Host.counts c.say-in-Err.new.host)
+    c.in-Err.outcome c.say-in-Err.result (sym c.in-Preview.ensures) c.say-in-Err.ensures.said c.say-in-Err.ensures.counts
+    c.in-Err.ensures.counts c.in-Err.ensures.cause c.in-Err.ensures.answer
+
+pub returns-in-Ok-clause-complete : goal.returns-in-Ok-clause-complete
+returns-in-Ok-clause-complete g c =
+    done_completes c.args.words.now _ (text_in_lines (document c.in-Ok.tree) ++ last_line Done) (g.H.Host.told c.args.host.now) (g.H.Host.told c.show.new.host) (g.H.Host.told c.preview.new.host)
+    (g.H.Host.counts c.args.host.now) (g.H.Host.counts c.preview.new.host) (g.H.Host.counts c.show.new.host)
+    c.in-Ok.tree c.show.result (sym c.in-Preview.ensures) c.show.ensures.said c.in-Ok.ensures.counts c.in-Ok.ensures.answer
