@@ -4,6 +4,7 @@ pub mod Asked
 pub mod Asking
 pub mod Form
 pub mod Lines
+pub mod ModelFiles
 pub mod Request
 -- what only private clauses cite
 pub mod FormView

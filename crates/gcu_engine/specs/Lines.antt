@@ -8,8 +8,10 @@ use Rattle.patch_core.specs.declared.errors.PatchWhy.{PatchWhy}
 use Rattle.patch_core.specs.declared.errors.PatchWhy.TheVariants.{NotArray, NotObject, NoOp, UnknownOp, NoPath, BadPath, NoValue, BadValue, NoFrom, BadFrom}
 use Rattle.conf_store.specs.declared.errors.StoredWhy.{StoredWhy}
 use Rattle.conf_store.specs.declared.errors.StoredWhy.TheVariants as stored
+use Rattle.yang_text.specs.declared.errors.ModelWhy.{ModelWhy}
+use Rattle.yang_text.specs.declared.errors.ModelWhy.TheVariants as models
 use Rattle.gcu_engine.specs.declared.outcomes.Outcome.{Outcome}
-use Rattle.gcu_engine.specs.declared.outcomes.Outcome.TheVariants.{Done, Memory, Usage, InputFault, DiskFault, PrintFault, NoInput, TooBig, BadJson, BadPatch, PatchFailed, TargetShape, BadStored}
+use Rattle.gcu_engine.specs.declared.outcomes.Outcome.TheVariants.{Done, Memory, Usage, InputFault, DiskFault, PrintFault, NoInput, TooBig, BadJson, BadModels, BadPatch, PatchFailed, TargetShape, BadStored}
 
 -- the exit status
 abbrev pub number : Outcome → ℕ
@@ -22,6 +24,7 @@ number (PrintFault step) = 5
 number (NoInput path) = 7
 number (TooBig path limit) = 8
 number (BadJson path) = 9
+number (BadModels file line why) = 11
 number (BadPatch index why) = 13
 number (PatchFailed index why) = 14
 number (TargetShape place) = 15
@@ -58,6 +61,23 @@ stored_why stored.BadKind = codes "BadKind"
 stored_why stored.BadShape = codes "BadShape"
 stored_why (stored.BadStep n) = codes "BadStep " ++ decimal n
 
+-- what is wrong with models
+abbrev pub model_why : ModelWhy → List ℕ
+model_why models.NotUtf8 = codes "NotUtf8"
+model_why models.BadToken = codes "BadToken"
+model_why models.Unbalanced = codes "Unbalanced"
+model_why models.TooDeep = codes "TooDeep"
+model_why models.Unsupported = codes "Unsupported"
+model_why models.Repeated = codes "Repeated"
+model_why models.Missing = codes "Missing"
+model_why models.BadArgument = codes "BadArgument"
+model_why models.Duplicate = codes "Duplicate"
+model_why models.UnknownName = codes "UnknownName"
+model_why models.Circle = codes "Circle"
+model_why models.BadPattern = codes "BadPattern"
+model_why models.BadExpr = codes "BadExpr"
+model_why models.TooMany = codes "TooMany"
+
 -- a text in a line, as a compact JSON text
 abbrev pub quoted : List ℕ → List ℕ
 quoted s = compact (text s)
@@ -81,6 +101,8 @@ said (PrintFault step) = codes "print fault after " ++ decimal step
 said (NoInput path) = codes "no input " ++ quoted path
 said (TooBig path limit) = codes "too big " ++ quoted path ++ space ++ decimal limit
 said (BadJson path) = codes "bad json " ++ quoted path
+said (BadModels file line why) =
+    codes "bad models " ++ quoted file ++ space ++ decimal line ++ space ++ model_why why
 said (BadPatch index why) = codes "bad patch " ++ decimal index ++ space ++ patch_why why
 said (PatchFailed index why) = codes "patch failed " ++ decimal index ++ space ++ fail_why why
 said (TargetShape place) = codes "target shape " ++ quoted place

@@ -2,7 +2,9 @@
 #![tactic(auto)]
 
 mod form;
+mod inputs;
 mod lines;
+mod model_files;
 mod outcomes;
 mod preview;
 mod printing;

@@ -1,12 +1,13 @@
 //! The last line of each outcome.
 ghost use Rattle.std.specs.Prelude.{◌≡◌, ◌++◌, IfOk, string_bytes, decimal};
-ghost use Rattle.gcu_engine.specs.Lines.{last_line, numbered_line as numbered, refused_line as refused, said as said_text, space, quoted as quoted_text, patch_why, fail_why, stored_why};
+ghost use Rattle.gcu_engine.specs.Lines.{last_line, numbered_line as numbered, refused_line as refused, said as said_text, space, quoted as quoted_text, patch_why, fail_why, stored_why, model_why};
 
 use crate::Outcome;
 use conf_store::StoredWhy;
 use patch_core::{FailWhy, PatchWhy};
 use serde_json::Value;
 use std::alloc::{AllocError, Global};
+use yang_text::ModelWhy;
 
 /// The line that ends the output with this outcome.
 pub(crate) fn line(alloc: Global, outcome: &Outcome) -> Result<String, AllocError>
@@ -58,6 +59,11 @@ fn said(alloc: Global, outcome: &Outcome) -> Result<String, AllocError>
             let path = quoted(alloc, path.as_str())?;
             format!(in alloc; "bad json {path}")
         }
+        Outcome::BadModels { file, line, why } => {
+            let file = quoted(alloc, file.as_str())?;
+            let why = model_why_name(*why);
+            placed(alloc, "bad models ", file.as_str(), *line, why)
+        }
         Outcome::BadPatch { index, why } => {
             let why = patch_why_name(*why);
             numbered(alloc, "bad patch ", *index, why)
@@ -85,11 +91,47 @@ fn numbered(alloc: Global, start: &str, index: usize, why: &str) -> Result<Strin
     format!(in alloc; "{start}{index} {why}")
 }
 
+/// A text that ends with a place, a number and a word.
+#[tactic(auto, using(std::proofs::Common::append_assoc))]
+fn placed(
+    alloc: Global,
+    start: &str,
+    place: &str,
+    number: u32,
+    why: &str,
+) -> Result<String, AllocError>
+    ensures { IfOk result (λ s. string_bytes s
+        ≡ start.now ++ place.now ++ space ++ decimal number ++ space ++ why.now) }
+{
+    format!(in alloc; "{start}{place} {number} {why}")
+}
+
 /// A text as a compact JSON text.
 fn quoted(alloc: Global, text: &str) -> Result<String, AllocError>
     ensures { IfOk result (λ s. string_bytes s ≡ quoted_text text.now) }
 {
     Value::String(String::from_str(alloc, text)?).to_string(alloc)
+}
+
+fn model_why_name(why: ModelWhy) -> &'static str
+    ensures { result.now ≡ model_why why }
+{
+    match why {
+        ModelWhy::NotUtf8 => "NotUtf8",
+        ModelWhy::BadToken => "BadToken",
+        ModelWhy::Unbalanced => "Unbalanced",
+        ModelWhy::TooDeep => "TooDeep",
+        ModelWhy::Unsupported => "Unsupported",
+        ModelWhy::Repeated => "Repeated",
+        ModelWhy::Missing => "Missing",
+        ModelWhy::BadArgument => "BadArgument",
+        ModelWhy::Duplicate => "Duplicate",
+        ModelWhy::UnknownName => "UnknownName",
+        ModelWhy::Circle => "Circle",
+        ModelWhy::BadPattern => "BadPattern",
+        ModelWhy::BadExpr => "BadExpr",
+        ModelWhy::TooMany => "TooMany",
+    }
 }
 
 fn patch_why_name(why: PatchWhy) -> &'static str

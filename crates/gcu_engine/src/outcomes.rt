@@ -5,6 +5,7 @@ ghost use Rattle.gcu_engine.specs.Lines.{number};
 use conf_store::StoredWhy;
 use host_core::{Memory, Txt};
 use patch_core::{FailWhy, PatchWhy};
+use yang_text::ModelWhy;
 
 /// How a command ended. Its number is the program's exit status, and its last line ends the output.
 #[derive(Debug, Drop)]
@@ -27,6 +28,8 @@ pub enum Outcome {
     TooBig { path: Txt, limit: u64 },
     /// The input is no JSON text.
     BadJson { path: Txt },
+    /// The list of the files of models, or one of these files, isn't of its profile, on that line.
+    BadModels { file: Txt, line: u32, why: ModelWhy },
     /// An operation of the patch, counted from 0, is malformed.
     BadPatch { index: usize, why: PatchWhy },
     /// An operation of the patch, counted from 0, can't be applied.
@@ -52,6 +55,7 @@ impl Outcome {
             Outcome::NoInput { .. } => 7,
             Outcome::TooBig { .. } => 8,
             Outcome::BadJson { .. } => 9,
+            Outcome::BadModels { .. } => 11,
             Outcome::BadPatch { .. } => 13,
             Outcome::PatchFailed { .. } => 14,
             Outcome::TargetShape { .. } => 15,

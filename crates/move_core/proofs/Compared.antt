@@ -1,12 +1,11 @@
 -- Lists compared item by item: where all items before are tied, the next two or the lengths decide.
 use borrow.Author.Count.{below_more}
-use Rattle.std.proofs.Common.{◌≡◌, ◌≢◌, ℕ, zero, suc, ◌+◌, ◌<◌, ◌≤◌, List, [], ◌∷◌, ◌++◌, length, map, take, slice_get, add-one, Some, option_map, refl, sym, ap, ◌∙◌, arith}
+use Rattle.std.proofs.Common.{◌≡◌, ◌≢◌, ℕ, zero, suc, ◌+◌, ◌<◌, ◌≤◌, List, [], ◌∷◌, ◌++◌, length, take, slice_get, add-one, Some, refl, sym, ap, ◌∙◌, arith}
 use Rattle.std.specs.declared.cmp.Ordering.{Ordering}
 use Rattle.std.specs.declared.cmp.Ordering.TheVariants.{Less, Equal, Greater}
 use Rattle.std.specs.Cmp.{nat_cmp_is}
 use Rattle.std.specs.Cmp.Lexicographic.{slice_cmp}
 use Rattle.std.specs.Ordering.{MatchOrdering, nat_cmp, ordering_then}
-use Rattle.std.proofs.lemmas.Option.{slice_get-map}
 
 -- the items at all indexes below n are tied
 abbrev pub AreTied : {A : Type 0} → (A → A → Ordering) → List A → List A → ℕ → Type 0
@@ -61,30 +60,6 @@ module _ {A : Type 0} (R : A → A → Ordering) where
   pub more_tied : (xs ys : List A) (n : ℕ) → AreTied R xs ys n → ((x y : A) → slice_get xs n ≡ Some x → slice_get ys n ≡ Some y → R x y ≡ Equal) → AreTied R xs ys (n + 1)
   more_tied xs ys n tied here =
       below_more (λ k. (x y : A) → slice_get xs k ≡ Some x → slice_get ys k ≡ Some y → R x y ≡ Equal) n tied here
-
-  some_at : (xs : List A) (n : ℕ) → n < length xs → (x : A) × (slice_get xs n ≡ Some x)
-  some_at [] n below = absurd (omega arith)
-  some_at (x ∷ xs) zero below = (x, refl)
-  some_at (x ∷ xs) (suc n) below = some_at xs n (omega arith)
-
-  -- the same where the two items are named by what is said of them
-  pub decided_there : (xs ys : List A) (n : ℕ) (o : Ordering) → AreTied R xs ys n → n < length xs → n < length ys → ((x y : A) → slice_get xs n ≡ Some x → slice_get ys n ≡ Some y → o ≡ R x y) → o ≢ Equal → o ≡ slice_cmp R xs ys
-  decided_there xs ys n o tied left right says other =
-      let a = some_at xs n left in
-      let b = some_at ys n right in
-      decided_at xs ys n a.0 b.0 o tied a.1 b.1 (says a.0 b.0 a.1 b.1) other
-
--- the name and the part of a pair, from the lists of the names and of the parts
-module _ {A : Type 0} (ps : List (List ℕ × A)) (i : ℕ) (p : List ℕ × A) (at : slice_get ps i ≡ Some p) where
-  pub name_there : (n : List ℕ) → slice_get (map (λ q. q.0) ps) i ≡ Some n → n ≡ p.0
-  name_there n is =
-      let same : Some n ≡ Some (p.0) = sym is ∙ slice_get-map (λ q. q.0) ps i ∙ ap (option_map (λ q. q.0)) at in
-      cc
-
-  pub part_there : (a : A) → slice_get (map (λ q. q.1) ps) i ≡ Some a → a ≡ p.1
-  part_there a is =
-      let same : Some a ≡ Some (p.1) = sym is ∙ slice_get-map (λ q. q.1) ps i ∙ ap (option_map (λ q. q.1)) at in
-      cc
 
 take_at : {A : Type 0} (xs : List A) (i : ℕ) (x : A) → slice_get xs i ≡ Some x → take (suc i) xs ≡ take i xs ++ x ∷ []
 take_at [] i x is = absurd cc

@@ -1,6 +1,9 @@
 -- what public clauses cite
+pub mod Appends
+pub mod Contexts
 pub mod Extensions
 pub mod Generated
+pub mod Kinds
 pub mod Listed
 pub mod ListedOrder
 pub mod ListedOrderLaws

@@ -10,13 +10,14 @@ use Rattle.std.specs.Ordering.{nat_cmp, ordering_then}
 use Rattle.host_core.specs.Names.{name_cmp}
 use Rattle.conf_doc.specs.Order.{pair_cmp, pairs_cmp}
 use Rattle.conf_doc.specs.OrderLaws.{pairs_total}
+use Rattle.conf_doc.specs.PartOrder.{entry_cmp, part_cmp, table_cmp, value_cmp}
 use Rattle.conf_doc.specs.declared.configuration.Entry.{Entry}
 use Rattle.conf_doc.specs.declared.configuration.Table.{Table}
 use Rattle.conf_doc.specs.declared.configuration.Value.{Value}
 use Rattle.conf_doc.specs.declared.configuration.Value.TheVariants.{Text, List as Texts}
 use Rattle.conf_doc.specs.declared.parts.Part.{Part}
 use Rattle.conf_doc.specs.declared.parts.Part.TheVariants as part
-use Rattle.move_core.specs.ListedOrder.{action, entry_cmp, listed_cmp, move_cmp, part_cmp, path_cmp, rank_cmp, table_cmp, value_cmp}
+use Rattle.move_core.specs.ListedOrder.{action, listed_cmp, move_cmp, path_cmp, rank_cmp}
 use Rattle.move_core.specs.Moves.{new_part, place}
 use Rattle.move_core.specs.declared.moves.Move.{Move}
 use Rattle.move_core.specs.declared.moves.Move.TheVariants.{Add, Remove, Replace}

@@ -1,9 +1,12 @@
 //! Moves of a configuration, what each makes of it, and the rules file.
 #![tactic(auto)]
 
+mod boxes;
+mod contexts;
 mod errors;
 mod items;
 mod json_parts;
+mod kits;
 mod laws;
 mod listed_order;
 mod moves;
@@ -14,7 +17,10 @@ mod rules_file;
 mod settings;
 mod steps;
 
+pub use boxes::{MoveExt, MoveGen, MoveRule};
+pub use contexts::Ctx;
 pub use errors::{RulesError, RulesWhy};
+pub use kits::{Boxes, Kit};
 pub use laws::{listed_order_is_total, move_is_its_operation};
 pub use listed_order::cmp_listed;
 pub use moves::{Generated, Move, Moves, Plan, Ranked};

@@ -1,5 +1,5 @@
 -- The place of a name in a list that grows.
-use Rattle.std.proofs.Common.{◌≡◌, ℕ, Bool, true, false, cond, List, [], ◌∷◌, ◌++◌, length, Option, Some, None, Decides, suc, ◌<◌, map, option_map, slice_get, is_some, inl, inr, ◌⊎◌, refl, sym, ap, ◌∙◌, arith}
+use Rattle.std.proofs.Common.{◌≡◌, ℕ, Bool, true, false, cond, List, [], ◌∷◌, ◌++◌, length, Option, Some, None, suc, ◌<◌, map, option_map, slice_get, is_some, inl, inr, ◌⊎◌, refl, sym, ap, ◌∙◌, arith}
 use Rattle.std.specs.List.{find}
 use Rattle.std.specs.Str.{bytes_eq}
 use Rattle.std.specs.Global.{Global}
@@ -7,8 +7,8 @@ use Rattle.std.specs.BTreeMap.{BTreeMap, get_by_text}
 use Rattle.std.specs.Prelude.{String}
 use Rattle.std.specs.Map.{update}
 use Rattle.std.proofs.lemmas.Bool.{false≢true}
-use Rattle.std.proofs.lemmas.Bool.Decides.{same_from_decides}
 use Rattle.std.proofs.lemmas.Slice.Eq.{bytes_eq-Decides}
+use Rattle.yang_faults.proofs.Given.{bytes_eq-swap}
 use Rattle.yang_model.specs.Names.{IsIndexOf, place_of_name}
 
 abbrev or_else : {X : Type 0} → Option X → Option X → Option X
@@ -31,12 +31,6 @@ place_of_name-push q (n ∷ names) name =
 
 bytes_eq-same : (q name : List ℕ) → bytes_eq q name ≡ true → q ≡ name
 bytes_eq-same q name = (bytes_eq-Decides q name).0
-
-pub bytes_eq-swap : (x y : List ℕ) → bytes_eq x y ≡ bytes_eq y x
-bytes_eq-swap x y = same_from_decides _ _ (bytes_eq-Decides x y) (swapped x y)
-  where
-    swapped : (x y : List ℕ) → Decides (bytes_eq y x) (x ≡ y)
-    swapped x y = (λ e. sym ((bytes_eq-Decides y x).0 e), λ e. (bytes_eq-Decides y x).1 (sym e))
 
 keeps : (o : Option ℕ) (r : Option ℕ) (b : Bool) → (b ≡ true → is_some o ≡ true) → o ≡ or_else o (cond b r None)
 keeps (Some x) r b there = refl
@@ -107,11 +101,3 @@ module _ {X : Type 0} (name_of : X → List ℕ) (name : List ℕ) where
   find_no_place (y ∷ xs) is =
       let h = none_step (bytes_eq name (name_of y)) (place_of_name name (map name_of xs)) is in
       ap (λ b. cond b (Some y) (find (λ z. bytes_eq name (name_of z)) xs)) h.0 ∙ find_no_place xs h.1
-
-pub find-map : {X Y : Type 0} (g : X → Y) (test : Y → Bool) (xs : List X) → find test (map g xs) ≡ option_map g (find (λ x. test (g x)) xs)
-find-map {X = X} g test [] = refl
-find-map {X = X} g test (x ∷ xs) = ap (λ o. cond (test (g x)) (Some (g x)) o) (find-map g test xs) ∙ either (test (g x)) (find (λ y. test (g y)) xs)
-  where
-    either : (b : Bool) (o : Option X) → cond b (Some (g x)) (option_map g o) ≡ option_map g (cond b (Some x) o)
-    either true o = refl
-    either false o = refl

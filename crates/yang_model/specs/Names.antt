@@ -1,6 +1,5 @@
 -- Names in a list, and where they stand.
-use Rattle.std.specs.Prelude.{◌≡◌, ℕ, suc, List, [], ◌∷◌, Option, Some, None, option_map, map, String, if◌then◌else◌}
-use denote.Ref.{Bor}
+use Rattle.std.specs.Prelude.{◌≡◌, ℕ, suc, List, [], ◌∷◌, Option, Some, None, option_map, String, if◌then◌else◌}
 use Rattle.std.specs.Global.{Global}
 use Rattle.std.specs.Str.{bytes_eq}
 use Rattle.std.specs.BTreeMap.{BTreeMap, get_by_text}
@@ -15,7 +14,3 @@ place_of_name name (n ∷ names) =
 -- a map holds the place of the first of each name
 pub record IsIndexOf (places : BTreeMap (String Global) ℕ) (names : List (List ℕ)) : Type 0 where
   pub found : (name : List ℕ) → get_by_text places name ≡ place_of_name name names
-
--- the texts that references point to
-abbrev pub texts : List (Bor (List ℕ)) → List (List ℕ)
-texts names = map (λ name. name.now) names

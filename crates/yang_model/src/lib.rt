@@ -3,22 +3,10 @@
 #![tactic(auto)]
 
 mod belonging;
-mod duplicates;
-mod fields;
-mod files;
-mod forms;
-mod keys;
-mod kinds;
 mod laws;
 mod models;
 mod name_index;
-mod name_sets;
-mod own;
-mod rows;
-mod scopes;
-mod sentences;
 mod shapes;
-mod walks;
 
 pub use laws::belongs_once;
 pub use models::Models;

@@ -2,7 +2,8 @@ use Rattle.std.proofs.Common.{ap, ◌∙◌, sym, option_map}
 use Rattle.std.specs.Str.{bytes_eq}
 use Rattle.yang_model.specs.ModelSets.{table_named}
 use Rattle.yang_model.specs.TableModels.{table_model}
-use Rattle.yang_model.proofs.Places.{place_within, find_at_place, find_no_place, find-map}
+use Rattle.yang_scope.proofs.Blocks.{find-map}
+use Rattle.yang_model.proofs.Places.{place_within, find_at_place, find_no_place}
 use Rattle.yang_model.proofs.models.Models.table.Goals as goal
 
 pub at-requires : goal.at-requires

@@ -1,0 +1,7 @@
+pub mod Choices
+pub mod Entries
+pub mod FaultLists
+pub mod FileSteps
+pub mod Given
+pub mod ModuleSteps
+pub mod Steps

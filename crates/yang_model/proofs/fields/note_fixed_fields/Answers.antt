@@ -1,5 +1,0 @@
-use Rattle.std.proofs.Common.{[]}
-use Rattle.yang_model.proofs.fields.note_fixed_fields.Goals as goal
-
-pub returns : goal.returns
-returns c = c.note_fields.ensures [] c.new.ensures

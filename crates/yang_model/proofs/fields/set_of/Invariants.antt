@@ -1,7 +1,0 @@
-use Rattle.std.proofs.Common.{take}
-use Rattle.yang_model.specs.Names.{texts}
-use Rattle.yang_model.specs.NameSets.{IsSetOf}
-use Rattle.yang_model.proofs.fields.set_of.Given as goal
-
-abbrev pub invariant-loop-name : goal.invariant-loop-name
-invariant-loop-name l = IsSetOf l.set.names (texts (take l.name-index l.names))

@@ -1,7 +1,0 @@
-use Rattle.std.proofs.Common.{map, take}
-use Rattle.yang_model.specs.Files.{in_files, tables_given}
-use Rattle.yang_model.specs.NameSets.{NotesGiven}
-use Rattle.yang_model.proofs.files.note_tables_twice.Given as goal
-
-abbrev pub invariant-loop-i : goal.invariant-loop-i
-invariant-loop-i l = NotesGiven l.initial.least l.least l.initial.set l.set (in_files tables_given 0 (map (λ f. f.1) (take l.i l.files)))
