@@ -1,6 +1,9 @@
 -- Which shapes the entries of a whole configuration belong to.
 use Rattle.std.specs.Prelude.{◌≡◌, ℕ, List, [], ◌∷◌, Option, option_and_then, slice_get, refl}
 use Rattle.std.specs.List.{AllZip}
+use Rattle.std.specs.Coded.{Coded-set, coded_list, coded_option, coded_ℕ}
+use Rattle.std.proofs.Math.Logic.{∥∥₁_elim, ∥∥₁_prop}
+use Rattle.std.proofs.Math.Path.{Σ_path, to_path_p}
 use Rattle.conf_doc.specs.declared.configuration.Config.{Config}
 use Rattle.conf_doc.specs.declared.configuration.Table.{Table}
 use Rattle.yang_model.specs.Belongs.{Belongs, Belongs-once}
@@ -50,3 +53,20 @@ AreBelongings-once models (t ∷ config) (x ∷ a) (y ∷ b) p q =
     let here = answers_once models t.0 t.1 x y p.0 q.0 in
     let more = AreBelongings-once models config a b p.1 q.1 in
     λ i. here i ∷ more i
+
+-- of two lists of them there is one way to be equal
+pub Belongings-set : (a b : Belongings) → IsProp (a ≡ b)
+Belongings-set a b = Coded-set (coded_list (coded_list (coded_option coded_ℕ))) a b
+
+-- those of a configuration, and that they are that
+abbrev pub Known : ModelSet → Config → Type 0
+Known models config = (b : Belongings) × ∥ AreBelongings models config b ∥₁
+
+-- what is known is one
+pub Known-once : (models : ModelSet) (config : Config) → IsProp (Known models config)
+Known-once models config u v =
+    let same : u.0 ≡ v.0 =
+    ∥∥₁_elim u.1 (Belongings-set u.0 v.0)
+    (λ a. ∥∥₁_elim v.1 (Belongings-set u.0 v.0)
+    (λ b. AreBelongings-once models config u.0 v.0 a b)) in
+    Σ_path same (to_path_p (λ i. ∥ AreBelongings models config (same i) ∥₁) (∥∥₁_prop _ _))

@@ -110,6 +110,16 @@ held_nodes t k l absent = []
 held_nodes t k l (one s) = leaf_node t k l ∷ []
 held_nodes t k l (items ts) = map (item_node t k l) (counted_from 0 (length ts))
 
+-- the text of what is held, or of an item of it
+abbrev pub held_text : ℕ → Held → List ℕ
+held_text i absent = []
+held_text i (one s) = s
+held_text i (items ts) = slice_index_or ts i []
+
+-- whether an entry's shape has the name
+abbrev pub is_shape_named : List ℕ → Option (Row × Shape) → Bool
+is_shape_named name row = option_map_or (λ r. bytes_eq name r.1.name) row false
+
 module _ (models : ModelSet) (config : Config) (belongings : Belongings) where
   -- an entry that belongs to a shape, with the shape
   abbrev pub shaped_row : ℕ → ℕ → Option (Row × Shape)
@@ -129,10 +139,6 @@ module _ (models : ModelSet) (config : Config) (belongings : Belongings) where
       if option_map_or (λ o. o == m) (owner_of name models) false
       then option_to_list (option_map table_node (place_of_name name (map (λ t. t.0) config)))
       else []
-
-  -- whether an entry's shape has the name
-  abbrev pub is_shape_named : List ℕ → Option (Row × Shape) → Bool
-  is_shape_named name row = option_map_or (λ r. bytes_eq name r.1.name) row false
 
   -- the entries of a table whose shape has the name, among so many from a place on
   abbrev pub entries_from : ℕ → List ℕ → ℕ → ℕ → List Node
@@ -173,11 +179,6 @@ module _ (models : ModelSet) (config : Config) (belongings : Belongings) where
       else if n.level == table_level then module_of_table n.table
       else if n.level == entry_level then Some (table_node n.table)
       else Some (entry_node n.table n.key)
-
-  abbrev pub held_text : ℕ → Held → List ℕ
-  held_text i absent = []
-  held_text i (one s) = s
-  held_text i (items ts) = slice_index_or ts i []
 
   abbrev pub text_of : Node → List ℕ
   text_of n =

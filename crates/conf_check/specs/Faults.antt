@@ -7,9 +7,10 @@ use Rattle.yang_model.specs.ModelSets.{ModelSet}
 use Rattle.yang_model.specs.declared.shapes.Shape.{Shape}
 use Rattle.yang_types.specs.DataType.{DataType}
 use Rattle.conf_check.specs.Rows.{typed_part, texts_by_kind}
-use Rattle.conf_check.specs.Validity.{IsRefused, IsUnknownField, IsOfWrongKind, HasBadItem, HasEqualItems, AreSomeEqual, IsMissing, IsRuleBefore, rule_number}
+use Rattle.conf_check.specs.Validity.{IsRefused, IsUnknownField, IsOfWrongKind, HasBadItem, HasEqualItems, AreSomeEqual, IsMissing, IsFalse, IsRuleBefore, IsBreachBefore, IsBreach, Breach, violation_of, rule_number}
 use Rattle.conf_check.specs.declared.violations.Rule.{Rule}
 use Rattle.conf_check.specs.declared.violations.Rule.TheVariants.{KeyShape, KeyReference, UnknownField, WrongKind, BadValue, DuplicateItem, MissingField, Must}
+use Rattle.conf_check.specs.declared.violations.Violation.{Violation}
 use Rattle.conf_check.specs.declared.faults.Fault.{Fault}
 
 -- the answer is the first number of which P holds, or None where it holds of none
@@ -82,3 +83,25 @@ TextsBreak models config type texts Must = ⊥
 abbrev pub FieldsBreak : ModelSet → Config → Shape → Entry → Rule → ℕ → Type 0
 FieldsBreak models config shape fields rule n =
     IsSomeAnd (slice_get fields n) (λ f. FieldBreaks models config shape f rule)
+
+-- a must that is false, by its number
+abbrev pub IsFalseMust : ModelSet → Config → ℕ → ℕ → Shape → ℕ → Type 0
+IsFalseMust models config table key shape i =
+    IsSomeAnd (slice_get shape.musts i) (IsFalse models config table key)
+
+-- the first breach in a table, as a violation
+pub record IsFirstInTable (models : ModelSet) (config : Config) (table : ℕ)
+    (v : Violation) : Type 0 where
+  pub breach : Breach
+  pub is : v ≡ violation_of breach
+  pub here : breach.table ≡ table
+  pub broken : IsBreach models config breach
+  pub first :
+      (a : Breach) → a.table ≡ table → IsBreachBefore a breach → ¬ IsBreach models config a
+
+-- the answer is the first violation in a table, or None where there is none
+abbrev pub IsFirstOfTable : ModelSet → Config → ℕ → Option Violation → Type 0
+IsFirstOfTable models config table answer =
+    MatchOption answer
+    ((b : Breach) → b.table ≡ table → ¬ IsBreach models config b)
+    (IsFirstInTable models config table)

@@ -3,6 +3,7 @@ pub mod Belongings
 pub mod ConfigTree
 pub mod Faults
 pub mod FirstWants
+pub mod NodeTrees
 pub mod Rows
 pub mod Validity
 pub mod Verdicts

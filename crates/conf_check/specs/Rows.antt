@@ -1,5 +1,5 @@
 -- The entries of tables that have models: their shapes, and the texts that they hold.
-use Rattle.std.specs.Prelude.{◌≡◌, ℕ, Bool, true, false, List, [], ◌∷◌, Option, Some, None, option_map, option_and_then, slice_get, is_some, if◌then◌else◌}
+use Rattle.std.specs.Prelude.{◌≡◌, ℕ, Bool, true, false, List, [], ◌∷◌, Option, Some, None, option_map, option_and_then, slice_get, is_some, IsSomeAnd, if◌then◌else◌}
 use Rattle.std.specs.List.{find, list_any}
 use Rattle.std.specs.Str.{bytes_eq}
 use Rattle.conf_doc.specs.declared.configuration.Config.{Config}
@@ -35,6 +35,11 @@ row_at models config table key =
     option_and_then
     (λ t. option_map (λ e. record { table = t.0; key = e.0; fields = e.1 }) (slice_get t.1 key))
     (option_and_then (if_modelled models) (slice_get config table))
+
+-- the table at a place has a model
+abbrev pub IsModelledAt : ModelSet → Config → ℕ → Type 0
+IsModelledAt models config table =
+    IsSomeAnd (slice_get config table) (λ p. is_some (table_named p.0 models) ≡ true)
 
 -- the entry belongs to no shape of its table
 abbrev pub HasNoShape : ModelSet → Row → Type 0

@@ -2,11 +2,22 @@
 #![tactic(auto)]
 
 mod acceptance;
+mod belongings;
+mod checking;
+mod children;
+mod config_nodes;
 mod faults;
+mod leaves;
+mod musts;
+mod name_places;
+mod node_numbers;
 mod rows;
+mod tree_nodes;
 mod violations;
 mod want_iter;
 
 pub use acceptance::is_satisfied;
+pub use belongings::belongings_are_one;
+pub use checking::check;
 pub use violations::{Rule, Violation};
 pub use want_iter::{Want, WantIter, WantPlace, wants};

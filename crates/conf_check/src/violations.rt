@@ -1,4 +1,5 @@
 //! What may be wrong with a configuration.
+ghost use Rattle.std.specs.Prelude.{◌≡◌};
 
 /// A rule of validity. Its number is its place in the list of rules, from 1.
 #[derive(Clone, Copy, Debug, Drop, Eq, PartialEq)]
@@ -23,4 +24,24 @@ pub struct Violation {
     pub field: usize,
     /// The number of the rule.
     pub rule: u32,
+}
+
+impl Rule {
+    ghost use Rattle.conf_check.specs.Validity.{rule_number};
+
+    /// The number of the rule.
+    pub(crate) fn number(self) -> u32
+        ensures { result ≡ rule_number self }
+    {
+        match self {
+            Rule::KeyShape => 1,
+            Rule::KeyReference => 2,
+            Rule::UnknownField => 3,
+            Rule::WrongKind => 4,
+            Rule::BadValue => 5,
+            Rule::DuplicateItem => 6,
+            Rule::MissingField => 7,
+            Rule::Must => 8,
+        }
+    }
 }

@@ -1,13 +1,9 @@
 -- How time goes on through one call of a host after another, and what a crash leaves meanwhile.
-use Rattle.std.proofs.Common.{◌≡◌, inl, inr, ⊎_elim, ℕ, List, [], Option, Some, None, Result, Ok, Err, sym, ◌∙◌, subst, append-nil, arith}
+use Rattle.std.proofs.Common.{◌≡◌, inl, inr, ⊎_elim, ℕ, List, [], Option, Some, None, sym, ◌∙◌, subst, append-nil, arith}
 use Rattle.host_core.specs.Crashes.{Elapses, LeavesOnly, Left, MayLeaveInPrint, MayLeaveNow}
 use Rattle.host_core.specs.State.{State}
 use Rattle.host_core.proofs.Runs.{begins, goes_on}
-use Rattle.gcu_engine.specs.Answers.{LeftIn, LeftMeanwhile, LeftWithOutput}
-use Rattle.gcu_engine.specs.Asked.{asked}
-use Rattle.gcu_engine.specs.Request as request
-use Rattle.gcu_engine.specs.Request.{Request}
-use Rattle.gcu_engine.specs.declared.outcomes.Outcome.{Outcome}
+use Rattle.gcu_engine.specs.Answers.{LeftMeanwhile, LeftWithOutput}
 
 -- with no output yet
 now_with_output : (before : Option State) (left : Left) → MayLeaveNow before left → LeftWithOutput before left
@@ -15,14 +11,10 @@ now_with_output None left h = ([], tt)
 now_with_output (Some s) left h =
     ([], record { files = h.files; output = h.output ∙ sym (append-nil s.output); restarts = h.restarts })
 
-left_in : (gives : Result Request Outcome) (s : State) (left : Left) → LeftWithOutput (Some s) left → LeftIn gives s left
-left_in (Ok (request.preview c)) s left h = h
-left_in (Err e) s left h = h
-
 -- no command leaves more today
 left_meanwhile : (words : List (List ℕ)) (before : Option State) (left : Left) → LeftWithOutput before left → LeftMeanwhile words before left
 left_meanwhile words None left h = tt
-left_meanwhile words (Some s) left h = left_in (asked words s).gives s left h
+left_meanwhile words (Some s) left h = h
 
 module _ {H : Type 0} (moment : H → ℕ) (left_since : H → ℕ → Left → Type 0) where
   -- what may be left of these may be left of those

@@ -1,6 +1,5 @@
 -- How what the parts of a command find makes what the command finds.
-use Rattle.std.proofs.Common.{◌≡◌, ℕ, false, List, ◌++◌, refl, sym, ap, ◌∙◌, subst, arith, Option, Some, None, Result, Ok, Err, IfErr, IfSome, is_ok}
-use Rattle.std.proofs.lemmas.List.Elements.{Contains-append_left, Contains-append_right}
+use Rattle.std.proofs.Common.{◌≡◌, inl, inr, ℕ, false, List, refl, sym, ap, ◌∙◌, subst, Option, Some, None, Result, Ok, Err, IfErr, IfSome, is_ok}
 use Rattle.host_core.specs.Answers.{FailsAs, Gives, map_ok}
 use Rattle.host_core.specs.Inputs.{input_of}
 use Rattle.host_core.specs.Counts.{Counts}
@@ -20,76 +19,66 @@ use Rattle.conf_store.specs.Loads.{LoadsTree}
 use Rattle.conf_store.specs.declared.errors.LoadError.TheVariants.{Bad}
 use Rattle.conf_store.specs.declared.errors.StoredWhy.{StoredWhy}
 use Rattle.gcu_engine.specs.Asked.{patch_asked, patch_in, patch_limit, stored_asked, stored_answer, target, target_shape}
-use Rattle.gcu_engine.specs.Asking.{Asking, Source, ◌>>>◌}
-use Rattle.gcu_engine.specs.Preparing.{Finds, Found, Refuses, RefusesAlways, StandsIn, refusal}
+use Rattle.gcu_engine.specs.Asking.{Asking, follows, ◌>>>◌}
+use Rattle.gcu_engine.specs.Preparing.{FailsIn, Finds, Found, IsGiven, Refuses, RefusesAlways, StandsIn, refusal}
 use Rattle.gcu_engine.specs.Request as request
 use Rattle.gcu_engine.specs.Trees.{document_in, document_shape, preview_document, stored_document, target_document, through}
 use Rattle.gcu_engine.specs.declared.outcomes.Outcome.{Outcome}
 use Rattle.gcu_engine.specs.declared.outcomes.Outcome.TheVariants.{BadStored, Done, Memory, Usage, InputFault, DiskFault, PrintFault, TargetShape}
 
--- ---- faults among calls
-
-stands_left : (calls more : List Source) (e : Outcome) → StandsIn calls e → StandsIn (calls ++ more) e
-stands_left calls more InputFault h = Contains-append_left calls more _ h
-stands_left calls more (DiskFault step) h = Contains-append_left calls more _ h
-stands_left calls more other h = tt
-
-stands_right : (calls more : List Source) (e : Outcome) → StandsIn more e → StandsIn (calls ++ more) e
-stands_right calls more InputFault h = Contains-append_right calls more _ h
-stands_right calls more (DiskFault step) h = Contains-append_right calls more _ h
-stands_right calls more other h = tt
-
-stands_behind : {X : Type 0} (calls more : List Source) (r : Result X Outcome) → IfErr r (StandsIn more) → IfErr r (StandsIn (calls ++ more))
-stands_behind calls more (Ok x) h = tt
-stands_behind calls more (Err e) h = stands_right calls more e h
-
--- ---- refusals
-
--- an error that isn't told says nothing of what comes after it
-fails_past : (X Y : Type 0) (o : Option Outcome) (x : X) (y : Result Y Outcome) → FailsAs {Y = X} o (Ok x) → FailsAs o y
-fails_past X Y None x y h = tt
-fails_past X Y (Some f) x y h = absurd (cc)
-
-fails_over : (X Y : Type 0) (o : Option Outcome) (e : Outcome) → FailsAs {Y = X} o (Err e) → FailsAs {Y = Y} o (Err e)
-fails_over X Y None e h = tt
-fails_over X Y (Some f) e h = cc
-
 -- ---- what is asked one after the other
 
-refused_first : {X Y Z W : Type 0} (view : X → Y) (view' : Z → W) (e : Outcome) (calls : List Source) (gives : Result Y Outcome) (next : Y → Asking W)
-    → FailsAs (refusal e) gives → StandsIn calls e → Found view' (Err e) (record { calls = calls; gives = gives } >>> next)
-refused_first {Y = Y} {W = W} view view' e calls (Ok y) next f s = record {
-  gives = fails_past Y W (refusal e) y (next y).gives f;
-  stands = stands_left calls (next y).calls e s;
-}
-refused_first {Y = Y} {W = W} view view' e calls (Err e') next f s = record { gives = fails_over Y W (refusal e) e' f; stands = s }
+stands_first : {X Y : Type 0} (first : Asking X) (next : X → Asking Y) (e : Outcome) → StandsIn first e → StandsIn (first >>> next) e
+stands_first first next InputFault h = inl h
+stands_first first next (DiskFault step) h = inl h
+stands_first first next other h = tt
+
+stands_next : {X Y : Type 0} (first : Asking X) (next : X → Asking Y) (x : X) (e : Outcome) → first.Gives (Ok x)
+    → StandsIn (next x) e → StandsIn (first >>> next) e
+stands_next first next x InputFault is h = inr (x, is, h)
+stands_next first next x (DiskFault step) is h = inr (x, is, h)
+stands_next first next x other is h = tt
+
+fails_first : {X Y : Type 0} (first : Asking X) (next : X → Asking Y) (o : Option Outcome) → FailsIn o first → FailsIn o (first >>> next)
+fails_first first next None h = tt
+fails_first first next (Some e) h = inl h
+
+fails_next : {X Y : Type 0} (first : Asking X) (next : X → Asking Y) (x : X) (o : Option Outcome) → first.Gives (Ok x)
+    → FailsIn o (next x) → FailsIn o (first >>> next)
+fails_next first next x None is h = tt
+fails_next first next x (Some e) is h = inr (x, is, h)
 
 -- a refusal of the first question is one of both
 pub first_refused : {X Y Z W : Type 0} (view : X → Y) (view' : Z → W) (e : Outcome) (first : Asking Y) (next : Y → Asking W)
     → Found view (Err e) first → Found view' (Err e) (first >>> next)
-first_refused view view' e first next h = refused_first view view' e first.calls first.gives next h.gives h.stands
+first_refused view view' e first next h = record {
+  gives = fails_first first next (refusal e) h.gives;
+  stands = stands_first first next e h.stands;
+}
 
-found_next : {Y Z W : Type 0} (view' : Z → W) (y : Y) (r : Result Z Outcome) (calls : List Source) (gives : Result Y Outcome) (next : Y → Asking W)
-    → gives ≡ Ok y → Found view' r (next y) → Found view' r (record { calls = calls; gives = gives } >>> next)
-found_next view' y r calls gives next is h =
-    subst (λ g. Found view' r (record { calls = calls; gives = g } >>> next)) (sym is)
-    (record { gives = h.gives; stands = stands_behind calls (next y).calls r h.stands })
+found_next : {Y Z W : Type 0} (view' : Z → W) (y : Y) (r : Result Z Outcome) (first : Asking Y) (next : Y → Asking W)
+    → first.Gives (Ok y) → Found view' r (next y) → Found view' r (first >>> next)
+found_next view' y (Ok z) first next is h = record { gives = inr (y, is, h.gives); stands = tt }
+found_next view' y (Err e) first next is h = record {
+  gives = fails_next first next y (refusal e) is h.gives;
+  stands = stands_next first next y e is h.stands;
+}
 
 -- what the second question finds at what the first one found
 pub then_found : {X Y Z W : Type 0} (view : X → Y) (view' : Z → W) (x : X) (r : Result Z Outcome) (first : Asking Y) (next : Y → Asking W)
     → Found view (Ok x) first → Found view' r (next (view x)) → Found view' r (first >>> next)
-then_found view view' x r first next h h' = found_next view' (view x) r first.calls first.gives next h.gives h'
+then_found view view' x r first next h h' = found_next view' (view x) r first next h.gives h'
 
 -- ---- one question
 
-stands_anywhere : (e : Outcome) (calls : List Source) → RefusesAlways e → StandsIn calls e
-stands_anywhere InputFault calls never = absurd never
-stands_anywhere (DiskFault step) calls never = absurd never
-stands_anywhere other calls h = tt
+stands_anywhere : {Y : Type 0} (e : Outcome) (asking : Asking Y) → RefusesAlways e → StandsIn asking e
+stands_anywhere InputFault asking never = absurd never
+stands_anywhere (DiskFault step) asking never = absurd never
+stands_anywhere other asking h = tt
 
-always_stands : {X : Type 0} (r : Result X Outcome) (calls : List Source) → IfErr r RefusesAlways → IfErr r (StandsIn calls)
-always_stands (Ok x) calls h = tt
-always_stands (Err e) calls h = stands_anywhere e calls h
+always_stands : {X Y : Type 0} (r : Result X Outcome) (asking : Asking Y) → IfErr r RefusesAlways → IfErr r (StandsIn asking)
+always_stands (Ok x) asking h = tt
+always_stands (Err e) asking h = stands_anywhere e asking h
 
 refused_here : (e : Outcome) (old new : Counts) → RefusesAlways e → Refuses old new e
 refused_here Done old new never = absurd never
@@ -104,10 +93,23 @@ pub always_refuses : {X : Type 0} (r : Result X Outcome) (old new : Counts) → 
 always_refuses (Ok x) old new h = tt
 always_refuses (Err e) old new h = refused_here e old new h
 
+fails_as : {Y : Type 0} (o : Option Outcome) (answer : Result Y Outcome) (asking : Asking Y) → ((q : Result Y Outcome) → answer ≡ q → asking.Gives q)
+    → FailsAs o answer → FailsIn o asking
+fails_as None answer asking right h = tt
+fails_as (Some e) answer asking right h = right (Err e) h
+
+given_as : {X Y : Type 0} (view : X → Y) (r : Result X Outcome) (answer : Result Y Outcome) (asking : Asking Y)
+    → ((q : Result Y Outcome) → answer ≡ q → asking.Gives q) → Gives view refusal r answer → IsGiven view r asking
+given_as view (Ok x) answer asking right h = right (Ok (view x)) h
+given_as view (Err e) answer asking right h = fails_as (refusal e) answer asking right h
+
 -- no fault is found with no call
-pub found_always : {X Y : Type 0} (view : X → Y) (r : Result X Outcome) (asking : Asking Y)
-    → Gives view refusal r asking.gives → IfErr r RefusesAlways → Found view r asking
-found_always view r asking gives h = record { gives = gives; stands = always_stands r asking.calls h }
+pub found_always : {X Y : Type 0} (view : X → Y) (r : Result X Outcome) (answer : Result Y Outcome) (asking : Asking Y)
+    → ((q : Result Y Outcome) → answer ≡ q → asking.Gives q) → Gives view refusal r answer → IfErr r RefusesAlways → Found view r asking
+found_always view r answer asking right gives h = record {
+  gives = given_as view r answer asking right gives;
+  stands = always_stands r asking h;
+}
 
 -- ---- the stored configuration
 
@@ -115,7 +117,11 @@ found_always view r asking gives h = record { gives = gives; stands = always_sta
 pub found_stored : (o : Option State) (t : Tree) → IfSome o (λ s. LoadsTree s.files (Ok t)) → Finds o document (Ok t) stored_document
 found_stored None t loads = tt
 found_stored (Some s) t loads = record {
-  gives = ap (λ r. map_ok tree (stored_answer r)) loads.stands ∙ ap (λ (d : Document). Ok d) (sym loads.same);
+  gives = (
+    _,
+    refl,
+    ap (λ r. map_ok tree (stored_answer r)) loads.stands ∙ ap (λ (d : Document). Ok d) (sym loads.same),
+  );
   stands = tt;
 }
 
@@ -123,12 +129,12 @@ found_stored (Some s) t loads = record {
 pub found_bad : (o : Option State) (why : StoredWhy) → IfSome o (λ s. LoadsTree s.files (Err (Bad why)))
     → Finds {X = Tree} o document (Err (BadStored why)) stored_document
 found_bad None why loads = tt
-found_bad (Some s) why loads = record { gives = ap (λ r. map_ok tree (stored_answer r)) loads; stands = tt }
+found_bad (Some s) why loads = record { gives = (_, refl, ap (λ r. map_ok tree (stored_answer r)) loads); stands = tt }
 
 -- a disk fault stands where the stored file is read
 pub disk_fault_found : (o : Option State) (step : ℕ) → Finds {X = Tree} o document (Err (DiskFault step)) stored_document
 disk_fault_found None step = tt
-disk_fault_found (Some s) step = record { gives = tt; stands = (0, omega arith, refl) }
+disk_fault_found (Some s) step = record { gives = tt; stands = refl }
 
 -- want of memory says nothing
 pub memory_found : {X Y : Type 0} (view : X → Y) (o : Option State) (asking : State → Asking Y) → Finds o view (Err Memory) asking
@@ -143,47 +149,62 @@ pub found_input : (o : Option State) (path given : List ℕ) (found : Input) (r 
     → Finds o operations r (patch_asked path)
 found_input None path given found r same is gives h = tt
 found_input (Some s) path given found r same is gives h =
-    found_always operations r (patch_asked path s) (subst (λ p. Gives operations refusal r (patch_in path (input_of s p patch_limit))) same
+    found_always operations r (patch_in path (input_of s path patch_limit)) (patch_asked path s) (λ q is. is) (subst (λ p. Gives operations refusal r (patch_in path (input_of s p patch_limit))) same
     (subst (λ i. Gives operations refusal r (patch_in path i)) is gives)) h
 
 -- an input fault stands where the patch is read
 pub input_fault_found : (o : Option State) (path : List ℕ) → Finds o operations (Err InputFault) (patch_asked path)
 input_fault_found None path = tt
-input_fault_found (Some s) path = record { gives = tt; stands = (0, omega arith, refl) }
+input_fault_found (Some s) path = record { gives = tt; stands = refl }
 
 -- ---- from tree to tree
 
-go_through : {X Y Z : Type 0} (f : Y → Z) (calls : List Source) (gives : Result X Outcome) (next : X → Asking Y)
-    → through f (record { calls = calls; gives = gives } >>> next) ≡ (record { calls = calls; gives = gives } >>> λ x. through f (next x))
-go_through f calls (Ok x) next = refl
-go_through f calls (Err e) next = refl
+fails_through : {X Y Z : Type 0} (f : Y → Z) (o : Option Outcome) (first : Asking X) (next : X → Asking Y)
+    → FailsIn o (first >>> λ x. through f (next x)) → FailsIn o (through f (first >>> next))
+fails_through f None first next h = tt
+fails_through f (Some e) first next (inl h) = (Err e, inl h, refl)
+fails_through f (Some e) first next (inr (x, is, h)) = (h.0, inr (x, is, h.1), h.2)
 
--- what f makes of the second answer
-through_next : {X Y Z : Type 0} (f : Y → Z) (first : Asking X) (next : X → Asking Y)
-    → through f (first >>> next) ≡ (first >>> λ x. through f (next x))
-through_next f first next = go_through f first.calls first.gives next
+stands_through : {X Y Z : Type 0} (f : Y → Z) (e : Outcome) (first : Asking X) (next : X → Asking Y)
+    → StandsIn (first >>> λ x. through f (next x)) e → StandsIn (through f (first >>> next)) e
+stands_through f InputFault first next h = h
+stands_through f (DiskFault step) first next h = h
+stands_through f other first next h = tt
 
--- what is found of both is found of the first answer and then of the second
+-- what is found of the first answer and then of what f makes of the second is found of both
 found_through : {X Y Z W : Type 0} (f : Y → Z) (view : W → Z) (r : Result W Outcome) (first : Asking X) (next : X → Asking Y)
     → Found view r (first >>> λ x. through f (next x)) → Found view r (through f (first >>> next))
-found_through f view r first next h = subst (Found view r) (sym (through_next f first next)) h
+found_through f view (Ok w) first next h = by h.gives
+  where
+    by : IsGiven view (Ok w) (first >>> λ x. through f (next x)) → Found view (Ok w) (through f (first >>> next))
+    by (inl never) = absurd never
+    by (inr (x, is, g)) = record { gives = (g.0, inr (x, is, g.1), g.2); stands = tt }
+found_through f view (Err e) first next h = record {
+  gives = fails_through f (refusal e) first next h.gives;
+  stands = stands_through f e first next h.stands;
+}
 
 -- a document that was found is that of a configuration that is given
-tree_given : (gives : Result Config Outcome) (d : Document) → map_ok tree gives ≡ Ok d → (c : Config) × (gives ≡ Ok c) × (tree c ≡ d)
-tree_given (Ok c) d is = let same : tree c ≡ d = cc in (c, refl, same)
-tree_given (Err e) d is = absurd cc
+tree_given : (asking : Asking Config) (d : Document) → (through tree asking).Gives (Ok d) → (c : Config) × asking.Gives (Ok c) × (tree c ≡ d)
+tree_given asking d (Ok c, h, is) = let same : tree c ≡ d = cc in (c, h, same)
+tree_given asking d (Err e, h, is) = absurd cc
 
 -- what f makes of the value doesn't tell of a refusal
-pub fails_before : {X Y : Type 0} (f : X → Y) (o : Option Outcome) (gives : Result X Outcome) → FailsAs o (map_ok f gives) → FailsAs o gives
-fails_before f None gives h = tt
-fails_before f (Some e) (Ok x) h = absurd cc
-fails_before f (Some e) (Err x) h = cc
+pub fails_before : {X Y : Type 0} (f : X → Y) (o : Option Outcome) (asking : Asking X) → FailsIn o (through f asking) → FailsIn o asking
+fails_before f None asking h = tt
+fails_before f (Some e) asking (Ok x, h, is) = absurd cc
+fails_before {X = X} f (Some e) asking (Err x, h, is) = let same : x ≡ e = cc in subst (λ y. asking.Gives (Err y)) same h
 
 printed_as : (answer : Result Config Outcome) → map_ok document_in (map_ok request.preview answer) ≡ map_ok tree answer
 printed_as (Ok c) = refl
 printed_as (Err e) = refl
 
 -- ---- the preview
+
+stored_stands : (s : State) (e : Outcome) → StandsIn (stored_document s) e → StandsIn (stored_asked s) e
+stored_stands s InputFault h = h
+stored_stands s (DiskFault step) h = h
+stored_stands s other h = tt
 
 -- nothing is found where the folder stands for no configuration
 pub no_stored : (o : Option State) (path : List ℕ) (e : Outcome)
@@ -192,14 +213,14 @@ no_stored None path e h = tt
 no_stored (Some s) path e h =
     found_through document_in document (Err e) (stored_asked s) _
     (first_refused (λ c. c) document e (stored_asked s) _
-    (record { gives = fails_before tree (refusal e) (stored_asked s).gives h.gives; stands = h.stands }))
+    (record { gives = fails_before tree (refusal e) (stored_asked s) h.gives; stands = stored_stands s e h.stands }))
 
 -- what is found at the stored configuration
 behind_stored : {W : Type 0} (s : State) (start : Tree) (view : W → Document) (r : Result W Outcome) (next : Config → Asking request.Request)
     → Found document (Ok start) (stored_document s) → ((c : Config) → tree c ≡ document start → Found view r (through document_in (next c)))
     → Found view r (through document_in (stored_asked s >>> next))
 behind_stored s start view r next h then =
-    let given = tree_given (stored_asked s).gives (document start) h.gives in
+    let given = tree_given (stored_asked s) (document start) h.gives in
     found_through document_in view r (stored_asked s) next
     (then_found (λ c. c) view given.0 r (stored_asked s) _ (record { gives = given.1; stands = tt }) (then given.0 given.2))
 
@@ -223,7 +244,7 @@ target_found (Some s) path start patch r h f gives always =
     behind_stored s start document r _ h (λ c same.
     found_through document_in document r (patch_asked path s) _
     (then_found operations document patch r (patch_asked path s) _ f
-    (found_always document r _
+    (found_always document r _ (through document_in (follows (map_ok request.preview (target (operations patch) c)))) (λ q is. (_, refl, is))
     (subst (Gives document refusal r) (ap (λ d. target_document (operations patch) d) (sym same) ∙ sym (printed_as (target (operations patch) c))) gives) always)))
 
 -- ---- shapes

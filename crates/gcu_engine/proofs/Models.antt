@@ -1,5 +1,5 @@
 -- How the list of the files of models, the files and their texts are found one after the other.
-use Rattle.std.proofs.Common.{ℕ, List, [], ◌∷◌, ◌++◌, Option, Some, None, Result, Ok, Err, IfErr, ◌≡◌, subst, sym, ap, refl}
+use Rattle.std.proofs.Common.{ℕ, List, [], ◌∷◌, ◌++◌, Option, Some, None, Result, Ok, Err, IfErr, ◌≡◌, subst}
 use Rattle.host_core.specs.Answers.{Gives}
 use Rattle.host_core.specs.State.{State}
 use Rattle.model_list.specs.Lists.{paths_of}
@@ -29,7 +29,7 @@ list_read None path bytes r is h gives always = tt
 list_read (Some s) path bytes r is h gives always =
     then_found self self bytes r (bytes_asked list_path list_limit s) _
     (subst (λ p. Finds (Some s) self (Ok bytes) (bytes_asked p list_limit)) is h)
-    (found_always self r _ (subst (λ p. Gives self refusal r (text_answer p (paths_of bytes))) is gives) always)
+    (found_always self r (text_answer list_path (paths_of bytes)) _ (λ q same. same) (subst (λ p. Gives self refusal r (text_answer p (paths_of bytes))) is gives) always)
 
 -- one file, and those at the other paths
 pub file_read : (o : Option State) (found : List File) (path bytes : List ℕ) (paths : List (List ℕ)) (r : Result (List File) Outcome)
@@ -65,4 +65,4 @@ pub texts_read : (o : Option State) (paths : List (List ℕ)) (files : List File
 texts_read None paths files r h f gives always = tt
 texts_read (Some s) paths files r h f gives always =
     then_found self self paths r (paths_asked s) _ h
-    (then_found self self files r (files_asked [] paths s) _ f (found_always self r _ gives always))
+    (then_found self self files r (files_asked [] paths s) _ f (found_always self r (texts_in [] files) _ (λ q same. same) gives always))

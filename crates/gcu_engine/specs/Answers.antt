@@ -1,5 +1,5 @@
 -- Which answers a command may give to what is asked, what it then has printed, and what a fault needs.
-use Rattle.std.specs.Prelude.{◌≡◌, ◌⊎◌, ℕ, List, ◌++◌, Contains, Option, Some, None, Result, Ok, Err, option_map, ⊤}
+use Rattle.std.specs.Prelude.{◌≡◌, ◌⊎◌, ℕ, List, ◌++◌, Option, Some, None, Ok, Err, option_map, ⊤}
 use Rattle.host_core.specs.Counts.{Counts, Rose}
 use Rattle.host_core.specs.Crashes.{Left, MayLeaveNow}
 use Rattle.host_core.specs.State.{State, printed}
@@ -24,13 +24,13 @@ done_output (preview c) = file_text c ++ last_line Done
 
 -- the whole output with that answer; a fault is answered only where a call of its kind stands
 abbrev pub Says : Asking Request → Outcome → List ℕ → Type 0
-Says asking Done output = (r : Request) × (asking.gives ≡ Ok r) × (output ≡ done_output r)
+Says asking Done output = (r : Request) × asking.Gives (Ok r) × (output ≡ done_output r)
 Says asking Memory output = output ≡ last_line Memory
-Says asking InputFault output = Contains asking.calls an_input × (output ≡ last_line InputFault)
+Says asking InputFault output = asking.Reads an_input × (output ≡ last_line InputFault)
 Says asking (DiskFault step) output =
-    Contains asking.calls a_file × (output ≡ last_line (DiskFault step))
+    asking.Reads a_file × (output ≡ last_line (DiskFault step))
 Says asking (PrintFault step) output = ⊥
-Says asking other output = (asking.gives ≡ Err other) × (output ≡ last_line other)
+Says asking other output = asking.Gives (Err other) × (output ≡ last_line other)
 
 -- a front of what some other answer says
 abbrev pub SaysPart : Asking Request → Counts → Counts → List ℕ → Type 0
@@ -50,34 +50,23 @@ PrintsAlone asking before after old new result =
     (output : List ℕ) × (after ≡ Some (printed output before))
     × Prints asking old new result output
 
--- what a command leaves that was refused or that does this
-abbrev pub Leaves : Result Request Outcome → Asking Request
-    → State → Option State → Counts → Counts → Outcome → Type 0
-Leaves (Err refusal) = PrintsAlone
-Leaves (Ok (preview c)) = PrintsAlone
-
 -- What a command leaves of a host that tells its state, and which answer that is. It goes by what the words
 -- ask of that state.
 abbrev pub Answers : List (List ℕ)
     → Option State → Option State → Counts → Counts → Outcome → Type 0
 Answers words None after old new result = after ≡ None
 Answers words (Some before) after old new result =
-    Leaves (asked words before).gives (asked words before) before after old new result
+    PrintsAlone (asked words before) before after old new result
 
 -- what a crash leaves where nothing but the output changes: what was there, with a front of some output
 abbrev pub LeftWithOutput : Option State → Left → Type 0
 LeftWithOutput before left =
     (part : List ℕ) × MayLeaveNow (option_map (printed part) before) left
 
--- what a crash leaves in a command that is refused or that does this
-abbrev pub LeftIn : Result Request Outcome → State → Left → Type 0
-LeftIn (Err refusal) before = LeftWithOutput (Some before)
-LeftIn (Ok (preview c)) before = LeftWithOutput (Some before)
-
 -- What a crash leaves at a moment of a command, of a host that tells its state.
 abbrev pub LeftMeanwhile : List (List ℕ) → Option State → Left → Type 0
 LeftMeanwhile words None left = ⊤
-LeftMeanwhile words (Some before) left = LeftIn (asked words before).gives before left
+LeftMeanwhile words (Some before) left = LeftWithOutput (Some before) left
 
 -- the answer to words that are no command, unless it can't be told
 abbrev pub TellsUsage : Outcome → Type 0
@@ -86,11 +75,13 @@ TellsUsage Memory = ⊤
 TellsUsage (PrintFault step) = ⊤
 TellsUsage other = ⊥
 
--- the answers to a request where nothing failed
+-- the answers to a request where nothing failed, but for want of memory
 abbrev pub Finishes : Request → Outcome → Type 0
-Finishes (preview c) result = (result ≡ Memory) ⊎ (result ≡ Done)
+Finishes (preview c) result = result ≡ Done
 
 -- the answers where nothing failed: for want of memory, the refusal, or what the request says
-abbrev pub Complete : Result Request Outcome → Outcome → Type 0
-Complete (Ok request) result = Finishes request result
-Complete (Err refusal) result = (result ≡ Memory) ⊎ (result ≡ refusal)
+abbrev pub Complete : Asking Request → Outcome → Type 0
+Complete asking result =
+    (result ≡ Memory)
+    ⊎ (asking.Gives (Err result)
+    ⊎ ((r : Request) × asking.Gives (Ok r) × Finishes r result))

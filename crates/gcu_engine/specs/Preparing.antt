@@ -1,9 +1,8 @@
 -- What the parts of a command give before anything is printed.
-use Rattle.std.specs.Prelude.{◌≡◌, List, Contains, Option, Some, None, Result, IfErr, IfSome, ⊤}
-use Rattle.host_core.specs.Answers.{Gives}
+use Rattle.std.specs.Prelude.{◌≡◌, Option, Some, None, Result, Ok, Err, IfErr, IfSome, ⊤}
 use Rattle.host_core.specs.Counts.{Counts, Rose}
 use Rattle.host_core.specs.State.{State}
-use Rattle.gcu_engine.specs.Asking.{Asking, Source, an_input, a_file}
+use Rattle.gcu_engine.specs.Asking.{Asking, an_input, a_file}
 use Rattle.gcu_engine.specs.declared.outcomes.Outcome.{Outcome}
 use Rattle.gcu_engine.specs.declared.outcomes.Outcome.TheVariants.{Done, Memory, Usage, InputFault, DiskFault, PrintFault}
 
@@ -16,11 +15,21 @@ refusal (DiskFault step) = None
 refusal (PrintFault step) = None
 refusal other = Some other
 
--- one of the calls is of the kind that the fault is of
-abbrev pub StandsIn : List Source → Outcome → Type 0
-StandsIn calls InputFault = Contains calls an_input
-StandsIn calls (DiskFault step) = Contains calls a_file
-StandsIn calls other = ⊤
+-- a call of the kind that the fault is of is made
+abbrev pub StandsIn : {Y : Type 0} → Asking Y → Outcome → Type 0
+StandsIn asking InputFault = asking.Reads an_input
+StandsIn asking (DiskFault step) = asking.Reads a_file
+StandsIn asking other = ⊤
+
+-- a refusal that is right, where one is told
+abbrev pub FailsIn : {Y : Type 0} → Option Outcome → Asking Y → Type 0
+FailsIn None asking = ⊤
+FailsIn (Some e) asking = asking.Gives (Err e)
+
+-- what was returned, its value seen by view, is right
+abbrev pub IsGiven : {X Y : Type 0} → (X → Y) → Result X Outcome → Asking Y → Type 0
+IsGiven view (Ok x) asking = asking.Gives (Ok (view x))
+IsGiven view (Err e) asking = FailsIn (refusal e) asking
 
 -- for want of memory, a fault with its cause, or a refusal of what was given
 abbrev pub Refuses : Counts → Counts → Outcome → Type 0
@@ -43,8 +52,8 @@ RefusesAlways other = ⊤
 -- what was found or refused is what is asked, and a fault stands at a call that is made
 pub record Found {X Y : Type 0} (view : X → Y) (result : Result X Outcome) (asking : Asking Y)
     : Type 0 where
-  pub gives : Gives view refusal result asking.gives
-  pub stands : IfErr result (StandsIn asking.calls)
+  pub gives : IsGiven view result asking
+  pub stands : IfErr result (StandsIn asking)
 
 -- the same of a host that tells its state
 abbrev pub Finds : {X Y : Type 0} → Option State → (X → Y) → Result X Outcome

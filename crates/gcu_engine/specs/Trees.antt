@@ -1,5 +1,5 @@
 -- What a command asks for, as documents: its code goes from tree to tree and builds no configuration.
-use Rattle.std.specs.Prelude.{ℕ, List, Result}
+use Rattle.std.specs.Prelude.{◌≡◌, ℕ, List, Result}
 use Rattle.host_core.specs.Answers.{map_ok}
 use Rattle.host_core.specs.State.{State}
 use Rattle.conf_doc.specs.Configuration.{tree}
@@ -14,7 +14,11 @@ use Rattle.gcu_engine.specs.declared.outcomes.Outcome.{Outcome}
 
 -- the same calls, and what f makes of what they give
 abbrev pub through : {X Y : Type 0} → (X → Y) → Asking X → Asking Y
-through f asking = record { calls = asking.calls; gives = map_ok f asking.gives }
+through {X = X} f asking =
+    record {
+      Reads = asking.Reads;
+      Gives = λ r. (q : Result X Outcome) × asking.Gives q × (map_ok f q ≡ r);
+    }
 
 -- the stored configuration
 abbrev pub stored_document : State → Asking Document

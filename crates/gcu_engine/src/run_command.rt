@@ -36,7 +36,7 @@ pub fn run<H: Host>(alloc: Global, words: &[Txt], host: &mut H) -> Outcome
     // Where nothing fails, memory alone may be wanting.
     ensures complete { IfSome (H.told host.old)
         (λ s. NoneRose (H.counts host.old) (H.counts host.new)
-        → Complete (asked words.now s).gives result) }
+        → Complete (asked words.now s) result) }
 {
     match read_form(words) {
         Form::Unknown => say(alloc, Outcome::Usage, host),

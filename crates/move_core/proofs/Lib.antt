@@ -1,6 +1,10 @@
+pub mod Boxed
 pub mod Compared
+pub mod Defined
 pub mod Filled
+pub mod ListedMoves
 pub mod Listing
+pub mod Modelled
 pub mod Operated
 pub mod PlanTexts
 pub mod Seen

@@ -33,11 +33,11 @@ picked : {A B : Type 0} (f : A → B) (b : Bool) (a : A) (o : Option A) → cond
 picked f true a o = refl
 picked f false a o = refl
 
-some_is : {A : Type 0} (o : Option A) → IsSome o → (a : A) × (o ≡ Some a)
+pub some_is : {A : Type 0} (o : Option A) → IsSome o → (a : A) × (o ≡ Some a)
 some_is None some = absurd cc
 some_is (Some a) some = (a, refl)
 
-some_there : {A : Type 0} {o : Option A} {a : A} → o ≡ Some a → IsSome o
+pub some_there : {A : Type 0} {o : Option A} {a : A} → o ≡ Some a → IsSome o
 some_there is = ap is_some is
 
 -- ---- a map of what f makes of each part

@@ -6,8 +6,14 @@ ghost use Rattle.conf_doc.specs.Configuration.{tree};
 ghost use Rattle.conf_doc.specs.declared.configuration.Config.{Config};
 ghost use Rattle.patch_core.specs.Apply.{apply_plain};
 ghost use Rattle.move_core.specs.ListedOrder.{listed_cmp};
-ghost use Rattle.move_core.specs.Moves.{IsDefined, step};
+ghost use Rattle.conf_doc.specs.WellFormed.{IsConfig};
+ghost use Rattle.move_core.specs.Contexts.{AgreeElsewhere, IsModelled, rulebook};
+ghost use Rattle.move_core.specs.Listed.{Extends, IsGeneratedMove, IsListed};
+ghost use Rattle.move_core.specs.Moves.{IsDefined, place, step};
 ghost use Rattle.move_core.specs.Operations.{op};
+ghost use Rattle.move_core.specs.Services.{table_of};
+ghost use Rattle.move_core.specs.declared.contexts.Ctx.{Ctx};
+ghost use Rattle.move_core.specs.declared.moves.Generated.{Generated};
 ghost use Rattle.move_core.specs.declared.moves.Move.{Move};
 
 /// Where a move is defined, the patch of its operation makes the tree of its result.
@@ -20,4 +26,20 @@ pub fn move_is_its_operation()
 pub fn listed_order_is_total()
     ensures total { IsTotalOrder listed_cmp }
     ensures tied { IsAntisymmetric listed_cmp }
+{}
+
+/// Each move that is generated or extended, and so each listed one, is defined at cur.
+pub fn listed_moves_are_defined()
+    ensures generated { (ctx : Ctx) (cur goal : Config) (g : Generated)
+        → IsGeneratedMove (rulebook ctx) cur goal g → IsDefined cur g.mv }
+    ensures extended { (ctx : Ctx) (cur goal : Config) (m x : Move) → IsConfig cur
+        → Extends (rulebook ctx) cur goal m x → IsDefined cur m → IsDefined cur x }
+    ensures listed { (ctx : Ctx) (cur goal : Config) (m : Move) → IsConfig cur
+        → IsListed (rulebook ctx) cur goal m → IsDefined cur m }
+{}
+
+/// Where cur and goal agree on the tables without a model, no listed move has its place in such a table.
+pub fn listed_moves_have_models()
+    ensures { (ctx : Ctx) (cur goal : Config) (m : Move) → AgreeElsewhere ctx cur goal
+        → IsListed (rulebook ctx) cur goal m → IsModelled ctx.models (table_of (place m)) }
 {}

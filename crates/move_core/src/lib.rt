@@ -21,7 +21,10 @@ pub use boxes::{MoveExt, MoveGen, MoveRule};
 pub use contexts::Ctx;
 pub use errors::{RulesError, RulesWhy};
 pub use kits::{Boxes, Kit};
-pub use laws::{listed_order_is_total, move_is_its_operation};
+pub use laws::{
+    listed_moves_are_defined, listed_moves_have_models, listed_order_is_total,
+    move_is_its_operation,
+};
 pub use listed_order::cmp_listed;
 pub use moves::{Generated, Move, Moves, Plan, Ranked};
 pub use operations::operation_of;

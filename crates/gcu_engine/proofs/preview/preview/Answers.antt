@@ -1,8 +1,14 @@
 use Rattle.std.proofs.Common.{refl, ◌∙◌}
 use Rattle.std.proofs.lemmas.Result.{err_from_is_err_and}
 use Rattle.gcu_engine.proofs.Elapsing.{elapses_unchanged}
-use Rattle.gcu_engine.proofs.Finding.{always_refuses, no_patch, target_found}
+use Rattle.gcu_engine.proofs.Finding.{always_refuses, no_patch, no_stored, target_found}
 use Rattle.gcu_engine.proofs.preview.preview.Goals as goal
+
+-- the folder stands for no configuration
+pub returns-in_err-start-clause-answer : goal.returns-in_err-start-clause-answer
+returns-in_err-start-clause-answer g c =
+    let p = err_from_is_err_and c.from_residual.result c.from_residual.ensures.1 in
+    rw (p.1, p.2) (no_stored (g.H.Host.told c.args.host.now) c.args.path.now c.in_err-start.field-0.0 c.in_err-start.ensures.answer)
 
 -- there is no patch
 pub returns-in_err-patch-clause-answer : goal.returns-in_err-patch-clause-answer

@@ -3,7 +3,7 @@ use Rattle.conf_doc.specs.Trees.{document}
 use Rattle.gcu_engine.specs.Lines.{last_line}
 use Rattle.gcu_engine.specs.Printing.{text_in_lines}
 use Rattle.gcu_engine.proofs.Elapsing.{command_leaves, command_leaves_behind}
-use Rattle.gcu_engine.proofs.Answering.{said_answers, said_completes, no_form_says, preview_says, preview_refuses, refused_cause}
+use Rattle.gcu_engine.proofs.Answering.{said_answers, done_completes, said_completes, no_form_says, preview_says, preview_refuses, refused_cause}
 use Rattle.gcu_engine.specs.declared.outcomes.Outcome.TheVariants.{Usage, Done}
 use Rattle.gcu_engine.proofs.run_command.run.Goals as goal
 
@@ -64,3 +64,9 @@ returns-in-Err-clause-complete g c =
     (g.H.Host.counts c.args.host.now) (g.H.Host.counts c.preview.new.host) (g.H.Host.counts c.say-in-Err.new.host)
     c.in-Err.outcome c.say-in-Err.result (sym c.in-Preview.ensures) c.say-in-Err.ensures.said c.say-in-Err.ensures.counts
     c.in-Err.ensures.counts c.in-Err.ensures.cause c.in-Err.ensures.answer
+
+pub returns-in-Ok-clause-complete : goal.returns-in-Ok-clause-complete
+returns-in-Ok-clause-complete g c =
+    done_completes c.args.words.now _ (text_in_lines (document c.in-Ok.tree) ++ last_line Done) (g.H.Host.told c.args.host.now) (g.H.Host.told c.show.new.host) (g.H.Host.told c.preview.new.host)
+    (g.H.Host.counts c.args.host.now) (g.H.Host.counts c.preview.new.host) (g.H.Host.counts c.show.new.host)
+    c.in-Ok.tree c.show.result (sym c.in-Preview.ensures) c.show.ensures.said c.in-Ok.ensures.counts c.in-Ok.ensures.answer

@@ -1,0 +1,17 @@
+//! Checkpoints of a folder: configurations under names, each in a file of its own.
+#![tactic(auto)]
+
+mod deleting;
+mod errors;
+mod listing;
+mod loading;
+mod naming;
+mod reading;
+mod saving;
+
+pub use deleting::delete;
+pub use errors::PointError;
+pub use listing::names;
+pub use loading::load;
+pub use naming::is_good_name;
+pub use saving::save;

@@ -1,0 +1,112 @@
+//! Whether a configuration is valid by its models (RFC 7950, section 8.1).
+ghost use Rattle.std.specs.Prelude.{◌≡◌, ◌<◌, length, true, is_some, slice_get, Some, MatchResult};
+ghost use Rattle.conf_check.specs.Faults.{IsFirstFault, IsFirstOfTable};
+ghost use Rattle.conf_check.specs.NodeTrees.{HasModule, row_of_entry};
+ghost use Rattle.conf_check.specs.Rows.{Row, row_at, IsModelledAt};
+ghost use Rattle.conf_check.specs.Validity.{Breaks, BreaksShape, IsFirstViolation, IsValid};
+
+use crate::config_nodes::{ConfigNodes, nodes_of};
+use crate::faults::{Fault, first_missing, first_of_fields, first_refused_part};
+use crate::leaves::{ShapedEntry, shaped_entry};
+use crate::musts::first_false_must;
+use crate::violations::{Rule, Violation};
+use conf_doc::Config;
+use yang_model::Models;
+
+/// What an entry with a shape breaks first.
+fn first_of_shape(
+    nodes: &ConfigNodes,
+    table: usize,
+    key: usize,
+    entry: &ShapedEntry,
+) -> Option<Fault>
+    requires { HasModule nodes.now table }
+    ensures { let row = row_of_entry entry.now in
+        let Broken = BreaksShape nodes.now.models.now nodes.now.config.now table key row in
+        IsFirstFault (Broken entry.now.shape.now) result }
+{
+    let part = first_refused_part(nodes.models, nodes.config, entry.shape, entry.key);
+    if let Some(field) = part {
+        return Some(Fault {
+            rule: Rule::KeyReference,
+            field,
+        });
+    }
+    if let Some(fault) = first_of_fields(nodes.models, nodes.config, entry.shape, entry.fields) {
+        return Some(fault);
+    }
+    if let Some(field) = first_missing(entry.shape, entry.fields) {
+        return Some(Fault {
+            rule: Rule::MissingField,
+            field,
+        });
+    }
+    match first_false_must(nodes, entry.shape, table, key) {
+        Some(field) => Some(Fault {
+            rule: Rule::Must,
+            field,
+        }),
+        None => None,
+    }
+}
+
+/// What the entry at a place breaks first.
+fn first_of_entry(nodes: &ConfigNodes, table: usize, key: usize) -> Option<Fault>
+    ensures { (row : Row) → row_at nodes.now.models.now nodes.now.config.now table key ≡ Some row
+        → IsFirstFault (Breaks nodes.now.models.now nodes.now.config.now table key row) result }
+{
+    match shaped_entry(nodes, table, key) {
+        Some(entry) => first_of_shape(nodes, table, key, &entry),
+        None => Some(Fault {
+            rule: Rule::KeyShape,
+            field: 0,
+        }),
+    }
+}
+
+/// The first violation in a table that has a model, key by key.
+fn first_of_keys(nodes: &ConfigNodes, table: usize) -> Option<Violation>
+    requires within { table < length nodes.now.config.now }
+    requires modelled { IsModelledAt nodes.now.models.now nodes.now.config.now table }
+    ensures { IsFirstOfTable nodes.now.models.now nodes.now.config.now table result }
+{
+    for key in 0..nodes.config.part_at(table).len() {
+        if let Some(fault) = first_of_entry(nodes, table, key) {
+            return Some(Violation {
+                table,
+                key,
+                field: fault.field,
+                rule: fault.rule.number(),
+            });
+        }
+    }
+    None
+}
+
+/// The first violation in a table. One without a model has none.
+fn first_of_table(nodes: &ConfigNodes, table: usize) -> Option<Violation>
+    requires { table < length nodes.now.config.now }
+    ensures { IsFirstOfTable nodes.now.models.now nodes.now.config.now table result }
+{
+    if nodes.models.modelled(nodes.config.name_at(table)) {
+        first_of_keys(nodes, table)
+    } else {
+        None
+    }
+}
+
+/// Ok where a configuration breaks no rule of its models, else the first violation: in the order of
+/// tables, then of keys, then of the rules of an entry, where those of fields are tried field by field.
+/// It takes no memory. Tables without a model aren't looked at.
+pub fn check(models: &Models, config: &Config) -> Result<(), Violation>
+    ensures { MatchResult result
+        (λ _. IsValid models.now config.now) (IsFirstViolation models.now config.now) }
+{
+    let nodes = nodes_of(models, config);
+    for table in 0..config.len() {
+        if let Some(violation) = first_of_table(&nodes, table) {
+            return Err(violation);
+        }
+    }
+    Ok(())
+}

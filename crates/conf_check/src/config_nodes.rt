@@ -1,0 +1,24 @@
+//! The nodes of a configuration, which an expression speaks of.
+ghost use Rattle.std.specs.Prelude.{◌≡◌};
+ghost use Rattle.conf_check.specs.Belongings.{Known, Known-once};
+
+use crate::belongings::learn_config;
+use conf_doc::Config;
+use yang_model::Models;
+
+/// A configuration as a tree of nodes by its models. It borrows both, and takes no memory.
+#[derive(Drop)]
+pub(crate) struct ConfigNodes<'a> {
+    pub(crate) models: &'a Models,
+    pub(crate) config: &'a Config,
+    ghost known: { Known models.now config.now } by { Known-once models.now config.now },
+}
+
+/// The nodes of a configuration, for which the shape of each of its entries is asked once.
+pub(crate) fn nodes_of<'a>(models: &'a Models, config: &'a Config) -> ConfigNodes<'a>
+    ensures models { result.models.now ≡ models.now }
+    ensures config { result.config.now ≡ config.now }
+{
+    learn_config(models, config);
+    ConfigNodes { models, config }
+}

@@ -1,0 +1,17 @@
+use Rattle.move_core.proofs.Boxed.{kinds_kept, of_extender}
+use Rattle.std.proofs.Common.{◌+◌}
+use Rattle.move_core.proofs.kits.Kit.extend_at.Goals as goal
+
+pub returns-clause-ok : goal.returns-clause-ok
+returns-clause-ok g c =
+    c.ask_extender.ensures.ok (c.args.i + 1)
+    (of_extender _ c.args.self.now.exts.items c.args.i c.index_mut.result.now c.index_mut.ensures.value c.requires.at c.requires.kinds.1)
+
+pub returns-clause-err : goal.returns-clause-err
+returns-clause-err g c =
+    c.ask_extender.ensures.err (c.args.i + 1)
+    (of_extender _ c.args.self.now.exts.items c.args.i c.index_mut.result.now c.index_mut.ensures.value c.requires.at c.requires.kinds.1)
+
+pub returns-clause-kinds : goal.returns-clause-kinds
+returns-clause-kinds g c =
+    (c.requires.kinds.0, kinds_kept _ _ _ c.args.i c.index_mut.result.now _ c.requires.kinds.1 c.index_mut.ensures.value c.ask_extender.ensures.kind, c.requires.kinds.2)

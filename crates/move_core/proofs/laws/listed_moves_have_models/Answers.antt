@@ -1,0 +1,5 @@
+use Rattle.move_core.proofs.Modelled.{listed_modelled}
+use Rattle.move_core.proofs.laws.listed_moves_have_models.Goals as goal
+
+pub returns : goal.returns
+returns c ctx cur goal m agree is = listed_modelled ctx cur goal agree m is

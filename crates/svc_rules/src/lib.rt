@@ -1,0 +1,6 @@
+//! The services that are restarted after a move.
+#![tactic(auto)]
+
+mod services;
+
+pub use services::{Services, services_of};
