@@ -4,3 +4,4 @@ pub mod Kept
 pub mod Loops
 pub mod NoEmpty
 pub mod Requireds
+pub mod Violated

@@ -1,14 +1,12 @@
 -- The rule against tables without keys looks at the move's table alone.
-use Rattle.std.proofs.Common.{◌≡◌, ◌≢◌, ℕ, List, [], Bool, true, false, not, Some, IsTrue, ◌↔◌, inl, inr, refl, sym, ap, ◌∙◌, subst, arith}
+use Rattle.std.proofs.Common.{◌≡◌, ◌≢◌, ℕ, List, [], Bool, true, false, not, Some, IsTrue, ◌↔◌, refl, sym, ap, ◌∙◌, subst}
 use Rattle.std.specs.Ordering.{eq_by_cmp}
 use Rattle.host_core.specs.Names.{name_cmp}
 use Rattle.conf_doc.specs.Pairs.{find}
 use Rattle.conf_doc.specs.declared.configuration.Config.{Config}
-use Rattle.move_core.specs.Contexts.{rulebook}
 use Rattle.move_core.specs.Moves.{new_part, place, step}
-use Rattle.move_core.specs.Rules.{EmptiesNoTable, Passes}
+use Rattle.move_core.specs.Rules.{EmptiesNoTable}
 use Rattle.move_core.specs.Services.{table_of}
-use Rattle.move_core.specs.declared.contexts.Ctx.{Ctx}
 use Rattle.move_core.specs.declared.moves.Move.{Move}
 use Rattle.move_rules.proofs.Kept.{apart_by, other_table, same_by}
 
@@ -36,14 +34,3 @@ module _ (cur next : Config) (m : Move) (is : next ≡ step cur m) where
       → IsTrue b ↔ EmptiesNoTable cur next
   after_is_empty t at a b empty after before =
       (λ passes. by_table (λ _. subst (λ u. find u cur ≡ Some []) at (before.0 passes)), λ keeps. before.1 (keeps t (after.0 empty)))
-
--- the third rule
-pub third : (ctx : Ctx) (cur next : Config) (m : Move) → EmptiesNoTable cur next ↔ Passes (rulebook ctx) 3 cur next m
-third ctx cur next m = (λ keeps. inr (inr (inl (refl, keeps))), back)
-  where
-    back : Passes (rulebook ctx) 3 cur next m → EmptiesNoTable cur next
-    back (inl p) = absurd (omega arith)
-    back (inr (inl p)) = absurd (omega arith)
-    back (inr (inr (inl p))) = p.1
-    back (inr (inr (inr (inl p)))) = absurd (omega arith)
-    back (inr (inr (inr (inr p)))) = absurd (omega arith)

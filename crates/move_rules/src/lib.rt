@@ -3,9 +3,11 @@
 
 mod create_only;
 mod entries;
+mod full;
 mod no_empty;
 mod required;
 
 pub use create_only::CreateOnlyRule;
+pub use full::FullRule;
 pub use no_empty::NoEmptyRule;
 pub use required::RequiredRule;
