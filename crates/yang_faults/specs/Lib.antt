@@ -1,5 +1,6 @@
 -- What public clauses cite.
 pub mod AllFaults
+pub mod DefaultFaults
 pub mod Duplicates
 pub mod Fields
 pub mod Files

@@ -35,6 +35,7 @@ fn note_module(
     alloc: Global,
     least: &mut Option<Fault>,
     names: &Names,
+    most: u64,
     number: usize,
 ) -> Result<(), Memory>
     ensures { OnOk result (Notes least.old least.new
@@ -46,6 +47,7 @@ fn note_module(
                 names,
                 file,
                 number,
+                most,
             };
             note_statement(alloc, least, &scope, file, Kind::Module, statement)
         }
@@ -53,16 +55,39 @@ fn note_module(
     }
 }
 
-/// What is wrong with the modules and all that stands in them.
+/// How many statements there are among some, nested ones included.
+fn count_statements(statements: &[Statement]) -> u64 {
+    let mut count: u64 = 0;
+    for statement in statements {
+        let inner = count_statements(statement.block.items());
+        count = count.saturating_add(inner).saturating_add(1);
+    }
+    count
+}
+
+/// How many statements there are in the files: a way over type statements that is longer goes round in a
+/// circle.
+fn count_all(files: &[(Txt, Statements)]) -> u64 {
+    let mut count: u64 = 0;
+    for file in files {
+        count = count.saturating_add(count_statements(file.1.items()));
+    }
+    count
+}
+
+/// What is wrong with the modules and all that stands in them. Where types go round in a circle, the
+/// answer is Memory.
 pub fn note_module_faults(
     alloc: Global,
     least: &mut Option<Fault>,
     names: &Names,
+    files: &[(Txt, Statements)],
 ) -> Result<(), Memory>
     ensures { OnOk result (Notes least.old least.new (all_module_faults names.now)) }
 {
+    let most = count_all(files).saturating_add(1);
     for number in 0..names.len() {
-        note_module(alloc, least, names, number)?;
+        note_module(alloc, least, names, most, number)?;
     }
     Ok(())
 }

@@ -26,7 +26,7 @@ fn first_statement<'a>(name: &str, statements: &'a [Statement]) -> Option<&'a St
 }
 
 /// The first statement of a keyword.
-fn first_of<'a>(name: &str, statements: &'a [Statement]) -> Option<&'a Statement>
+pub(crate) fn first_of<'a>(name: &str, statements: &'a [Statement]) -> Option<&'a Statement>
     ensures { option_map (λ s. declaration s.now) result
         ≡ first_of name.now (map declaration statements.now) }
 {
@@ -34,7 +34,7 @@ fn first_of<'a>(name: &str, statements: &'a [Statement]) -> Option<&'a Statement
 }
 
 /// The argument of the first statement of a keyword.
-fn first_argument<'a>(name: &str, statements: &'a [Statement]) -> Option<&'a str>
+pub fn first_argument<'a>(name: &str, statements: &'a [Statement]) -> Option<&'a str>
     ensures { option_map (λ s. s.now) result
         ≡ first_argument name.now (map declaration statements.now) }
 {
@@ -68,7 +68,7 @@ fn set_in(alloc: Global, key: &str) -> Result<NameSet, Memory>
 }
 
 /// The names that the key of a list gives.
-fn key_names(alloc: Global, statements: &[Statement]) -> Result<NameSet, Memory>
+pub(crate) fn key_names(alloc: Global, statements: &[Statement]) -> Result<NameSet, Memory>
     ensures { IfOk result (λ keys.
         IsSetOf keys.names (key_names (map declaration statements.now))) }
 {
@@ -79,7 +79,7 @@ fn key_names(alloc: Global, statements: &[Statement]) -> Result<NameSet, Memory>
 }
 
 /// Whether the key gives a name.
-fn is_key_leaf(keys: &NameSet, name: &Option<Txt>) -> bool
+pub(crate) fn is_key_leaf(keys: &NameSet, name: &Option<Txt>) -> bool
     ensures { (known : List (List ℕ)) → IsSetOf keys.now.names known
         → result ≡ is_key_leaf known name.now }
 {
@@ -90,7 +90,7 @@ fn is_key_leaf(keys: &NameSet, name: &Option<Txt>) -> bool
 }
 
 /// Whether a leaf with these statements is mandatory.
-fn is_mandatory(statements: &[Statement]) -> bool
+pub fn is_mandatory(statements: &[Statement]) -> bool
     ensures { result ≡ is_mandatory (map declaration statements.now) }
 {
     match first_argument("mandatory", statements) {

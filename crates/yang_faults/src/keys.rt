@@ -15,7 +15,7 @@ use yang_scope::{Fault, note};
 use yang_text::{ModelWhy, Statement};
 
 /// The names in a key.
-pub(crate) fn names_in<'a>(alloc: Global, key: &'a str) -> Result<Vec<&'a str>, Memory>
+pub fn names_in<'a>(alloc: Global, key: &'a str) -> Result<Vec<&'a str>, Memory>
     ensures { IfOk result (λ names. texts names.items ≡ names_in key.now) }
 {
     let mut names = Vec::new(alloc);

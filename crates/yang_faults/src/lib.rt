@@ -2,6 +2,7 @@
 #![tactic(auto)]
 
 mod all_faults;
+mod defaults;
 mod duplicates;
 mod fields;
 mod files;
@@ -17,3 +18,5 @@ mod sentences;
 mod walks;
 
 pub use all_faults::{note_file_faults, note_module_faults};
+pub use fields::{first_argument, is_mandatory};
+pub use keys::names_in;

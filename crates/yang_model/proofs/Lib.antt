@@ -1,2 +1,5 @@
+pub mod FaultLess
 pub mod Fitting
 pub mod Places
+pub mod Sizes
+pub mod TableSteps

@@ -3,11 +3,18 @@
 #![tactic(auto)]
 
 mod belonging;
+mod compiling;
+mod errors;
+mod fields;
 mod laws;
 mod models;
+mod musts;
 mod name_index;
 mod shapes;
+mod tables;
 
+pub use compiling::compile;
+pub use errors::ModelError;
 pub use laws::belongs_once;
 pub use models::Models;
 pub use shapes::{FieldRule, KeyLeaf, MustRule, Shape};

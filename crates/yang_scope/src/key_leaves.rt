@@ -29,7 +29,7 @@ fn are_prefixes_given(set: &ModuleSet, number: usize, steps: &[&str]) -> bool
 }
 
 /// The container of a module, by its name, with the number of the module.
-fn container_named<'a>(set: &ModuleSet<'a>, name: &str) -> Option<(usize, &'a Statement)>
+pub(crate) fn container_named<'a>(set: &ModuleSet<'a>, name: &str) -> Option<(usize, &'a Statement)>
     ensures { option_map (λ c. (c.0, declaration c.1.now)) result
         ≡ container_named set.now name.now }
 {

@@ -20,5 +20,8 @@ pub use bases::{Base, is_built_in_type};
 pub use faults::{Fault, note};
 pub use identifiers::is_identifier;
 pub use meanings::Meaning;
+pub use modules::first_of;
 pub use names::Names;
+pub use paths::{child_named, step_name};
+pub use pieces::pieces as split_pieces;
 pub use type_faults::{note_bad_patterns, note_unknown_type, note_wrong_paths};

@@ -42,7 +42,7 @@ impl<'a> Model for ModuleNames<'a> {
 }
 
 /// The first statement of a keyword among some.
-pub(crate) fn first_of<'a>(keyword: &str, statements: &'a [Statement]) -> Option<&'a Statement>
+pub fn first_of<'a>(keyword: &str, statements: &'a [Statement]) -> Option<&'a Statement>
     ensures { option_copied result
         ≡ find (λ s. is_keyword keyword.now (declaration s)) statements.now }
 {

@@ -2,11 +2,14 @@
 ghost use Rattle.std.specs.Prelude.{◌≡◌, ◌<◌, ◌^◌, length, map, slice_get, option_map, IfOk};
 ghost use Rattle.yang_scope.specs.Meanings.{base_of, type_meaning, is_module};
 ghost use Rattle.yang_scope.specs.Modules.{modules_of};
+ghost use Rattle.yang_scope.specs.Paths.{container_named, path_end};
 
 use crate::bases::Base;
+use crate::key_leaves::{container_named, leaf_at_end};
 use crate::links::{Links, all_links, link_behind};
 use crate::meanings::Meaning;
 use crate::module_sets::ModuleSet;
+use crate::pieces::pieces;
 use host_core::{Memory, Txt};
 use std::alloc::Global;
 use std::marker::Model;
@@ -98,5 +101,27 @@ impl<'a> Names<'a> {
             Meaning::Ends(base) => Some(base),
             Meaning::Goes(..) | Meaning::Nothing => None,
         }
+    }
+
+    /// The container of a module, by its name, with the number of the module.
+    pub fn container_named(&self, name: &str) -> Option<(usize, &'a Statement)>
+        ensures { option_map (λ c. (c.0, declaration c.1.now)) result
+            ≡ container_named self.now name.now }
+    {
+        container_named(&self.set, name)
+    }
+
+    /// The key leaf that a path in a module leads to, with the number of its module.
+    pub fn path_end(
+        &self,
+        alloc: Global,
+        number: usize,
+        path: &str,
+    ) -> Result<Option<(usize, &'a Statement)>, Memory>
+        ensures { IfOk result (λ found. option_map (λ s. (s.0, declaration s.1.now)) found
+            ≡ path_end self.now number path.now) }
+    {
+        let steps = pieces(alloc, '/', path)?;
+        leaf_at_end(alloc, &self.set, number, steps.as_slice())
     }
 }

@@ -26,7 +26,7 @@ fn is_step(text: &str) -> bool
 }
 
 /// The name in a step.
-pub(crate) fn step_name(text: &str) -> &str
+pub fn step_name(text: &str) -> &str
     ensures { result.now ≡ step_name text.now }
 {
     match text.split_once(':') {
@@ -79,7 +79,7 @@ fn statement_named<'a>(word: &str, name: &str, statements: &'a [Statement]) -> O
 }
 
 /// The first statement of a keyword and a name in another one.
-pub(crate) fn child_named<'a>(
+pub fn child_named<'a>(
     word: &str,
     name: &str,
     statement: &'a Statement,

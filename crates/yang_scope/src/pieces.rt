@@ -6,7 +6,7 @@ use host_core::Memory;
 use std::alloc::Global;
 
 /// The pieces of a text between the separators, which are ASCII characters.
-pub(crate) fn pieces<'a>(
+pub fn pieces<'a>(
     alloc: Global,
     separator: char,
     text: &'a str,

@@ -1,0 +1,30 @@
+use Rattle.std.proofs.Common.{◌≡◌, ◌≤◌, List, All, None, map, length, ap, sym, subst, ◌∙◌, arith}
+use Rattle.std.proofs.lemmas.List.{length-map}
+use Rattle.std.proofs.lemmas.List.Elements.{All-map}
+use Rattle.yang_text.specs.Declarations.{Declaration, total_weight}
+use Rattle.yang_text.specs.declared.statements.Statements.{Statements}
+use Rattle.yang_scope.specs.Modules.{Module, modules_of}
+use Rattle.yang_must.specs.Spots.{containers_of}
+use Rattle.yang_model.specs.Answers.{faults}
+use Rattle.yang_model.specs.Shapes.{models_of}
+use Rattle.yang_model.specs.Sizes.{IsSmall, most_files, most_statements}
+use Rattle.yang_model.proofs.FaultLess.{no_faults}
+use Rattle.yang_model.proofs.Sizes.{are_small}
+use Rattle.yang_model.proofs.compiling.compile.Goals as goal
+
+pub models_of-requires-clause-small : goal.models_of-requires-clause-small
+models_of-requires-clause-small c =
+    let files = c.args.files.now in
+    let ds : List (List Declaration) = map (λ f. f.1) files in
+    let few : length ds ≤ most_files = omega (arith, length-map files (λ f. f.1), c.requires.few) in
+    let light : All (λ d. total_weight d ≤ most_statements) ds = All-map (λ d. total_weight d ≤ most_statements) (λ f. f.1) files c.requires.small in
+    let P : List Module → Type 0 = λ ms. All IsSmall (containers_of ms) in
+    subst P (sym (c.in_ok-tree.ensures ∙ c.in_ok-names.ensures)) (are_small ds few light)
+
+pub returns-clause-models : goal.returns-clause-models
+returns-clause-models c = λ readers is.
+    let ds : List (List Declaration) = map (λ f. f.1) c.args.files.now in
+    (
+      no_faults (faults readers ds) (sym c.in-None.is ∙ c.in_ok-fault.ensures readers is),
+      c.in_ok-models_of-in-None.ensures readers is ∙ ap (λ (ms : List Module). models_of ms readers) c.in_ok-names.ensures,
+    )

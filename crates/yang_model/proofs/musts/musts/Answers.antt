@@ -1,0 +1,14 @@
+use Rattle.std.proofs.Common.{List, map, take_all, ap, sym, ◌∙◌}
+use Rattle.std.specs.List.{flat_map}
+use Rattle.yang_text.specs.Declarations.{Declaration, block}
+use Rattle.yang_text.specs.Statements.{declaration}
+use Rattle.yang_scope.proofs.Blocks.{block-is}
+use Rattle.yang_model.specs.Shapes.{musts_at}
+use Rattle.yang_model.proofs.musts.musts.Goals as goal
+
+pub returns : goal.returns
+returns c = λ readers is.
+    c.loop-statement.invariant readers is
+    ∙ ap (λ (ds : List Declaration). flat_map (musts_at c.args.tree.now readers c.args.container.now c.args.table.now c.args.shape.now) ds)
+    (ap (map declaration) (take_all c.loop-statement.statement-index c.items-statement-items.result.now c.loop-statement-test.false)
+    ∙ c.items-statement-items.ensures ∙ sym (block-is c.statement.result.now) ∙ ap block c.statement.ensures)

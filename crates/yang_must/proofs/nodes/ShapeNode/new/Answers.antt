@@ -1,0 +1,8 @@
+use Rattle.std.proofs.Common.{ap, sym, ◌∙◌}
+use Rattle.std.specs.List.{filter}
+use Rattle.yang_must.specs.Spots.{is_leaf}
+use Rattle.yang_scope.proofs.Blocks.{block-is}
+use Rattle.yang_must.proofs.nodes.ShapeNode.new.Goals as goal
+
+pub invariant_of-result : goal.invariant_of-result
+invariant_of-result c = c.in_ok-leaves.ensures ∙ ap (filter is_leaf) (c.items.ensures ∙ sym (block-is c.args.statement.now))

@@ -1,0 +1,10 @@
+pub mod Based
+pub mod Chains
+pub mod Endings
+pub mod Given
+pub mod Holding
+pub mod Narrow
+pub mod Places
+pub mod Taken
+pub mod Visits
+pub mod Without

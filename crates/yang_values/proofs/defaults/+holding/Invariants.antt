@@ -1,0 +1,14 @@
+use Rattle.std.proofs.Common.{◌≡◌, ◌+◌, ◌*◌, drop, map}
+use Rattle.yang_types.specs.DataType.{types_of, types_weight, type_weight}
+use Rattle.yang_types.specs.DataTypes.{data_type}
+use Rattle.yang_values.specs.Defaults.{have_leafref}
+use Rattle.yang_values.proofs.defaults.+holding.Given as goal
+
+abbrev pub decreases-have_leafref : goal.decreases-have_leafref
+decreases-have_leafref l = 2 * types_weight (types_of l.types.now) + 1
+
+abbrev pub decreases-has_leafref : goal.decreases-has_leafref
+decreases-has_leafref l = 2 * type_weight (data_type l.ty.now)
+
+abbrev pub invariant-have_leafref-loop-ty : goal.invariant-have_leafref-loop-ty
+invariant-have_leafref-loop-ty l = have_leafref (types_of l.types) ≡ have_leafref (types_of (map data_type (drop l.ty-index l.members)))

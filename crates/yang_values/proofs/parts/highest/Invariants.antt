@@ -1,0 +1,7 @@
+use Rattle.std.proofs.Common.{◌≡◌, None, take}
+use Rattle.std.specs.List.{fold}
+use Rattle.yang_values.specs.Parts.{higher}
+use Rattle.yang_values.proofs.parts.highest.Given as goal
+
+abbrev pub invariant-loop-part : goal.invariant-loop-part
+invariant-loop-part l = l.found ≡ fold higher None (take l.part-index l.parts)

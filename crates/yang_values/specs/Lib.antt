@@ -1,0 +1,13 @@
+-- What public clauses cite.
+pub mod BoundFaults
+pub mod Characters
+pub mod Circles
+pub mod Defaults
+pub mod Numbers
+pub mod Parts
+pub mod Targets
+pub mod TypeValues
+pub mod Values
+-- What only private clauses cite.
+pub mod Endings
+pub mod Walks

@@ -1,0 +1,116 @@
+-- The data type of a type statement (RFC 7950, sections 7.3, 7.4 and 9). Where it has no fault it is
+-- all that the statement says; a part that has a fault says nothing.
+use Rattle.std.specs.Prelude.{ℕ, zero, suc, Bool, List, [], ◌∷◌, map, Option, Some, None, codes, option_and_then, if◌then◌else◌}
+use Rattle.std.specs.List.{fold, flat_map}
+use Rattle.std.specs.Option.{option_map_or, option_to_list}
+use Rattle.yang_text.specs.Declarations.{Declaration, argument, block}
+use Rattle.yang_types.specs.DataType.{DataType, text, number, length_within, value_within, matching, one_of, truth, builtin, leafref, union, types_of}
+use Rattle.yang_types.specs.declared.types.Bounds.{Bounds}
+use Rattle.yang_types.specs.declared.types.Target.{Target}
+use Rattle.yang_scope.specs.Meanings.{type_meaning}
+use Rattle.yang_scope.specs.Modules.{Module}
+use Rattle.yang_scope.specs.Paths.{Placed, path_end}
+use Rattle.yang_scope.specs.Statements.{is_keyword, first_child, children_of}
+use Rattle.yang_scope.specs.declared.bases.Base.TheVariants.{Text, Number, Enumeration, Truth, Leafref, Union, Builtin as BuiltIn}
+use Rattle.yang_scope.specs.declared.meanings.Meaning.{Meaning}
+use Rattle.yang_scope.specs.declared.meanings.Meaning.TheVariants.{Ends, Goes, Nothing}
+use Rattle.yang_values.specs.Targets.{target_of}
+use Rattle.yang_values.specs.Values.{most_steps, parts_in, restricted_values, typedef_type}
+
+-- type statements of a module
+abbrev pub placed_in : ℕ → List Declaration → List Placed
+placed_in m ds = map (λ d. (m, d)) ds
+
+-- the path of a leafref
+abbrev pub path_of : Declaration → Option (List ℕ)
+path_of d = option_and_then argument (first_child (codes "path") d)
+
+-- the type statement of the key leaf that a path in a module leads to
+abbrev pub leaf_types : List Module → ℕ → List ℕ → List Placed
+leaf_types modules m s =
+    option_map_or
+    (λ leaf. placed_in leaf.0 (option_to_list (first_child (codes "type") leaf.1)))
+    (path_end modules m s) []
+
+-- the type statements that one leads to by what its name stands for: that of the typedef, that of
+-- the key leaf, and the members of a union
+abbrev pub next_by : List Module → ℕ → Declaration → Meaning → List Placed
+next_by modules m d (Goes k place) = placed_in k (option_to_list (typedef_type modules k place))
+next_by modules m d (Ends Leafref) = option_map_or (leaf_types modules m) (path_of d) []
+next_by modules m d (Ends Union) = placed_in m (children_of (codes "type") d)
+next_by modules m d (Ends _) = []
+next_by modules m d Nothing = []
+
+-- the type statements that one leads to
+abbrev pub next : List Module → Placed → List Placed
+next modules p = next_by modules p.0 p.1 (type_meaning modules p.0 (argument p.1))
+
+-- the name of an enum
+abbrev pub enum_name : Declaration → List (List ℕ)
+enum_name d = if is_keyword (codes "enum") d then option_to_list (argument d) else []
+
+-- an enumeration without a name says nothing
+abbrev pub enumeration_of : List (List ℕ) → DataType
+enumeration_of [] = text
+enumeration_of (name ∷ names) = one_of (name ∷ names)
+
+-- the type of a typedef, where there is one
+abbrev pub only_type : List DataType → DataType
+only_type [] = text
+only_type (t ∷ ts) = t
+
+-- a union without a member says nothing
+abbrev pub union_of : List DataType → DataType
+union_of [] = text
+union_of (t ∷ ts) = union (types_of (t ∷ ts))
+
+-- a leafref to nothing says nothing
+abbrev pub leafref_of : Option Target → List DataType → DataType
+leafref_of None ts = text
+leafref_of (Some target) ts = leafref target (only_type ts)
+
+-- what a name stands for, by the types that it leads to
+abbrev pub named_type : List Module → Declaration → List DataType → Meaning → DataType
+named_type modules d ts Nothing = text
+named_type modules d ts (Goes m place) = only_type ts
+named_type modules d ts (Ends Text) = text
+named_type modules d ts (Ends (Number b)) = number b
+named_type modules d ts (Ends Enumeration) = enumeration_of (flat_map enum_name (block d))
+named_type modules d ts (Ends Truth) = truth
+named_type modules d ts (Ends Leafref) =
+    leafref_of (option_and_then (target_of modules) (path_of d)) ts
+named_type modules d ts (Ends Union) = union_of ts
+named_type modules d ts (Ends (BuiltIn b)) = builtin b
+
+-- a pattern that is one
+abbrev pub matching_by : (List ℕ → Bool) → DataType → List ℕ → DataType
+matching_by is_pattern t s = if is_pattern s then matching t s else t
+
+-- a type with one restriction more
+abbrev pub restrict : (List ℕ → Bool) → List Bounds → DataType → Declaration → DataType
+restrict is_pattern values t d =
+    if is_keyword (codes "length") d
+    then option_map_or (length_within t) (parts_in values d) t
+    else if is_keyword (codes "range") d
+    then option_map_or (value_within t) (parts_in values d) t
+    else if is_keyword (codes "pattern") d
+    then option_map_or (matching_by is_pattern t) (argument d) t
+    else t
+
+-- the type of a statement by the types that it leads to: its restrictions stand round what its name
+-- stands for, in the order of the text
+abbrev pub type_by : (List ℕ → Bool) → List Module → Placed → List DataType → DataType
+type_by is_pattern modules p ts =
+    fold (restrict is_pattern (restricted_values modules p.0 p.1))
+    (named_type modules p.1 ts (type_meaning modules p.0 (argument p.1)))
+    (block p.1)
+
+-- the type of a statement, by what it leads to in at most so many steps
+unfoldable pub type_within : (List ℕ → Bool) → List Module → ℕ → Placed → DataType
+type_within is_pattern modules zero p = text
+type_within is_pattern modules (suc most) p =
+    type_by is_pattern modules p (map (type_within is_pattern modules most) (next modules p))
+
+-- the type of a type statement of a module
+abbrev pub type_value : (List ℕ → Bool) → List Module → ℕ → Declaration → DataType
+type_value is_pattern modules m d = type_within is_pattern modules most_steps (m, d)

@@ -1,0 +1,141 @@
+//! What the name of a type statement stands for, made of the types that it leads to.
+ghost use Rattle.std.specs.Prelude.{◌≡◌, ◌++◌, map, option_and_then, IfOk};
+ghost use Rattle.std.specs.List.{flat_map};
+ghost use Rattle.yang_text.specs.Declarations.{block};
+ghost use Rattle.yang_text.specs.Statements.{declaration};
+ghost use Rattle.yang_types.specs.DataTypes.{data_type};
+ghost use Rattle.yang_values.specs.Targets.{target_of};
+ghost use Rattle.yang_values.specs.TypeValues.{path_of, enum_name, enumeration_of, only_type, union_of, leafref_of, named_type};
+
+use crate::targets::target_of;
+use crate::walks::path_of;
+use host_core::{Memory, Sequence, Txt};
+use std::alloc::Global;
+use yang_scope::{Base, Meaning, Names};
+use yang_text::Statement;
+use yang_types::{Target, Ty, TyBox, Types};
+
+/// Adds the name of an enum, where a statement is one.
+fn push_enum(alloc: Global, enums: &mut Sequence<Txt>, statement: &Statement) -> Result<(), Memory>
+    ensures { IfOk result (λ _. enums.new ≡ enums.old ++ enum_name (declaration statement.now)) }
+{
+    if statement.keyword.as_str() != "enum" {
+        return Ok(());
+    }
+    match &statement.argument {
+        Some(text) => enums.push(text.copy(alloc)?),
+        None => Ok(()),
+    }
+}
+
+/// The names of an enumeration.
+fn enum_names(alloc: Global, statement: &Statement) -> Result<Sequence<Txt>, Memory>
+    ensures { IfOk result
+        (λ enums. enums ≡ flat_map enum_name (block (declaration statement.now))) }
+{
+    let mut enums = Sequence::new(alloc);
+    for child in statement.block.items() {
+        push_enum(alloc, &mut enums, child)?;
+    }
+    Ok(enums)
+}
+
+fn enumeration_of(enums: Sequence<Txt>) -> Ty
+    ensures { data_type result ≡ enumeration_of enums }
+{
+    if enums.len() == 0 {
+        Ty::Text
+    } else {
+        Ty::OneOf(enums)
+    }
+}
+
+/// The only type of some.
+pub(crate) fn only_type(types: Vec<Ty>) -> Ty
+    ensures { data_type result ≡ only_type (map data_type types.items) }
+{
+    let mut types = types;
+    if types.is_empty() {
+        Ty::Text
+    } else {
+        types.remove(0)
+    }
+}
+
+/// The same types as a list of their own.
+fn types_of(alloc: Global, types: Vec<Ty>) -> Result<Types, Memory>
+    ensures { IfOk result (λ same. same ≡ map data_type types.items) }
+{
+    let mut same = Types::new(alloc);
+    for ty in types {
+        same.push(ty)?;
+    }
+    Ok(same)
+}
+
+fn union_of(alloc: Global, types: Vec<Ty>) -> Result<Ty, Memory>
+    ensures { IfOk result (λ ty. data_type ty ≡ union_of (map data_type types.items)) }
+{
+    if types.is_empty() {
+        return Ok(Ty::Text);
+    }
+    let members = types_of(alloc, types)?;
+    Ok(Ty::Union(members))
+}
+
+fn leafref_of(alloc: Global, target: Option<Target>, types: Vec<Ty>) -> Result<Ty, Memory>
+    ensures { IfOk result (λ ty. data_type ty ≡ leafref_of target (map data_type types.items)) }
+{
+    match target {
+        Some(target) => {
+            let inner = TyBox::new(alloc, only_type(types))?;
+            Ok(Ty::Ref(target, inner))
+        }
+        None => Ok(Ty::Text),
+    }
+}
+
+/// What the path of a leafref leads to.
+fn leaf_target(
+    alloc: Global,
+    names: &Names,
+    statement: &Statement,
+) -> Result<Option<Target>, Memory>
+    ensures { IfOk result (λ target. target
+        ≡ option_and_then (target_of names.now) (path_of (declaration statement.now))) }
+{
+    match path_of(statement) {
+        Some(path) => target_of(alloc, names, path),
+        None => Ok(None),
+    }
+}
+
+/// What the name of a type statement stands for, by the types that it leads to.
+pub(crate) fn named_type(
+    alloc: Global,
+    names: &Names,
+    statement: &Statement,
+    types: Vec<Ty>,
+    meaning: Meaning,
+) -> Result<Ty, Memory>
+    ensures { IfOk result (λ ty. data_type ty
+        ≡ named_type names.now (declaration statement.now) (map data_type types.items) meaning) }
+{
+    match meaning {
+        Meaning::Nothing => Ok(Ty::Text),
+        Meaning::Goes(..) => Ok(only_type(types)),
+        Meaning::Ends(Base::Text) => Ok(Ty::Text),
+        Meaning::Ends(Base::Number(bounds)) => Ok(Ty::Number(bounds)),
+        Meaning::Ends(Base::Enumeration) => {
+            let enums = enum_names(alloc, statement)?;
+            Ok(enumeration_of(enums))
+        }
+        Meaning::Ends(Base::Truth) => Ok(Ty::Truth),
+        Meaning::Ends(Base::Leafref) => {
+            let target = leaf_target(alloc, names, statement)?;
+            leafref_of(alloc, target, types)
+        }
+        Meaning::Ends(Base::Union) => union_of(alloc, types),
+        Meaning::Ends(Base::Builtin(builtin)) => Ok(Ty::Builtin(builtin)),
+    }
+}
