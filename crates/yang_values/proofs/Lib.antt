@@ -1,6 +1,6 @@
 pub mod Based
 pub mod Chains
-pub mod Endings
+pub mod Ends
 pub mod Given
 pub mod Holding
 pub mod Narrow

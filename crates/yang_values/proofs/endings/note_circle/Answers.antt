@@ -8,8 +8,8 @@ use Rattle.yang_scope.specs.Paths.{Placed}
 use Rattle.yang_scope.specs.declared.faults.Fault.{Fault}
 use Rattle.yang_values.specs.Circles.{IsOnCircle, DecidesCircles, circle}
 use Rattle.yang_values.proofs.Based.{leads_nowhere}
-use Rattle.yang_values.proofs.Endings.{off_circle}
-use Rattle.yang_values.proofs.circles.note_circle.Goals as goal
+use Rattle.yang_values.proofs.Ends.{off_circle}
+use Rattle.yang_values.proofs.endings.note_circle.Goals as goal
 
 is_off : (b : Bool) (P : Type 0) → (IsTrue b ↔ P) → (P → ⊥) → b ≡ false
 is_off true P decides off = absurd (off (decides.0 refl))
