@@ -9,4 +9,5 @@ pub mod Targets
 pub mod TypeValues
 pub mod Values
 -- What only private clauses cite.
+pub mod Sameness
 pub mod Walks

@@ -8,6 +8,7 @@ mod named_types;
 mod numbers;
 mod parts;
 mod restrictions;
+mod sameness;
 mod statements;
 mod targets;
 mod type_values;
