@@ -3,6 +3,7 @@
 #![tactic(auto)]
 
 mod bound_faults;
+mod circles;
 mod defaults;
 mod named_types;
 mod numbers;
@@ -16,5 +17,6 @@ mod values;
 mod walks;
 
 pub use bound_faults::note_bad_bounds;
+pub use circles::note_circle;
 pub use defaults::note_bad_default;
 pub use type_values::type_value;
