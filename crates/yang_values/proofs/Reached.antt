@@ -141,3 +141,12 @@ lacks_more {X = X} f ws i w x within is other before c =
       | inl m ↦ before m
       | inr e ↦ other (ap f is ∙ e)
     ]
+
+-- an element behind a function
+pub get_or-mapped : {W : Type 0} {X : Type 0} (f : W → X) (ws : List W) (i : ℕ) (w : W) (d : X) → i < length ws → w ≡ get_or ws i w → f w ≡ get_or (map f ws) i d
+get_or-mapped f [] i w d within is = absurd (omega arith)
+get_or-mapped f (u ∷ ws) zero w d within is = ap f is
+get_or-mapped f (u ∷ ws) (suc i) w d within is = get_or-mapped f ws i w d (omega arith) is
+
+pub mapped_more : {W : Type 0} {X : Type 0} (f : W → X) (ws : List W) (i : ℕ) (w : W) → i < length ws → w ≡ get_or ws i w → map f (take (i + 1) ws) ≡ map f (take i ws) ++ f w ∷ []
+mapped_more f ws i w within is = ap (map f) (take_more ws i w within) ∙ map-append f (take i ws) (get_or ws i w ∷ []) ∙ ap (λ v. map f (take i ws) ++ f v ∷ []) (sym is)
