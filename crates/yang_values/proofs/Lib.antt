@@ -5,6 +5,8 @@ pub mod Given
 pub mod Holding
 pub mod Narrow
 pub mod Places
+pub mod Reached
+pub mod Alike
 pub mod Taken
 pub mod Visits
 pub mod Without

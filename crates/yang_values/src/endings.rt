@@ -1,12 +1,13 @@
-//! Circles of typedefs and leafrefs.
-ghost use Rattle.std.specs.Prelude.{◌≡◌, Bool, ℕ, IsTrue, IfOk, OnOk};
+//! Ways on from type statements that end.
+ghost use Rattle.std.specs.Prelude.{◌≡◌, Bool, IsTrue, IfOk};
 ghost use Rattle.yang_text.specs.Statements.{declaration};
 ghost use Rattle.yang_scope.specs.Faults.{least_of};
 ghost use Rattle.yang_scope.specs.Paths.{Placed};
-ghost use Rattle.yang_values.specs.Circles.{DecidesCircles, circle};
+ghost use Rattle.yang_values.specs.Circles.{IsOnCircle, DecidesCircles, circle};
 ghost use Rattle.yang_values.specs.Endings.{EndsIn, leads_on};
 ghost use Rattle.yang_values.specs.Walks.{placed};
 
+use crate::circles::note_circle;
 use crate::walks::{Place, Step, next, push_steps};
 use host_core::Memory;
 use std::alloc::Global;
@@ -49,9 +50,27 @@ fn leads_on(base: Option<Base>) -> bool
     }
 }
 
-/// A type statement that is on a circle. Where a way on from it is as long as `most` steps, no memory is
-/// enough to tell.
-pub fn note_circle<'a>(
+/// Whether it is found that a type statement leads to no circle, where no way on from it is as long as
+/// `most` steps. True always where the typedefs end at a text, a number or the like.
+pub fn does_end<'a>(
+    alloc: Global,
+    names: &Names<'a>,
+    most: u64,
+    number: usize,
+    statement: &'a Statement,
+) -> Result<bool, Memory>
+    ensures { IfOk result (λ end. IsTrue end
+        → ¬ IsOnCircle names.now (number, declaration statement.now)) }
+{
+    if !leads_on(names.base_of(number, &statement.argument)) {
+        return Ok(true);
+    }
+    do_all_end(alloc, names, most, Place { number, statement })
+}
+
+/// A type statement of a module that lies on a circle of typedefs and leafrefs, through unions too. Where
+/// no way on from it is as long as `most` steps, that takes a walk over these ways alone.
+pub fn note_if_circle<'a>(
     alloc: Global,
     least: &mut Option<Fault>,
     names: &Names<'a>,
@@ -60,16 +79,13 @@ pub fn note_circle<'a>(
     number: usize,
     statement: &'a Statement,
 ) -> Result<(), Memory>
-    ensures { OnOk result ((is_on_circle : Placed → Bool) → DecidesCircles names.now is_on_circle
-        → least.new ≡ least_of least.old
+    ensures { IfOk result (λ _. (is_on_circle : Placed → Bool)
+        → DecidesCircles names.now is_on_circle → least.new ≡ least_of least.old
         (circle is_on_circle file number (declaration statement.now))) }
 {
-    if !leads_on(names.base_of(number, &statement.argument)) {
+    if does_end(alloc, names, most, number, statement)? {
         return Ok(());
     }
-    if do_all_end(alloc, names, most, Place { number, statement })? {
-        Ok(())
-    } else {
-        Err(Memory)
-    }
+    note_circle(alloc, least, names, file, number, statement)?;
+    Ok(())
 }
