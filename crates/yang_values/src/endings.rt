@@ -65,7 +65,8 @@ pub fn does_end<'a>(
     if !leads_on(names.base_of(number, &statement.argument)) {
         return Ok(true);
     }
-    do_all_end(alloc, names, most, Place { number, statement })
+    let end = do_all_end(alloc, names, most, Place { number, statement })?;
+    Ok(end)
 }
 
 /// A type statement of a module that lies on a circle of typedefs and leafrefs, through unions too. Where
