@@ -14,7 +14,7 @@ use host_core::Memory;
 use std::alloc::Global;
 use yang_scope::Fault;
 use yang_text::Statement;
-use yang_values::{note_bad_default, note_circle, type_value};
+use yang_values::{does_end, note_bad_default, type_value};
 
 /// A default, by the type statement beside it. Where that leads to a circle, the answer is Memory.
 fn note_default_of(
@@ -29,8 +29,9 @@ fn note_default_of(
         (Some (declaration default.now))
         (Some (declaration ty.now)))) }
 {
-    let mut circle = None;
-    note_circle(alloc, &mut circle, scope.names, scope.most, scope.file, scope.number, ty)?;
+    if !does_end(alloc, scope.names, scope.most, scope.number, ty)? {
+        return Err(Memory);
+    }
     let value = type_value(alloc, scope.names, scope.number, ty)?;
     note_bad_default(least, &value, scope.file, default);
     Ok(())

@@ -17,7 +17,7 @@ use yang_scope::{
     Base, Fault, Meaning, Names, note_bad_patterns, note_unknown_type, note_wrong_paths,
 };
 use yang_text::Statement;
-use yang_values::{note_bad_bounds, note_circle};
+use yang_values::{note_bad_bounds, note_if_circle};
 
 /// A module by its number, in the file that has it, among the names of all modules.
 #[derive(Clone, Copy)]
@@ -134,7 +134,7 @@ impl<'n, 'a> ModuleScope<'n, 'a> {
             all_type_faults self.now.names.now tests self.now.file self.now.number kind
             (declaration statement.now))) }
     {
-        note_circle(alloc, least, self.names, self.most, self.file, self.number, statement)?;
+        note_if_circle(alloc, least, self.names, self.most, self.file, self.number, statement)?;
         self.note_type_alone(alloc, least, kind, statement)?;
         Ok(())
     }

@@ -1,10 +1,12 @@
 pub mod Based
 pub mod Chains
-pub mod Endings
+pub mod Ends
 pub mod Given
 pub mod Holding
 pub mod Narrow
 pub mod Places
+pub mod Reached
+pub mod Alike
 pub mod Taken
 pub mod Visits
 pub mod Without

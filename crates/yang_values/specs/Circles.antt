@@ -15,9 +15,13 @@ LeadsIn modules zero p q = p ≡ q
 LeadsIn modules (suc steps) p q =
     (r : Placed) × Contains (next modules p) r × LeadsIn modules steps r q
 
+-- in one or more
+abbrev pub IsReached : List Module → Placed → Placed → Type 0
+IsReached modules p q = (steps : ℕ) × LeadsIn modules (suc steps) p q
+
 -- it leads to itself
 abbrev pub IsOnCircle : List Module → Placed → Type 0
-IsOnCircle modules p = (steps : ℕ) × LeadsIn modules (suc steps) p p
+IsOnCircle modules p = IsReached modules p p
 
 -- a test that tells the statements on a circle from the others
 pub record DecidesCircles (modules : List Module) (is_on_circle : Placed → Bool) : Type 0 where

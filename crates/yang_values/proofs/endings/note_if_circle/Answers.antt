@@ -7,9 +7,7 @@ use Rattle.yang_scope.specs.Modules.{Module}
 use Rattle.yang_scope.specs.Paths.{Placed}
 use Rattle.yang_scope.specs.declared.faults.Fault.{Fault}
 use Rattle.yang_values.specs.Circles.{IsOnCircle, DecidesCircles, circle}
-use Rattle.yang_values.proofs.Based.{leads_nowhere}
-use Rattle.yang_values.proofs.Endings.{off_circle}
-use Rattle.yang_values.proofs.circles.note_circle.Goals as goal
+use Rattle.yang_values.proofs.endings.note_if_circle.Goals as goal
 
 is_off : (b : Bool) (P : Type 0) → (IsTrue b ↔ P) → (P → ⊥) → b ≡ false
 is_off true P decides off = absurd (off (decides.0 refl))
@@ -24,10 +22,4 @@ none modules is_on_circle decides least file m d off =
 pub returns-then-branch : goal.returns-then-branch
 returns-then-branch c = λ is_on_circle decides.
     none c.args.names.now is_on_circle decides c.args.least.now c.args.file c.args.number (declaration c.args.statement.now)
-    (off_circle c.args.names.now c.args.most (c.args.number, declaration c.args.statement.now) (c.in_ok-do_all_end.ensures c.if-branch.true))
-
-pub returns-then-not-leads_on : goal.returns-then-not-leads_on
-returns-then-not-leads_on c = λ is_on_circle decides.
-    let d = declaration c.args.statement.now in
-    none c.args.names.now is_on_circle decides c.args.least.now c.args.file c.args.number d
-    (leads_nowhere c.args.names.now c.args.number d c.base_of.result c.base_of.ensures (sym c.if-not-leads_on.ensures))
+    (c.in_ok-does_end.ensures c.if-branch.true)

@@ -5,8 +5,8 @@ use Rattle.yang_values.specs.Endings.{EndsIn}
 use Rattle.yang_values.specs.Walks.{placed}
 use Rattle.yang_values.specs.declared.walks.Place.{Place}
 use Rattle.yang_values.specs.declared.walks.Step.{Step}
-use Rattle.yang_values.proofs.Endings.{ends_more}
-use Rattle.yang_values.proofs.circles.do_all_end.Goals as goal
+use Rattle.yang_values.proofs.Ends.{ends_more}
+use Rattle.yang_values.proofs.endings.do_all_end.Goals as goal
 
 pub loop-round-preserved : goal.loop-round-preserved
 loop-round-preserved c = λ all.
