@@ -55,11 +55,7 @@ fn push_new<'a>(places: &mut Vec<Place<'a>>, others: &[Place<'a>]) -> Result<(),
 }
 
 /// All that a type statement leads to.
-fn reached<'a>(
-    alloc: Global,
-    names: &Names<'a>,
-    place: Place<'a>,
-) -> Result<Vec<Place<'a>>, Memory>
+fn reached<'a>(alloc: Global, names: &Names<'a>, place: Place<'a>) -> Result<Vec<Place<'a>>, Memory>
     ensures { IfOk result
         (λ places. AreReached names.now (placed place.entry) (map placed places.items)) }
 {
@@ -75,11 +71,7 @@ fn reached<'a>(
 }
 
 /// Whether a type statement leads to itself.
-fn is_on_circle<'a>(
-    alloc: Global,
-    names: &Names<'a>,
-    place: Place<'a>,
-) -> Result<bool, Memory>
+fn is_on_circle<'a>(alloc: Global, names: &Names<'a>, place: Place<'a>) -> Result<bool, Memory>
     ensures { IfOk result (λ found. IsTrue found ↔ IsOnCircle names.now (placed place.entry)) }
 {
     let places = reached(alloc, names, place)?;
