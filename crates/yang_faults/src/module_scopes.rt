@@ -134,7 +134,15 @@ impl<'n, 'a> ModuleScope<'n, 'a> {
             all_type_faults self.now.names.now tests self.now.file self.now.number kind
             (declaration statement.now))) }
     {
-        note_if_circle(alloc, least, self.names, self.most, self.file, self.number, statement)?;
+        note_if_circle(
+            alloc,
+            least,
+            self.names,
+            self.most,
+            self.file,
+            self.number,
+            statement,
+        )?;
         self.note_type_alone(alloc, least, kind, statement)?;
         Ok(())
     }
@@ -176,12 +184,8 @@ impl<'n, 'a> Scope for ModuleScope<'n, 'a> {
             | Kind::LeafrefType
             | Kind::UnionType
             | Kind::PlainType => self.note_type(alloc, least, kind, statement),
-            Kind::TableList => {
-                note_list_defaults(alloc, least, self, statement)
-            }
-            Kind::FixedContainer => {
-                note_fixed_defaults(alloc, least, self, statement)
-            }
+            Kind::TableList => { note_list_defaults(alloc, least, self, statement) }
+            Kind::FixedContainer => { note_fixed_defaults(alloc, least, self, statement) }
             _ => Ok(()),
         }
     }

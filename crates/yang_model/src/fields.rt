@@ -29,12 +29,7 @@ pub(crate) fn name_of(alloc: Global, statement: &Statement) -> Result<Txt, Memor
 }
 
 /// The type that a type statement of a module says.
-fn type_of(
-    alloc: Global,
-    names: &Names,
-    number: usize,
-    statement: &Statement,
-) -> Result<Ty, Memory>
+fn type_of(alloc: Global, names: &Names, number: usize, statement: &Statement) -> Result<Ty, Memory>
     ensures { IfOk result (λ ty. Gives ty (λ readers.
         type_of names.now readers number (declaration statement.now))) }
 {
