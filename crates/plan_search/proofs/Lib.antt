@@ -1,0 +1,4 @@
+pub mod Kept
+pub mod Members
+pub mod Takings
+pub mod Trails

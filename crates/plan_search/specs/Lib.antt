@@ -1,0 +1,6 @@
+-- what public clauses cite
+pub mod Counting
+-- what only private clauses cite
+pub mod Problems
+pub mod Searching
+pub mod Stacks

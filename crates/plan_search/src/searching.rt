@@ -1,0 +1,109 @@
+//! The search: depth first over the lists of moves, with no configuration expanded twice.
+ghost use Rattle.std.specs.Prelude.{◌≡◌, ◌≢◌, ℕ, ◌+◌, ◌<◌, ◌≤◌, [], ◌∷◌, ◌++◌, length, IfOk, OnOk, MatchOption};
+ghost use Rattle.std.specs.Result.{IsErrOf};
+ghost use Rattle.std.specs.List.{Contains};
+ghost use Rattle.move_core.specs.Ways.{AreAtLeast};
+ghost use Rattle.plan_search.specs.Problems.{IsRoute, CanReach, CanReachBeside};
+ghost use Rattle.plan_search.specs.Searching.{AreMet, IsEntered, IsFound, IsTrying, IsUnderWay};
+ghost use Rattle.plan_search.specs.Stacks.{spots, taken};
+
+use crate::SearchError;
+use crate::Steps;
+use crate::expanding::Expanding;
+use crate::stacks::Stack;
+use conf_doc::Config;
+use host_core::{Memory, Sequence};
+use indexmap::IndexSet;
+use move_core::{Move, Plan};
+use std::alloc::Global;
+use std::sync::ledger::Ledger;
+
+/// What the moves that are left lead to.
+#[derive(Drop)]
+enum Found {
+    /// A move leads to goal.
+    Goal(Move),
+    /// A move leads to a configuration that wasn't met.
+    New(Move, Config),
+    /// No move is left.
+    Nothing,
+}
+
+/// What a move at the stack's last configuration leads to, or None where it leads nowhere new.
+fn try_one<S: Expanding>(
+    alloc: Global,
+    source: &S,
+    kit: &mut S::Kit,
+    met: &IndexSet<Config>,
+    stack: &Stack,
+    mv: Move,
+) -> Result<Option<Found>, Memory>
+    requires ready { S.is_ready source.now kit.old }
+    requires trying { IsTrying (S.problem source.now) met.now.keys (spots stack.now) (taken stack.now) mv }
+    ensures ready { S.is_ready source.now kit.new }
+    ensures found { IfOk result (λ found. MatchOption found
+        (IsUnderWay (S.problem source.now) met.now.keys met.now.keys (spots stack.now) (taken stack.now))
+        (IsFound (S.problem source.now) met.now.keys (spots stack.now) (taken stack.now))) }
+{
+    match source.try_move(alloc, kit, stack.top(), &mv)? {
+        None => Ok(None),
+        Some(next) => {
+            if next.same(source.goal()) {
+                Ok(Some(Found::Goal(mv)))
+            } else if met.contains(&next) {
+                Ok(None)
+            } else {
+                Ok(Some(Found::New(mv, next)))
+            }
+        }
+    }
+}
+
+/// Takes moves until one leads to goal or to a configuration that wasn't met.
+fn find_new<S: Expanding>(
+    alloc: Global,
+    source: &S,
+    kit: &mut S::Kit,
+    met: &IndexSet<Config>,
+    stack: &mut Stack,
+) -> Result<Found, Memory>
+    requires ready { S.is_ready source.now kit.old }
+    requires way { IsUnderWay (S.problem source.now) met.now.keys met.now.keys
+        (spots stack.old) (taken stack.old) }
+    ensures ready { S.is_ready source.now kit.new }
+    ensures found { IfOk result
+        (IsFound (S.problem source.now) met.now.keys (spots stack.new) (taken stack.new)) }
+{
+    while let Some(mv) = stack.take() {
+        if let Some(found) = try_one(alloc, source, kit, met, stack, mv)? {
+            return Ok(found);
+        }
+    }
+    Ok(Found::Nothing)
+}
+
+/// Expands a configuration that wasn't met.
+fn enter<S: Expanding, L: Ledger>(
+    alloc: Global,
+    source: &S,
+    kit: &mut S::Kit,
+    met: &mut IndexSet<Config>,
+    stack: &mut Stack,
+    next: Config,
+    steps: &mut Steps<L>,
+) -> Result<(), Memory>
+    requires ready { S.is_ready source.now kit.old }
+    requires fit { (S.problem source.now).IsFit next }
+    requires new { ¬ Contains met.old.keys next }
+    ensures ready { S.is_ready source.now kit.new }
+    ensures met { OnOk result (met.new.keys ≡ met.old.keys ++ next ∷ []) }
+    ensures entered { OnOk result
+        (IsEntered (S.problem source.now) (spots stack.old) (spots stack.new) next) }
+    ensures taken { taken stack.new ≡ taken stack.old }
+    ensures steps { steps.new ≡ steps.old + 1 }
+{
+    steps.tick();
+    let moves = source.list(alloc, kit, &next)?;
+    met.insert(next.copy(alloc)?)?;
+    stack.push(next, moves)
+}
