@@ -29,27 +29,26 @@ module _ {A : Type 0} where
           of (inr e) = inl e
 
   -- a list with a member is what stands before it, the member, and what stands after it
-  pub split_at_member : (ys : List A) (x : A) → Contains ys x → (as : List A) × (bs : List A) × (ys ≡ as ++ x ∷ bs)
+  pub split_at_member : (ys : List A) (x : A) → Contains ys x → (before : List A) × (after : List A) × (ys ≡ before ++ x ∷ after)
   split_at_member [] x h = absurd (no_member x h)
-  split_at_member (y ∷ ys) x h = by (member_cases y ys x h)
+  split_at_member (y ∷ ys) x h = by (split_at_member ys x) (member_cases y ys x h)
     where
-      by : (y ≡ x) ⊎ Contains ys x → (as : List A) × (bs : List A) × (y ∷ ys ≡ as ++ x ∷ bs)
-      by (inl e) = ([], ys, ap (λ z. z ∷ ys) e)
-      by (inr r) =
-          let s = split_at_member ys x r in
-          (y ∷ s.0, s.1, ap (λ zs. y ∷ zs) s.2)
+      by : (Contains ys x → (before : List A) × (after : List A) × (ys ≡ before ++ x ∷ after))
+          → (y ≡ x) ⊎ Contains ys x → (before : List A) × (after : List A) × (y ∷ ys ≡ before ++ x ∷ after)
+      by rest (inl e) = ([], ys, ap (λ z. z ∷ ys) e)
+      by rest (inr r) = let s = rest r in (y ∷ s.0, s.1, ap (λ zs. y ∷ zs) s.2)
 
   -- another member stays when one is left out
-  other_member : (as bs : List A) (x z : A) → x ≢ z → Contains (as ++ x ∷ bs) z → Contains (as ++ bs) z
-  other_member as bs x z ne h = by (Contains-append_cases as (x ∷ bs) z h)
+  other_member : (before after : List A) (x z : A) → x ≢ z → Contains (before ++ x ∷ after) z → Contains (before ++ after) z
+  other_member before after x z ne h = by (Contains-append_cases before (x ∷ after) z h)
     where
-      by : Contains as z ⊎ Contains (x ∷ bs) z → Contains (as ++ bs) z
-      by (inl l) = Contains-append_left as bs z l
-      by (inr r) = of (member_cases x bs z r)
+      by : Contains before z ⊎ Contains (x ∷ after) z → Contains (before ++ after) z
+      by (inl l) = Contains-append_left before after z l
+      by (inr r) = of (member_cases x after z r)
         where
-          of : (x ≡ z) ⊎ Contains bs z → Contains (as ++ bs) z
+          of : (x ≡ z) ⊎ Contains after z → Contains (before ++ after) z
           of (inl e) = absurd (ne e)
-          of (inr t) = Contains-append_right as bs z t
+          of (inr t) = Contains-append_right before after z t
 
   -- distinct members of a list are no more than it has
   pub distinct_fit : (xs ys : List A) → AllPairs (λ a b. a ≢ b) xs

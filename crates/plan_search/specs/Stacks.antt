@@ -23,6 +23,11 @@ spots s = map spot (reverse s.frames.items)
 abbrev pub taken : Stack → List Move
 taken s = reverse s.moves.items
 
+-- all but the first
+abbrev pub but_first : {X : Type 0} → List X → List X
+but_first [] = []
+but_first (x ∷ xs) = xs
+
 -- the stack's last configuration is this one
 abbrev pub IsTop : List Spot → Config → Type 0
 IsTop [] c = ⊥
@@ -44,11 +49,6 @@ weight (s ∷ ss) = length s.rest + weight ss
 abbrev pub Taking : Type 0
 Taking = Move × List Spot × List Move
 
--- all but the first
-abbrev pub but_first : List Move → List Move
-but_first [] = []
-but_first (m ∷ ms) = ms
-
 -- the first move of a list, where there is one, is taken from its configuration; else another taking
 abbrev pub take_from : Config → List Spot → List Move → Option Taking → List Move → Option Taking
 take_from c ss ms other [] = other
@@ -58,3 +58,10 @@ take_from c ss ms other (m ∷ rest) = Some (m, record { config = c; rest = rest
 abbrev pub take_next : List Spot → List Move → Option Taking
 take_next [] ms = None
 take_next (s ∷ ss) ms = take_from s.config ss ms (take_next ss (but_first ms)) s.rest
+
+-- the next move of the last configuration was taken, or it has none left
+abbrev pub IsAfterTop : List Spot → List Spot → Option Move → Type 0
+IsAfterTop [] new r = ⊥
+IsAfterTop (s ∷ ss) new None = (s.rest ≡ []) × (new ≡ s ∷ ss)
+IsAfterTop (s ∷ ss) new (Some m) =
+    (rest : List Move) × (s.rest ≡ m ∷ rest) × (new ≡ record { config = s.config; rest = rest } ∷ ss)

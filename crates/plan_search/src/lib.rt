@@ -3,6 +3,7 @@
 
 mod errors;
 mod expanding;
+mod met_set;
 mod searching;
 mod stacks;
 mod steps;

@@ -1,19 +1,17 @@
 //! The search: depth first over the lists of moves, with no configuration expanded twice.
-ghost use Rattle.std.specs.Prelude.{◌≡◌, ◌≢◌, ℕ, ◌+◌, ◌<◌, ◌≤◌, [], ◌∷◌, ◌++◌, length, IfOk, OnOk, MatchOption};
-ghost use Rattle.std.specs.Result.{IsErrOf};
+ghost use Rattle.std.specs.Prelude.{◌≡◌, ◌+◌, ◌<◌, [], ◌∷◌, ◌++◌, length, IfOk, OnOk, MatchOption};
 ghost use Rattle.std.specs.List.{Contains};
-ghost use Rattle.move_core.specs.Ways.{AreAtLeast};
-ghost use Rattle.plan_search.specs.Problems.{IsRoute, CanReach, CanReachBeside};
+ghost use Rattle.plan_search.specs.Answers.{IsAnswer};
 ghost use Rattle.plan_search.specs.Searching.{AreMet, IsEntered, IsFound, IsTrying, IsUnderWay};
 ghost use Rattle.plan_search.specs.Stacks.{spots, taken};
 
 use crate::SearchError;
 use crate::Steps;
 use crate::expanding::Expanding;
+use crate::met_set::Met;
 use crate::stacks::Stack;
 use conf_doc::Config;
 use host_core::{Memory, Sequence};
-use indexmap::IndexSet;
 use move_core::{Move, Plan};
 use std::alloc::Global;
 use std::sync::ledger::Ledger;
@@ -34,16 +32,16 @@ fn try_one<S: Expanding>(
     alloc: Global,
     source: &S,
     kit: &mut S::Kit,
-    met: &IndexSet<Config>,
+    met: &Met,
     stack: &Stack,
     mv: Move,
 ) -> Result<Option<Found>, Memory>
     requires ready { S.is_ready source.now kit.old }
-    requires trying { IsTrying (S.problem source.now) met.now.keys (spots stack.now) (taken stack.now) mv }
+    requires trying { IsTrying (S.problem source.now) met.now (spots stack.now) (taken stack.now) mv }
     ensures ready { S.is_ready source.now kit.new }
     ensures found { IfOk result (λ found. MatchOption found
-        (IsUnderWay (S.problem source.now) met.now.keys met.now.keys (spots stack.now) (taken stack.now))
-        (IsFound (S.problem source.now) met.now.keys (spots stack.now) (taken stack.now))) }
+        (IsUnderWay (S.problem source.now) met.now met.now (spots stack.now) (taken stack.now))
+        (IsFound (S.problem source.now) met.now (spots stack.now) (taken stack.now))) }
 {
     match source.try_move(alloc, kit, stack.top(), &mv)? {
         None => Ok(None),
@@ -64,15 +62,15 @@ fn find_new<S: Expanding>(
     alloc: Global,
     source: &S,
     kit: &mut S::Kit,
-    met: &IndexSet<Config>,
+    met: &Met,
     stack: &mut Stack,
 ) -> Result<Found, Memory>
     requires ready { S.is_ready source.now kit.old }
-    requires way { IsUnderWay (S.problem source.now) met.now.keys met.now.keys
+    requires way { IsUnderWay (S.problem source.now) met.now met.now
         (spots stack.old) (taken stack.old) }
     ensures ready { S.is_ready source.now kit.new }
     ensures found { IfOk result
-        (IsFound (S.problem source.now) met.now.keys (spots stack.new) (taken stack.new)) }
+        (IsFound (S.problem source.now) met.now (spots stack.new) (taken stack.new)) }
 {
     while let Some(mv) = stack.take() {
         if let Some(found) = try_one(alloc, source, kit, met, stack, mv)? {
@@ -87,16 +85,16 @@ fn enter<S: Expanding, L: Ledger>(
     alloc: Global,
     source: &S,
     kit: &mut S::Kit,
-    met: &mut IndexSet<Config>,
+    met: &mut Met,
     stack: &mut Stack,
     next: Config,
     steps: &mut Steps<L>,
 ) -> Result<(), Memory>
     requires ready { S.is_ready source.now kit.old }
     requires fit { (S.problem source.now).IsFit next }
-    requires new { ¬ Contains met.old.keys next }
+    requires new { ¬ Contains met.old next }
     ensures ready { S.is_ready source.now kit.new }
-    ensures met { OnOk result (met.new.keys ≡ met.old.keys ++ next ∷ []) }
+    ensures met { OnOk result (met.new ≡ met.old ++ next ∷ []) }
     ensures entered { OnOk result
         (IsEntered (S.problem source.now) (spots stack.old) (spots stack.new) next) }
     ensures taken { taken stack.new ≡ taken stack.old }
@@ -104,6 +102,70 @@ fn enter<S: Expanding, L: Ledger>(
 {
     steps.tick();
     let moves = source.list(alloc, kit, &next)?;
-    met.insert(next.copy(alloc)?)?;
+    met.push(next.copy(alloc)?)?;
     stack.push(next, moves)
+}
+
+/// Goes on from what was met until there is an answer.
+fn go_on<S: Expanding, L: Ledger>(
+    alloc: Global,
+    source: &S,
+    kit: &mut S::Kit,
+    budget: u32,
+    met: Met,
+    stack: Stack,
+    steps: &mut Steps<L>,
+) -> Result<Plan, SearchError>
+    requires ready { S.is_ready source.now kit.old }
+    requires met { AreMet (S.problem source.now) met }
+    requires way { IsUnderWay (S.problem source.now) met met
+        (spots stack) (taken stack) }
+    requires below { length met < budget }
+    ensures ready { S.is_ready source.now kit.new }
+    ensures answer { IsAnswer (S.problem source.now) budget result }
+    ensures steps { steps.new + length met < steps.old + budget }
+{
+    let mut met = met;
+    let mut stack = stack;
+    loop {
+        match find_new(alloc, source, kit, &met, &mut stack)? {
+            Found::Nothing => return Err(SearchError::Unorderable),
+            Found::Goal(mv) => return Ok(stack.into_plan(mv)?),
+            Found::New(mv, next) => {
+                if met.len() + 1 == budget as usize {
+                    return Err(SearchError::Budget(budget));
+                }
+                enter(alloc, source, kit, &mut met, &mut stack, next, steps)?;
+                stack.follow(mv)?;
+            }
+        }
+    }
+}
+
+/// A list of allowed moves from start to goal.
+pub(crate) fn find_plan<S: Expanding, L: Ledger>(
+    alloc: Global,
+    source: &S,
+    kit: &mut S::Kit,
+    budget: u32,
+    steps: &mut Steps<L>,
+) -> Result<Plan, SearchError>
+    requires ready { S.is_ready source.now kit.old }
+    requires fit { (S.problem source.now).IsFit (S.problem source.now).start }
+    requires budget { 0 < budget }
+    ensures ready { S.is_ready source.now kit.new }
+    ensures answer { IsAnswer (S.problem source.now) budget result }
+    ensures steps { steps.new < steps.old + budget }
+{
+    if source.start().same(source.goal()) {
+        return Ok(Sequence::new(alloc));
+    }
+    if budget == 1 {
+        return Err(SearchError::Budget(budget));
+    }
+    let mut met = Met::new(alloc);
+    let mut stack = Stack::new(alloc);
+    let start = source.start().copy(alloc)?;
+    enter(alloc, source, kit, &mut met, &mut stack, start, steps)?;
+    go_on(alloc, source, kit, budget, met, stack, steps)
 }

@@ -1,8 +1,8 @@
 //! The stack of a search: the configurations on the way to the last one, each with the moves that are
 //! left to try there, and the moves that were taken between them.
-ghost use Rattle.std.specs.Prelude.{◌≡◌, ◌<◌, [], ◌∷◌, reverse, length, IfOk, OnOk};
+ghost use Rattle.std.specs.Prelude.{◌≡◌, ◌<◌, ◌-◌, [], ◌∷◌, reverse, length, IfOk, OnOk};
 ghost use Rattle.std.specs.Option.{option_map};
-ghost use Rattle.plan_search.specs.Stacks.{IsTop, spots, taken, take_next};
+ghost use Rattle.plan_search.specs.Stacks.{IsAfterTop, IsTop, but_first, spots, taken, take_next};
 
 use conf_doc::Config;
 use host_core::{Memory, Sequence};
@@ -73,15 +73,27 @@ impl Stack {
             if let Some(mv) = self.take_at_top() {
                 return Some(mv);
             }
-            self.frames.pop();
-            self.moves.pop();
+            self.drop_top();
         }
         None
     }
 
+    /// Drops the last configuration and the move that led to it.
+    fn drop_top(&mut self)
+        ensures spots { spots self.new ≡ but_first (spots self.old) }
+        ensures taken { taken self.new ≡ but_first (taken self.old) }
+        ensures len { length self.new.frames.items ≡ length self.old.frames.items - 1 }
+    {
+        self.frames.pop();
+        self.moves.pop();
+    }
+
     /// Takes the next move of the last configuration.
     fn take_at_top(&mut self) -> Option<Move>
-        requires { 0 < length (spots self.old) }
+        requires { 0 < length self.old.frames.items }
+        ensures spots { IsAfterTop (spots self.old) (spots self.new) result }
+        ensures taken { taken self.new ≡ taken self.old }
+        ensures len { length self.new.frames.items ≡ length self.old.frames.items }
     {
         let last = self.frames.len() - 1;
         self.frames[last].rest.pop()
@@ -91,7 +103,8 @@ impl Stack {
     pub(crate) fn into_plan(self, last: Move) -> Result<Plan, Memory>
         ensures { IfOk result (λ plan. plan ≡ reverse (last ∷ taken self)) }
     {
-        let Stack { frames: _, moves } = self;
+        let Stack { frames, moves } = self;
+        drop(frames);
         let mut moves = moves;
         moves.push(last)?;
         Ok(Sequence::from_vec(moves))

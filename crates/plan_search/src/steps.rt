@@ -1,5 +1,5 @@
 //! The counter of a search's steps.
-ghost use Rattle.std.specs.Prelude.{◌≡◌, ℕ, ◌+◌, min};
+ghost use Rattle.std.specs.Prelude.{◌≡◌, ◌+◌, ◌<◌, min};
 ghost use Rattle.plan_search.specs.Counting.{largest_count};
 
 use std::marker::Model;
