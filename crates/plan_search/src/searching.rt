@@ -107,6 +107,7 @@ fn enter<S: Expanding, L: Ledger>(
 }
 
 /// Goes on from what was met until there is an answer.
+#[tactic(none)]
 fn go_on<S: Expanding, L: Ledger>(
     alloc: Global,
     source: &S,
@@ -143,6 +144,7 @@ fn go_on<S: Expanding, L: Ledger>(
 }
 
 /// A list of allowed moves from start to goal.
+#[tactic(none)]
 pub(crate) fn find_plan<S: Expanding, L: Ledger>(
     alloc: Global,
     source: &S,
