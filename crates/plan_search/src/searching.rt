@@ -1,8 +1,8 @@
 //! The search: depth first over the lists of moves, with no configuration expanded twice.
-ghost use Rattle.std.specs.Prelude.{◌≡◌, ◌+◌, ◌<◌, [], ◌∷◌, ◌++◌, length, IfOk, OnOk, MatchOption};
+ghost use Rattle.std.specs.Prelude.{◌≡◌, ◌+◌, ◌<◌, [], ◌∷◌, ◌++◌, length, reverse, Err, IfErr, IfOk, OnOk, MatchOption, MatchResult};
 ghost use Rattle.std.specs.List.{Contains};
 ghost use Rattle.plan_search.specs.Answers.{IsAnswer};
-ghost use Rattle.plan_search.specs.Searching.{AreMet, IsEntered, IsFound, IsTrying, IsUnderWay};
+ghost use Rattle.plan_search.specs.Searching.{AreMet, IsEntered, IsFound, IsTrying, IsUnderWay, LeadsToNew};
 ghost use Rattle.plan_search.specs.Stacks.{spots, taken};
 
 use crate::SearchError;
@@ -106,8 +106,46 @@ fn enter<S: Expanding, L: Ledger>(
     stack.push(next, moves)
 }
 
+/// Meets a configuration: it is expanded, unless the budget is met with it.
+fn meet<S: Expanding, L: Ledger>(
+    alloc: Global,
+    source: &S,
+    kit: &mut S::Kit,
+    budget: u32,
+    met: &mut Met,
+    stack: &mut Stack,
+    mv: Move,
+    next: Config,
+    steps: &mut Steps<L>,
+) -> Result<(), SearchError>
+    requires ready { S.is_ready source.now kit.old }
+    requires met { AreMet (S.problem source.now) met.old }
+    requires leads { LeadsToNew (S.problem source.now) met.old (spots stack.old) (taken stack.old) mv next }
+    requires below { length met.old < budget }
+    ensures ready { S.is_ready source.now kit.new }
+    ensures met { OnOk result (AreMet (S.problem source.now) met.new) }
+    ensures way { OnOk result (IsUnderWay (S.problem source.now) met.new met.new
+        (spots stack.new) (taken stack.new)) }
+    ensures more { OnOk result (length met.new ≡ length met.old + 1) }
+    ensures below { OnOk result (length met.new < budget) }
+    ensures steps { OnOk result (steps.new ≡ steps.old + 1) }
+    ensures err { IfErr result (λ e. IsAnswer (S.problem source.now) budget (Err e)) }
+    ensures cost { steps.new + length met.old < steps.old + budget }
+{
+    if met.len() + 1 == budget as usize {
+        return Err(SearchError::Budget(budget));
+    }
+    match stack.follow(mv) {
+        Ok(()) => {}
+        Err(_) => return Err(SearchError::Memory),
+    }
+    match enter(alloc, source, kit, met, stack, next, steps) {
+        Ok(()) => Ok(()),
+        Err(_) => Err(SearchError::Memory),
+    }
+}
+
 /// Goes on from what was met until there is an answer.
-#[tactic(none)]
 fn go_on<S: Expanding, L: Ledger>(
     alloc: Global,
     source: &S,
@@ -119,8 +157,7 @@ fn go_on<S: Expanding, L: Ledger>(
 ) -> Result<Plan, SearchError>
     requires ready { S.is_ready source.now kit.old }
     requires met { AreMet (S.problem source.now) met }
-    requires way { IsUnderWay (S.problem source.now) met met
-        (spots stack) (taken stack) }
+    requires way { IsUnderWay (S.problem source.now) met met (spots stack) (taken stack) }
     requires below { length met < budget }
     ensures ready { S.is_ready source.now kit.new }
     ensures answer { IsAnswer (S.problem source.now) budget result }
@@ -129,22 +166,31 @@ fn go_on<S: Expanding, L: Ledger>(
     let mut met = met;
     let mut stack = stack;
     loop {
-        match find_new(alloc, source, kit, &met, &mut stack)? {
-            Found::Nothing => return Err(SearchError::Unorderable),
-            Found::Goal(mv) => return Ok(stack.into_plan(mv)?),
-            Found::New(mv, next) => {
-                if met.len() + 1 == budget as usize {
-                    return Err(SearchError::Budget(budget));
+        match find_new(alloc, source, kit, &met, &mut stack) {
+            Err(_) => return Err(SearchError::Memory),
+            Ok(Found::Nothing) => return Err(SearchError::Unorderable),
+            Ok(Found::Goal(mv)) => return whole(stack, mv),
+            Ok(Found::New(mv, next)) => {
+                match meet(alloc, source, kit, budget, &mut met, &mut stack, mv, next, steps) {
+                    Ok(()) => {}
+                    Err(error) => return Err(error),
                 }
-                enter(alloc, source, kit, &mut met, &mut stack, next, steps)?;
-                stack.follow(mv)?;
             }
         }
     }
 }
 
+/// The moves that were taken, and one more.
+fn whole(stack: Stack, last: Move) -> Result<Plan, SearchError>
+    ensures { MatchResult result (λ plan. plan ≡ reverse (last ∷ taken stack)) (λ e. e ≡ SearchError.Memory) }
+{
+    match stack.into_plan(last) {
+        Ok(plan) => Ok(plan),
+        Err(_) => Err(SearchError::Memory),
+    }
+}
+
 /// A list of allowed moves from start to goal.
-#[tactic(none)]
 pub(crate) fn find_plan<S: Expanding, L: Ledger>(
     alloc: Global,
     source: &S,
@@ -167,7 +213,12 @@ pub(crate) fn find_plan<S: Expanding, L: Ledger>(
     }
     let mut met = Met::new(alloc);
     let mut stack = Stack::new(alloc);
-    let start = source.start().copy(alloc)?;
-    enter(alloc, source, kit, &mut met, &mut stack, start, steps)?;
-    go_on(alloc, source, kit, budget, met, stack, steps)
+    let start = match source.start().copy(alloc) {
+        Ok(start) => start,
+        Err(_) => return Err(SearchError::Memory),
+    };
+    match enter(alloc, source, kit, &mut met, &mut stack, start, steps) {
+        Ok(()) => go_on(alloc, source, kit, budget, met, stack, steps),
+        Err(_) => Err(SearchError::Memory),
+    }
 }
