@@ -1,7 +1,11 @@
 -- What a search keeps true, step by step.
-use Rattle.std.proofs.Common.{◌≡◌, ◌≢◌, ◌⊎◌, inl, inr, ℕ, ◌<◌, ◌≤◌, ◌+◌, List, [], ◌∷◌, ◌++◌, length, reverse, Option, None, Some, refl, sym, ap, subst, ◌∙◌, arith, length-append}
+use Rattle.std.proofs.Common.{Result, Ok, Err, MatchResult, ◌≡◌, ◌≢◌, ◌⊎◌, inl, inr, ℕ, ◌<◌, ◌≤◌, ◌+◌, List, [], ◌∷◌, ◌++◌, length, reverse, Option, None, Some, refl, sym, ap, subst, ◌∙◌, arith, length-append}
 use Rattle.std.specs.List.{All, AllPairs, Contains}
 use Rattle.std.proofs.lemmas.List.Elements.{Contains-append_left, Contains-get_or, Contains-push, Contains-push_cases, All-cons, All-push, All-contains, All-nil}
+use Rattle.std.proofs.lemmas.List.{length-reverse}
+use Rattle.plan_search.specs.Answers.{IsAnswer}
+use Rattle.plan_search.specs.declared.errors.SearchError.{SearchError}
+use Rattle.plan_search.specs.declared.errors.SearchError.TheVariants.{Unorderable, Budget, Memory}
 use Rattle.std.proofs.lemmas.List.Quantifiers.{all_pairs_push}
 use Rattle.conf_doc.specs.declared.configuration.Config.{Config}
 use Rattle.move_core.specs.Moves.{step}
@@ -225,3 +229,16 @@ module _ (p : Problem) where
   pub many_reachable : (met : List Config) (n : ℕ)
       → AreMet p met → length met ≡ n → AreAtLeast n (CanReachBeside p)
   many_reachable met n a len = (met, len, a.each, a.distinct)
+
+-- the whole plan, or want of memory, is an answer
+pub whole_answer : (p : Problem) (n : ℕ) (met : List Config) (ms : List Move) (mv : Move) (r : Result (List Move) SearchError)
+    → MatchResult r (λ plan. plan ≡ reverse (mv ∷ ms)) (λ e. e ≡ Memory)
+    → LeadsToGoal p met ms mv → length met < n → IsAnswer p n r
+whole_answer p n met ms mv (Ok plan) is goal below =
+    let len = ap length is in
+    let same = length-reverse (mv ∷ ms) in
+    let short = goal.short in
+    (subst (λ l. IsRoute p p.start l p.goal) (sym is) goal.route, omega (arith, len, same, short, below))
+whole_answer p n met ms mv (Err Unorderable) is goal below = absurd cc
+whole_answer p n met ms mv (Err (Budget b)) is goal below = absurd cc
+whole_answer p n met ms mv (Err Memory) is goal below = tt

@@ -146,6 +146,7 @@ fn meet<S: Expanding, L: Ledger>(
 }
 
 /// Goes on from what was met until there is an answer.
+#[tactic(none)]
 fn go_on<S: Expanding, L: Ledger>(
     alloc: Global,
     source: &S,
@@ -191,6 +192,7 @@ fn whole(stack: Stack, last: Move) -> Result<Plan, SearchError>
 }
 
 /// A list of allowed moves from start to goal.
+#[tactic(none)]
 pub(crate) fn find_plan<S: Expanding, L: Ledger>(
     alloc: Global,
     source: &S,
