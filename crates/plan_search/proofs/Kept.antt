@@ -101,7 +101,7 @@ module _ (p : Problem) where
       by d m allowed (inr h) =
           let at = same_top ss d c h.0 top in
           let allowed_there : p.IsAllowed c mv =
-              subst (p.IsAllowed c) h.1 (subst (λ x. p.IsAllowed x m) at allowed) in
+          subst (p.IsAllowed c) h.1 (subst (λ x. p.IsAllowed x m) at allowed) in
           inl (subst (Contains met) (sym (λ i. step (at i) (h.1 i))) (met_there allowed_there))
 
   pub leads_to_goal : (met : List Config) (ss : List Spot) (ms : List Move) (mv : Move) (c : Config)
@@ -221,8 +221,8 @@ module _ (p : Problem) where
       → AreMet p met → IsClosed p met → length met < n → ¬ AreAtLeast n (CanReach p)
   few_reachable met n a closed below many =
       let le = distinct_fit many.0 met many.3 (λ x h.
-          let way = All-contains (CanReach p) many.0 x many.2 h in
-          reached met p.start way.0 x closed a.first way.1) in
+      let way = All-contains (CanReach p) many.0 x many.2 h in
+      reached met p.start way.0 x closed a.first way.1) in
       let len = many.1 in
       absurd (omega (arith, le, len, below))
 

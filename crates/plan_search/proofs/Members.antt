@@ -57,9 +57,9 @@ module _ {A : Type 0} where
   distinct_fit (x ∷ xs) ys apart sub =
       let s = split_at_member ys x (sub x (first_member x xs)) in
       let rest : length xs ≤ length (s.0 ++ s.1) =
-          distinct_fit xs (s.0 ++ s.1) (λ i j d lt l. apart (suc i) (suc j) d (omega arith) (omega arith))
-          (λ z h. other_member s.0 s.1 x z (differs z h)
-          (subst (λ l. Contains l z) s.2 (sub z (later_member x xs z h)))) in
+      distinct_fit xs (s.0 ++ s.1) (λ i j d lt l. apart (suc i) (suc j) d (omega arith) (omega arith))
+      (λ z h. other_member s.0 s.1 x z (differs z h)
+      (subst (λ l. Contains l z) s.2 (sub z (later_member x xs z h)))) in
       let whole : length ys ≡ length (s.0 ++ x ∷ s.1) = ap length s.2 in
       let one = length-append s.0 (x ∷ s.1) in
       let two = length-append s.0 s.1 in

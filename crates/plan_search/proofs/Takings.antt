@@ -127,9 +127,10 @@ module _ (p : Problem) where
       → Takes ss ms t → AreAsked p ss → AreAsked p t.1 × IsAskedAtTop p t.1 t.0
   asked_taken [] ms t k a = absurd k
   asked_taken (s ∷ ss) ms t (inl here) a =
-      let l : All (p.IsListed s.config) (t.0 ∷ here.rest) = subst (All (p.IsListed s.config)) here.were a.0.1 in
-      (subst (AreAsked p) (sym here.spots) ((a.0.0, All-tail (p.IsListed s.config) t.0 here.rest l), a.1),
-      subst (λ x. IsAskedAtTop p x t.0) (sym here.spots) (a.0.0, All-head (p.IsListed s.config) t.0 here.rest l))
+      let l : All (p.IsListed s.config) (t.0 ∷ here.rest) = subst (All (p.IsListed s.config)) here.were a.0.1 in (
+        subst (AreAsked p) (sym here.spots) ((a.0.0, All-tail (p.IsListed s.config) t.0 here.rest l), a.1),
+        subst (λ x. IsAskedAtTop p x t.0) (sym here.spots) (a.0.0, All-head (p.IsListed s.config) t.0 here.rest l),
+      )
   asked_taken (s ∷ ss) ms t (inr k) a = asked_taken ss (but_first ms) t k.1 a.1
 
 -- ---- the last configuration
@@ -171,9 +172,10 @@ after_top : (f new : Frame) (ss : List Spot) (r : Option Move)
     → new.config ≡ f.config → f.rest.items ≡ new.rest.items ++ option_to_list r
     → (r ≡ None → new.rest.items ≡ []) → IsAfterTop (spot f ∷ ss) (spot new ∷ ss) r
 after_top f new ss None config items none =
-    let empty : f.rest.items ≡ [] = items ∙ ap (λ l. l ++ []) (none refl) in
-    (ap reverse empty,
-    ap (λ s. s ∷ ss) (spot_of f new config ∙ ap (λ l. record { config = f.config; rest = reverse l }) (none refl ∙ sym empty)))
+    let empty : f.rest.items ≡ [] = items ∙ ap (λ l. l ++ []) (none refl) in (
+      ap reverse empty,
+      ap (λ s. s ∷ ss) (spot_of f new config ∙ ap (λ l. record { config = f.config; rest = reverse l }) (none refl ∙ sym empty)),
+    )
 after_top f new ss (Some m) config items none =
     (reverse new.rest.items, ap reverse items ∙ turned new.rest.items m, ap (λ s. s ∷ ss) (spot_of f new config))
 
@@ -185,15 +187,15 @@ written : (front : List Frame) (last f new : Frame) (i : ℕ) (r : Option Move)
 written front last f new i r is at config items none =
     let zero : i - length front ≡ 0 = omega arith in
     let read : f ≡ last =
-        at ∙ get_or-append_right front (last ∷ []) (length front) i f refl (omega arith)
-        ∙ ap (λ n. get_or (last ∷ []) n f) zero in
+    at ∙ get_or-append_right front (last ∷ []) (length front) i f refl (omega arith)
+    ∙ ap (λ n. get_or (last ∷ []) n f) zero in
     let write : set (front ++ last ∷ []) i new ≡ front ++ new ∷ [] =
-        set-append_right front (last ∷ []) (length front) i new refl (omega arith)
-        ∙ ap (λ n. front ++ set (last ∷ []) n new) zero in
+    set-append_right front (last ∷ []) (length front) i new refl (omega arith)
+    ∙ ap (λ n. front ++ set (last ∷ []) n new) zero in
     let old : map spot (reverse (front ++ last ∷ [])) ≡ spot f ∷ map spot (reverse front) =
-        ap (map spot) (turned front last) ∙ ap (λ g. spot g ∷ map spot (reverse front)) (sym read) in
+    ap (map spot) (turned front last) ∙ ap (λ g. spot g ∷ map spot (reverse front)) (sym read) in
     let later : map spot (reverse (set (front ++ last ∷ []) i new)) ≡ spot new ∷ map spot (reverse front) =
-        ap (λ l. map spot (reverse l)) write ∙ ap (map spot) (turned front new) in
+    ap (λ l. map spot (reverse l)) write ∙ ap (map spot) (turned front new) in
     subst (λ l. IsAfterTop l (map spot (reverse (set (front ++ last ∷ []) i new))) r) (sym old)
     (subst (λ l. IsAfterTop (spot f ∷ map spot (reverse front)) l r) (sym later)
     (after_top f new (map spot (reverse front)) r config items none))

@@ -60,7 +60,8 @@ module _ (p : Problem) where
     pub depth : length ss ≤ length met
 
   -- so it is but for a move at the stack's last configuration
-  pub record IsTrying (met : List Config) (ss : List Spot) (ms : List Move) (mv : Move) : Type 0 where
+  pub record IsTrying (met : List Config) (ss : List Spot) (ms : List Move) (mv : Move)
+      : Type 0 where
     pub trail : IsTrail ss ms
     pub asked : AreAsked ss
     pub top : IsAskedAtTop ss mv
@@ -76,7 +77,8 @@ module _ (p : Problem) where
 
   -- the move leads to a configuration that wasn't met
   pub record LeadsToNew
-      (met : List Config) (ss : List Spot) (ms : List Move) (mv : Move) (next : Config) : Type 0 where
+      (met : List Config) (ss : List Spot) (ms : List Move) (mv : Move) (next : Config)
+      : Type 0 where
     pub way : IsUnderWay met (met ++ next ∷ []) ss ms
     pub trail : IsTrail (record { config = next; rest = [] } ∷ ss) (mv ∷ ms)
     pub other : next ≢ p.goal

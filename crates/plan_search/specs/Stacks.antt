@@ -64,4 +64,5 @@ abbrev pub IsAfterTop : List Spot → List Spot → Option Move → Type 0
 IsAfterTop [] new r = ⊥
 IsAfterTop (s ∷ ss) new None = (s.rest ≡ []) × (new ≡ s ∷ ss)
 IsAfterTop (s ∷ ss) new (Some m) =
-    (rest : List Move) × (s.rest ≡ m ∷ rest) × (new ≡ record { config = s.config; rest = rest } ∷ ss)
+    (rest : List Move) × (s.rest ≡ m ∷ rest)
+    × (new ≡ record { config = s.config; rest = rest } ∷ ss)

@@ -5,11 +5,10 @@ ghost use Rattle.plan_search.specs.Answers.{IsAnswer};
 ghost use Rattle.plan_search.specs.Searching.{AreMet, IsEntered, IsFound, IsTrying, IsUnderWay, LeadsToNew};
 ghost use Rattle.plan_search.specs.Stacks.{spots, taken};
 
-use crate::SearchError;
-use crate::Steps;
 use crate::expanding::Expanding;
 use crate::met_set::Met;
 use crate::stacks::Stack;
+use crate::{SearchError, Steps};
 use conf_doc::Config;
 use host_core::{Memory, Sequence};
 use move_core::{Move, Plan};
@@ -37,7 +36,8 @@ fn try_one<S: Expanding>(
     mv: Move,
 ) -> Result<Option<Found>, Memory>
     requires ready { S.is_ready source.now kit.old }
-    requires trying { IsTrying (S.problem source.now) met.now (spots stack.now) (taken stack.now) mv }
+    requires trying { IsTrying (S.problem source.now) met.now
+        (spots stack.now) (taken stack.now) mv }
     ensures ready { S.is_ready source.now kit.new }
     ensures found { IfOk result (λ found. MatchOption found
         (IsUnderWay (S.problem source.now) met.now met.now (spots stack.now) (taken stack.now))
@@ -120,7 +120,8 @@ fn meet<S: Expanding, L: Ledger>(
 ) -> Result<(), SearchError>
     requires ready { S.is_ready source.now kit.old }
     requires met { AreMet (S.problem source.now) met.old }
-    requires leads { LeadsToNew (S.problem source.now) met.old (spots stack.old) (taken stack.old) mv next }
+    requires leads { LeadsToNew (S.problem source.now) met.old
+        (spots stack.old) (taken stack.old) mv next }
     requires below { length met.old < budget }
     ensures ready { S.is_ready source.now kit.new }
     ensures met { OnOk result (AreMet (S.problem source.now) met.new) }
@@ -172,7 +173,9 @@ fn go_on<S: Expanding, L: Ledger>(
             Ok(Found::Nothing) => return Err(SearchError::Unorderable),
             Ok(Found::Goal(mv)) => return whole(stack, mv),
             Ok(Found::New(mv, next)) => {
-                match meet(alloc, source, kit, budget, &mut met, &mut stack, mv, next, steps) {
+                match meet(
+                    alloc, source, kit, budget, &mut met, &mut stack, mv, next, steps,
+                ) {
                     Ok(()) => {}
                     Err(error) => return Err(error),
                 }
@@ -183,7 +186,8 @@ fn go_on<S: Expanding, L: Ledger>(
 
 /// The moves that were taken, and one more.
 fn whole(stack: Stack, last: Move) -> Result<Plan, SearchError>
-    ensures { MatchResult result (λ plan. plan ≡ reverse (last ∷ taken stack)) (λ e. e ≡ SearchError.Memory) }
+    ensures { MatchResult result
+        (λ plan. plan ≡ reverse (last ∷ taken stack)) (λ e. e ≡ SearchError.Memory) }
 {
     match stack.into_plan(last) {
         Ok(plan) => Ok(plan),

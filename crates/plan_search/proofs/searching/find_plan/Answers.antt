@@ -28,7 +28,7 @@ pub returns-then-budget-eq1-clause-answer : goal.returns-then-budget-eq1-clause-
 returns-then-budget-eq1-clause-answer g c =
     let p = g.S.Expanding.problem c.args.source.now in
     let other : p.start ≢ p.goal =
-        λ e. true≢false (sym (c.same.ensures.1 (c.start.ensures ∙ e ∙ sym c.goal.ensures)) ∙ c.if-same.false) in
+    λ e. true≢false (sym (c.same.ensures.1 (c.start.ensures ∙ e ∙ sym c.goal.ensures)) ∙ c.if-same.false) in
     let one = c.if-budget-eq1.true in
     (refl, many_reachable p (p.start ∷ []) c.args.budget (met_begun p other) (omega (arith, one)))
 
@@ -63,10 +63,10 @@ pub go_on-requires-clause-met : goal.go_on-requires-clause-met
 go_on-requires-clause-met g c =
     let p = g.S.Expanding.problem c.args.source.now in
     let other : p.start ≢ p.goal =
-        λ e. true≢false (sym (c.same.ensures.1 (c.start.ensures ∙ e ∙ sym c.goal.ensures)) ∙ c.if-same.false) in
+    λ e. true≢false (sym (c.same.ensures.1 (c.start.ensures ∙ e ∙ sym c.goal.ensures)) ∙ c.if-same.false) in
     let met : c.enter.new.met ≡ p.start ∷ [] =
-        c.in-Ok-enter.ensures.met ∙ ap (λ l. l ++ c.in-Ok.start ∷ []) c.new-met.ensures
-        ∙ ap (λ x. x ∷ []) (c.in-Ok.ensures.copy ∙ c.start-2.ensures) in
+    c.in-Ok-enter.ensures.met ∙ ap (λ l. l ++ c.in-Ok.start ∷ []) c.new-met.ensures
+    ∙ ap (λ x. x ∷ []) (c.in-Ok.ensures.copy ∙ c.start-2.ensures) in
     subst (AreMet p) (sym met) (met_begun p other)
 
 pub go_on-requires-clause-way : goal.go_on-requires-clause-way
@@ -75,10 +75,10 @@ go_on-requires-clause-way g c =
     let start = c.in-Ok.ensures.copy ∙ c.start-2.ensures in
     let new = spots c.enter.new.stack in
     let met : c.enter.new.met ≡ p.start ∷ [] =
-        c.in-Ok-enter.ensures.met ∙ ap (λ l. l ++ c.in-Ok.start ∷ []) c.new-met.ensures ∙ ap (λ x. x ∷ []) start in
+    c.in-Ok-enter.ensures.met ∙ ap (λ l. l ++ c.in-Ok.start ∷ []) c.new-met.ensures ∙ ap (λ x. x ∷ []) start in
     let entered : IsEntered p [] new p.start =
-        subst (λ x. IsEntered p [] new x) start
-        (subst (λ l. IsEntered p l new c.in-Ok.start) c.new-stack.ensures.spots c.in-Ok-enter.ensures.entered) in
+    subst (λ x. IsEntered p [] new x) start
+    (subst (λ l. IsEntered p l new c.in-Ok.start) c.new-stack.ensures.spots c.in-Ok-enter.ensures.entered) in
     subst (λ l. IsUnderWay p l l new (taken c.enter.new.stack)) (sym met)
     (subst (λ l. IsUnderWay p (p.start ∷ []) (p.start ∷ []) new l) (sym (c.enter.ensures.taken ∙ c.new-stack.ensures.taken))
     (under_way_begun p new (g.met.S.Expanding.lawful c.args.source.now) c.requires.fit entered))

@@ -33,9 +33,10 @@ returns-in-Ok-Nothing-clause-ready g c = c.find_new.ensures.ready
 pub returns-in-Ok-Nothing-clause-answer : goal.returns-in-Ok-Nothing-clause-answer
 returns-in-Ok-Nothing-clause-answer g c =
     let p = g.S.Expanding.problem c.args.source.now in
-    let closed = rw c.in-Ok-Nothing.field-0-is at c.in-Ok-Nothing.ensures.found in
-    (goal_unreachable p c.loop-stack.met c.loop-stack.invariant.met closed,
-    few_reachable p c.loop-stack.met c.args.budget c.loop-stack.invariant.met closed c.loop-stack.invariant.below)
+    let closed = rw c.in-Ok-Nothing.field-0-is at c.in-Ok-Nothing.ensures.found in (
+      goal_unreachable p c.loop-stack.met c.loop-stack.invariant.met closed,
+      few_reachable p c.loop-stack.met c.args.budget c.loop-stack.invariant.met closed c.loop-stack.invariant.below,
+    )
 
 pub returns-in-Ok-Nothing-clause-steps : goal.returns-in-Ok-Nothing-clause-steps
 returns-in-Ok-Nothing-clause-steps g c =

@@ -9,10 +9,12 @@ returns-then-len-budget-clause-err g c =
     let p = g.S.Expanding.problem c.args.source.now in
     let len = c.len.ensures in
     let full = c.if-len-budget.true in
-    let one = length-append c.args.met.now (c.args.next ∷ []) in
-    (refl, many_reachable p (c.args.met.now ++ c.args.next ∷ []) c.args.budget
-    (met_entered p c.args.met.now (spots c.args.stack.now) (taken c.args.stack.now) c.args.mv c.args.next c.requires.met c.requires.leads)
-    (omega (arith, len, full, one)))
+    let one = length-append c.args.met.now (c.args.next ∷ []) in (
+      refl,
+      many_reachable p (c.args.met.now ++ c.args.next ∷ []) c.args.budget
+          (met_entered p c.args.met.now (spots c.args.stack.now) (taken c.args.stack.now) c.args.mv c.args.next c.requires.met c.requires.leads)
+          (omega (arith, len, full, one)),
+    )
 
 pub returns-in-Ok-enter-clause-met : goal.returns-in-Ok-enter-clause-met
 returns-in-Ok-enter-clause-met g c =
@@ -26,7 +28,7 @@ returns-in-Ok-enter-clause-way g c =
     let met = c.args.met.now ++ c.args.next ∷ [] in
     let new = spots c.enter.new.stack in
     let entered : IsEntered p (spots c.args.stack.now) new c.args.next =
-        subst (λ l. IsEntered p l new c.args.next) c.follow.ensures.spots c.in-Ok-enter.ensures.entered in
+    subst (λ l. IsEntered p l new c.args.next) c.follow.ensures.spots c.in-Ok-enter.ensures.entered in
     subst (λ l. IsUnderWay p l l new (taken c.enter.new.stack)) (sym c.in-Ok-enter.ensures.met)
     (subst (λ l. IsUnderWay p met met new l) (sym (c.enter.ensures.taken ∙ c.in-Ok.ensures.taken))
     (under_way_entered p c.args.met.now (spots c.args.stack.now) new (taken c.args.stack.now) c.args.mv c.args.next

@@ -10,5 +10,5 @@ returns-clause-spots c =
     (record { config = c.index_mut.result.now.config; rest = c.pop.new.self }) (c.len-last.result - 1) c.pop.result
     (omega (arith, len, some)) c.index_mut.ensures.value refl c.pop.ensures.items
     (λ none.
-      let k = rw none at c.pop.ensures.cases in
-      c.pop.ensures.rest ∙ ap (λ n. take (n - 1) c.index_mut.result.now.rest.items) k.0)
+    let k = rw none at c.pop.ensures.cases in
+    c.pop.ensures.rest ∙ ap (λ n. take (n - 1) c.index_mut.result.now.rest.items) k.0)
