@@ -1,13 +1,16 @@
-// A library with one function.
+//! Checkpoints of a folder: configurations under names, each in a file of its own.
 #![tactic(auto)]
 
-ghost use Rattle.std.specs.Prelude.{◌≡◌};
-ghost use Rattle.checkpoints.specs.Echo.{echo_of};
+mod deleting;
+mod errors;
+mod listing;
+mod loading;
+mod names;
+mod reading;
+mod saving;
 
-// The `ensures` clause is the contract: what `echo` returns is `echo_of` of its argument, a definition
-// in `specs/Echo.antt`, which a caller's clause can cite too.
-pub fn echo(x: usize) -> usize
-    ensures { result ≡ echo_of x }
-{
-    x
-}
+pub use deleting::delete;
+pub use errors::PointError;
+pub use listing::names;
+pub use loading::load;
+pub use saving::save;

@@ -107,11 +107,12 @@ start_vlan j = (vlan_name j, (codes "vlanid", Text (vlan_id j)) ∷ [])
 
 -- the same with a description
 abbrev pub described_vlan : ℕ → List ℕ × Entry
-described_vlan j =
-    (vlan_name j,
-      (codes "description", Text (codes "vlan " ++ decimal j))
+described_vlan j = (
+  vlan_name j,
+  (codes "description", Text (codes "vlan " ++ decimal j))
       ∷ (codes "vlanid", Text (vlan_id j))
-      ∷ [])
+      ∷ [],
+)
 
 -- at the goal the first VLANs are described, half as many as there are ports
 abbrev pub goal_vlan : ℕ → ℕ → List ℕ × Entry
@@ -125,9 +126,10 @@ vlan_of seed ports i = (7 * i + seed) % vlans_with ports
 
 -- each port is a tagged member of one VLAN
 abbrev pub member : (seed ports : ℕ) → ℕ → List ℕ × Entry
-member seed ports i =
-    (vlan_name (vlan_of seed ports i) ++ codes "|" ++ port_name i,
-      (codes "tagging_mode", Text (codes "tagged")) ∷ [])
+member seed ports i = (
+  vlan_name (vlan_of seed ports i) ++ codes "|" ++ port_name i,
+  (codes "tagging_mode", Text (codes "tagged")) ∷ [],
+)
 
 -- ---- the configurations
 

@@ -22,25 +22,30 @@ pub fn make(alloc: Global, seed: u32, n: u32) -> Result<(Config, Config), Memory
     ensures formed { IfOk result (λ p. IsConfig p.0 × IsConfig p.1) }
 {
     let start = config_with(alloc, seed, n, Rows::StartPorts, Rows::StartVlans)?;
-    let goal = config_with(alloc, seed, n, Rows::GoalPorts, Rows::GoalVlans { ports: n })?;
+    let goal = config_with(
+        alloc,
+        seed,
+        n,
+        Rows::GoalPorts,
+        Rows::GoalVlans { ports: n },
+    )?;
     Ok((start, goal))
 }
 
 /// The configuration of these ports and VLANs, and of the members.
-fn config_with(
-    alloc: Global,
-    seed: u32,
-    n: u32,
-    ports: Rows,
-    vlans: Rows,
-) -> Result<Config, Memory>
+fn config_with(alloc: Global, seed: u32, n: u32, ports: Rows, vlans: Rows) -> Result<Config, Memory>
     requires within { AreWithin seed n }
     requires ports { AreRows ports }
     requires vlans { AreRows vlans }
     ensures config { IfOk result (λ c. c ≡ config_with seed n (row ports) (row vlans)) }
     ensures formed { IfOk result IsConfig }
 {
-    let config = with_table(alloc, &Config::new(alloc), "PORT", fill_table(alloc, ports, n)?)?;
+    let config = with_table(
+        alloc,
+        &Config::new(alloc),
+        "PORT",
+        fill_table(alloc, ports, n)?,
+    )?;
     let vlans = fill_table(alloc, vlans, vlans_with(n))?;
     let config = with_table(alloc, &config, "VLAN", vlans)?;
     let members = fill_table(alloc, Rows::Members { seed, ports: n }, n)?;

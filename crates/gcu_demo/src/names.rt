@@ -1,5 +1,5 @@
 //! The keys of the rows, and the numbers in them as texts.
-ghost use Rattle.std.specs.Prelude.{◌≡◌, ◌+◌, ◌<◌, ◌≤◌, length, string_bytes, IfOk};
+ghost use Rattle.std.specs.Prelude.{◌≡◌, ◌+◌, ◌*◌, ◌≤◌, string_bytes, IfOk};
 ghost use Rattle.gcu_demo.specs.Demo.{first_lane, four_lanes as lanes_of_four, greatest_seed, most_ports, port_name as name_of_port, two_lanes as lanes_of_two, vlan_id as id_of_vlan, vlan_name as name_of_vlan};
 
 use std::alloc::{AllocError, Global};
@@ -20,8 +20,9 @@ pub(crate) fn port_name(alloc: Global, i: u32) -> Result<String, AllocError>
 }
 
 /// A lane and the next one.
+#[tactic(auto, using(std::proofs::Common::append_assoc))]
 pub(crate) fn two_lanes(alloc: Global, lane: u32) -> Result<String, AllocError>
-    requires { lane ≤ LANES * most_ports }
+    requires { lane ≤ LANES * most_ports + 2 }
     ensures { IfOk result (λ s. string_bytes s ≡ lanes_of_two lane) }
 {
     let next = lane + 1;
@@ -29,8 +30,9 @@ pub(crate) fn two_lanes(alloc: Global, lane: u32) -> Result<String, AllocError>
 }
 
 /// A lane and the next three.
+#[tactic(auto, using(std::proofs::Common::append_assoc))]
 pub(crate) fn four_lanes(alloc: Global, lane: u32) -> Result<String, AllocError>
-    requires { lane < LANES * most_ports }
+    requires { lane ≤ LANES * most_ports }
     ensures { IfOk result (λ s. string_bytes s ≡ lanes_of_four lane) }
 {
     let lanes = two_lanes(alloc, lane)?;

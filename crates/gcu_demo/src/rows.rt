@@ -60,6 +60,7 @@ fn row_key(alloc: Global, rows: Rows, i: u32) -> Result<String, AllocError>
 }
 
 /// The key of the membership of a port.
+#[tactic(auto, using(std::proofs::Common::append_assoc))]
 fn member_key(alloc: Global, seed: u32, ports: u32, i: u32) -> Result<String, AllocError>
     requires number { i < most_ports }
     requires within { AreWithin seed ports }

@@ -1,0 +1,46 @@
+//! Why a call for checkpoints gives nothing.
+ghost use Rattle.std.specs.Prelude.{◌≡◌};
+ghost use Rattle.checkpoints.specs.declared.errors.PointError.TheVariants.{Memory as no_memory};
+
+use host_core::{HostError, Memory};
+use std::alloc::AllocError;
+use thiserror::Error;
+
+/// Why a checkpoint isn't saved, loaded, listed or deleted.
+#[derive(Clone, Copy, Debug, PartialEq, Eq, Error)]
+pub enum PointError {
+    /// A name has 1 to 64 ASCII letters, digits, `_` and `-`.
+    #[error("no name of a checkpoint")]
+    BadName,
+    /// There is a checkpoint of that name.
+    #[error("there is such a checkpoint")]
+    Exists,
+    /// There is no checkpoint of that name.
+    #[error("there is no such checkpoint")]
+    Absent,
+    /// Its file holds no configuration.
+    #[error("the checkpoint holds no configuration")]
+    NotConfig,
+    /// The host has counted a disk fault.
+    #[error("the disk failed")]
+    Disk,
+    /// There was no memory. Nothing was written.
+    #[error("out of memory")]
+    Memory,
+}
+
+impl From<Memory> for PointError {
+    ghost from_gives = { λ _ e. e ≡ no_memory };
+
+    fn from(_: Memory) -> PointError {
+        PointError::Memory
+    }
+}
+
+impl From<AllocError> for PointError {
+    ghost from_gives = { λ _ e. e ≡ no_memory };
+
+    fn from(_: AllocError) -> PointError {
+        PointError::Memory
+    }
+}

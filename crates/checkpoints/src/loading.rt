@@ -1,0 +1,38 @@
+//! A checkpoint loaded.
+ghost use Rattle.std.specs.Prelude.{◌≡◌, ◌≤◌, IfErr, IfOk, IfSome, IsErrOf, result_ok};
+ghost use Rattle.host_core.specs.Counts.{Rose};
+ghost use Rattle.host_core.specs.Names.{longest_plain_name};
+ghost use Rattle.conf_doc.specs.WellFormed.{IsConfig};
+ghost use Rattle.conf_store.specs.Reads.{OnlyReads};
+ghost use Rattle.checkpoints.specs.Answers.{IsOfLoading, Loads, Named};
+ghost use Rattle.checkpoints.specs.Points.{held};
+ghost use Rattle.checkpoints.specs.declared.errors.PointError.TheVariants.{Disk as disk_failed};
+
+use crate::PointError;
+use crate::names::{is_good_name, point_file};
+use crate::reading::read_file;
+use conf_doc::{Config, ReadError, ShapeError, config_of_tree, read_tree};
+use host_core::Host;
+use std::alloc::Global;
+
+/// The configuration that the checkpoint of a name holds. `Disk` comes only where the disk count rose.
+pub fn load<H: Host>(alloc: Global, host: &mut H, name: &str) -> Result<Config, PointError>
+    requires { longest_plain_name ≤ H.longest_name }
+    ensures named { Named name.now result }
+    // It is what the checkpoint holds, or there is none of that name, or it holds none.
+    ensures answer { IfSome (H.told host.old) (λ s. Loads name.now s.files result) }
+    ensures errors { IfErr result IsOfLoading }
+    ensures formed { IfOk result IsConfig }
+    ensures reads { OnlyReads H.told H.counts H.moment H.left_since H.goes_on host.old host.new }
+    ensures cause { IsErrOf result disk_failed
+        → Rose (H.counts host.old).disk (H.counts host.new).disk }
+{
+    if !is_good_name(name) {
+        return Err(PointError::BadName);
+    }
+    let file = point_file(alloc, name)?;
+    match read_file(alloc, host, file.as_str())? {
+        None => Err(PointError::Absent),
+        Some(bytes) => read_config(alloc, &bytes),
+    }
+}
