@@ -1,11 +1,11 @@
 //! A checkpoint loaded.
-ghost use Rattle.std.specs.Prelude.{◌≡◌, ◌≤◌, IfErr, IfOk, IfSome, IsErrOf, result_ok};
+ghost use Rattle.std.specs.Prelude.{◌≡◌, ◌≤◌, IfErr, IfOk, IfSome, IsErrOf};
 ghost use Rattle.host_core.specs.Counts.{Rose};
 ghost use Rattle.host_core.specs.Names.{longest_plain_name};
 ghost use Rattle.conf_doc.specs.WellFormed.{IsConfig};
 ghost use Rattle.conf_store.specs.Reads.{OnlyReads};
 ghost use Rattle.checkpoints.specs.Answers.{IsOfLoading, Loads, Named};
-ghost use Rattle.checkpoints.specs.Points.{held};
+ghost use Rattle.checkpoints.specs.Reads.{Holds};
 ghost use Rattle.checkpoints.specs.declared.errors.PointError.TheVariants.{Disk as disk_failed};
 
 use crate::PointError;
@@ -34,5 +34,22 @@ pub fn load<H: Host>(alloc: Global, host: &mut H, name: &str) -> Result<Config, 
     match read_file(alloc, host, file.as_str())? {
         None => Err(PointError::Absent),
         Some(bytes) => read_config(alloc, &bytes),
+    }
+}
+
+/// The configuration that the bytes of a file hold.
+fn read_config(alloc: Global, bytes: &[u8]) -> Result<Config, PointError>
+    ensures config { Holds bytes.now result }
+    ensures formed { IfOk result IsConfig }
+{
+    let tree = match read_tree(alloc, bytes) {
+        Ok(tree) => tree,
+        Err(ReadError::Memory) => return Err(PointError::Memory),
+        Err(_) => return Err(PointError::NotConfig),
+    };
+    match config_of_tree(alloc, tree) {
+        Ok(config) => Ok(config),
+        Err(ShapeError::Shape { .. }) => Err(PointError::NotConfig),
+        Err(ShapeError::Memory) => Err(PointError::Memory),
     }
 }

@@ -1,5 +1,6 @@
 //! The names of checkpoints, and of the files that they stand in.
-ghost use Rattle.std.specs.Prelude.{◌≡◌, ◌≤◌, length, true, IfOk, MatchOption, Some, false};
+ghost use Rattle.std.specs.Prelude.{◌≡◌, ◌≤◌, length, true, false, IfOk, MatchOption};
+ghost use Rattle.std.specs.List.{list_all};
 ghost use Rattle.host_core.specs.Names.{longest_plain_name};
 ghost use Rattle.checkpoints.specs.Names.{is_good_name as is_name, is_name_character as is_character, is_point_file, point_file as file_of, point_name as name_in};
 

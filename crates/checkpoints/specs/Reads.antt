@@ -1,0 +1,23 @@
+-- What private calls read and list.
+use Rattle.std.specs.Prelude.{◌≡◌, ℕ, List, [], ◌∷◌, if◌then◌else◌, Some, None, Result, Ok, Err}
+use Rattle.std.specs.BTreeSet.{insert_key}
+use Rattle.host_core.specs.Names.{name_cmp}
+use Rattle.conf_doc.specs.declared.configuration.Config.{Config}
+use Rattle.checkpoints.specs.Names.{is_point_file, point_name}
+use Rattle.checkpoints.specs.Points.{held}
+use Rattle.checkpoints.specs.declared.errors.PointError.{PointError}
+use Rattle.checkpoints.specs.declared.errors.PointError.TheVariants.{NotConfig, Memory}
+
+-- the configuration that the bytes hold, or that they hold none, unless memory was wanting
+abbrev pub Holds : List ℕ → Result Config PointError → Type 0
+Holds bytes (Ok config) = held bytes ≡ Some config
+Holds bytes (Err NotConfig) = held bytes ≡ None
+Holds bytes (Err Memory) = Unit {0}
+Holds bytes (Err other) = ⊥
+
+-- the names of the checkpoints in files of these names, in order
+abbrev pub names_in : List (List ℕ) → List (List ℕ)
+names_in [] = []
+names_in (file ∷ files) =
+    if is_point_file file then insert_key name_cmp (names_in files) (point_name file)
+    else names_in files
