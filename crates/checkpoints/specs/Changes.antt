@@ -1,5 +1,5 @@
 -- What saving and deleting a checkpoint do to the files, and so to the checkpoints.
-use Rattle.std.specs.Prelude.{◌≡◌, ◌⊎◌, ℕ, List, Option, Some, None, Result, Ok, Err}
+use Rattle.std.specs.Prelude.{◌≡◌, ◌⊎◌, ℕ, List, Option, Some, None}
 use Rattle.std.specs.FinMap.{insert, remove}
 use Rattle.host_core.specs.State.{Files, State, with_file}
 use Rattle.conf_doc.specs.Texts.{file_text}
@@ -7,10 +7,15 @@ use Rattle.conf_doc.specs.declared.configuration.Config.{Config}
 use Rattle.conf_store.specs.Changes.{Changes}
 use Rattle.conf_store.specs.Clearing.{IsDone, IsDoneOrNot}
 use Rattle.conf_store.specs.Puts.{IsPutOrNot, put}
+use Rattle.conf_store.specs.Stored.{stored}
 use Rattle.checkpoints.specs.Names.{point_file}
 use Rattle.checkpoints.specs.Points.{Points, points}
 use Rattle.checkpoints.specs.declared.errors.PointError.{PointError}
 use Rattle.checkpoints.specs.declared.errors.PointError.TheVariants.{Disk}
+
+-- The folder stands for the same afterwards.
+abbrev pub KeepsStored : Files → Files → Type 0
+KeepsStored before after = stored after ≡ stored before
 
 -- ---- one checkpoint more
 
@@ -22,12 +27,14 @@ with_point name config before = insert before name (Some config)
 pub record IsSaved (name : List ℕ) (config : Config) (before after : Files) : Type 0 where
   pub files : after ≡ put (point_file name) (file_text config) before
   pub points : points after ≡ with_point name config (points before)
+  pub kept : KeepsStored before after
 
 -- its file was put or not, and there are the checkpoints from before or that one besides
 pub record IsSavedOrNot (name : List ℕ) (config : Config) (before after : Files) : Type 0 where
   pub files : IsPutOrNot (point_file name) (file_text config) before after
   pub points :
       (points after ≡ points before) ⊎ (points after ≡ with_point name config (points before))
+  pub kept : KeepsStored before after
 
 -- ---- one checkpoint less
 
@@ -43,11 +50,13 @@ without_file name = with_file (point_file name) None
 pub record IsDeleted (name : List ℕ) (before after : Files) : Type 0 where
   pub files : IsDone (without_file name) before after
   pub points : points after ≡ without_point name (points before)
+  pub kept : KeepsStored before after
 
 -- its file was removed or not, and so that checkpoint
 pub record IsDeletedOrNot (name : List ℕ) (before after : Files) : Type 0 where
   pub files : IsDoneOrNot (without_file name) before after
   pub points : (points after ≡ points before) ⊎ (points after ≡ without_point name (points before))
+  pub kept : KeepsStored before after
 
 -- ---- after an error
 

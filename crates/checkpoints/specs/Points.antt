@@ -1,6 +1,7 @@
 -- The checkpoints of a folder.
-use Rattle.std.specs.Prelude.{ℕ, List, map, filter, Option, result_ok}
+use Rattle.std.specs.Prelude.{ℕ, List, map, filter, Option}
 use Rattle.std.specs.FinMap.{FinMap, entries, from_entries}
+use Rattle.std.specs.Result.{result_ok}
 use Rattle.host_core.specs.Names.{name_cmp}
 use Rattle.host_core.specs.State.{Files}
 use Rattle.conf_doc.specs.declared.configuration.Config.{Config}

@@ -6,7 +6,14 @@ use Rattle.conf_doc.specs.declared.configuration.Config.{Config}
 use Rattle.checkpoints.specs.Names.{is_point_file, point_name}
 use Rattle.checkpoints.specs.Points.{held}
 use Rattle.checkpoints.specs.declared.errors.PointError.{PointError}
-use Rattle.checkpoints.specs.declared.errors.PointError.TheVariants.{NotConfig, Memory}
+use Rattle.checkpoints.specs.declared.errors.PointError.TheVariants.{BadName, NotConfig, Disk, Memory}
+
+-- an error of reading a file
+abbrev pub IsOfReading : PointError → Type 0
+IsOfReading BadName = Unit {0}
+IsOfReading Disk = Unit {0}
+IsOfReading Memory = Unit {0}
+IsOfReading other = ⊥
 
 -- the configuration that the bytes hold, or that they hold none, unless memory was wanting
 abbrev pub Holds : List ℕ → Result Config PointError → Type 0

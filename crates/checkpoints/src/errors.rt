@@ -1,8 +1,8 @@
 //! Why a call for checkpoints gives nothing.
 ghost use Rattle.std.specs.Prelude.{◌≡◌};
-ghost use Rattle.checkpoints.specs.declared.errors.PointError.TheVariants.{Memory as no_memory};
+ghost use Rattle.checkpoints.specs.declared.errors.PointError.TheVariants.{Disk as disk_failed, Memory as no_memory};
 
-use host_core::{HostError, Memory};
+use host_core::{Failed, Memory};
 use std::alloc::AllocError;
 use thiserror::Error;
 
@@ -42,5 +42,13 @@ impl From<AllocError> for PointError {
 
     fn from(_: AllocError) -> PointError {
         PointError::Memory
+    }
+}
+
+impl From<Failed> for PointError {
+    ghost from_gives = { λ _ e. e ≡ disk_failed };
+
+    fn from(_: Failed) -> PointError {
+        PointError::Disk
     }
 }

@@ -5,7 +5,7 @@ mod deleting;
 mod errors;
 mod listing;
 mod loading;
-mod names;
+mod naming;
 mod reading;
 mod saving;
 

@@ -10,7 +10,7 @@ ghost use Rattle.checkpoints.specs.Reads.{names_in};
 ghost use Rattle.checkpoints.specs.declared.errors.PointError.TheVariants.{Disk as disk_failed};
 
 use crate::PointError;
-use crate::names::point_name;
+use crate::naming::point_name;
 use host_core::{Host, HostError, Memory, Names, Txt};
 use std::alloc::Global;
 use std::collections::BTreeSet;

@@ -9,8 +9,7 @@ ghost use Rattle.checkpoints.specs.Reads.{Holds};
 ghost use Rattle.checkpoints.specs.declared.errors.PointError.TheVariants.{Disk as disk_failed};
 
 use crate::PointError;
-use crate::names::{is_good_name, point_file};
-use crate::reading::read_file;
+use crate::reading::read_point;
 use conf_doc::{Config, ReadError, ShapeError, config_of_tree, read_tree};
 use host_core::Host;
 use std::alloc::Global;
@@ -27,11 +26,8 @@ pub fn load<H: Host>(alloc: Global, host: &mut H, name: &str) -> Result<Config, 
     ensures cause { IsErrOf result disk_failed
         → Rose (H.counts host.old).disk (H.counts host.new).disk }
 {
-    if !is_good_name(name) {
-        return Err(PointError::BadName);
-    }
-    let file = point_file(alloc, name)?;
-    match read_file(alloc, host, file.as_str())? {
+    let (_file, found) = read_point(alloc, host, name)?;
+    match found {
         None => Err(PointError::Absent),
         Some(bytes) => read_config(alloc, &bytes),
     }

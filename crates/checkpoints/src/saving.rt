@@ -9,8 +9,7 @@ ghost use Rattle.checkpoints.specs.Changes.{IsSaved, IsSavedOrNot, LeavesOf};
 ghost use Rattle.checkpoints.specs.declared.errors.PointError.TheVariants.{Disk as disk_failed};
 
 use crate::PointError;
-use crate::names::{is_good_name, point_file};
-use crate::reading::read_file;
+use crate::reading::read_point;
 use conf_doc::{Config, file_bytes};
 use conf_store::put_file;
 use host_core::Host;
@@ -45,16 +44,11 @@ pub fn save<H: Host>(
         → Rose (H.counts host.old).disk (H.counts host.new).disk }
     ensures goes { H.goes_on host.old host.new }
 {
-    if !is_good_name(name) {
-        return Err(PointError::BadName);
-    }
-    let file = point_file(alloc, name)?;
-    if read_file(alloc, host, file.as_str())?.is_some() {
+    let (file, found) = read_point(alloc, host, name)?;
+    if found.is_some() {
         return Err(PointError::Exists);
     }
     let text = file_bytes(alloc, config)?;
-    match put_file(host, file.as_str(), &text) {
-        Ok(()) => Ok(()),
-        Err(_) => Err(PointError::Disk),
-    }
+    put_file(host, file.as_str(), &text)?;
+    Ok(())
 }

@@ -6,8 +6,10 @@ use Rattle.gcu_engine.specs.declared.outcomes.Outcome.{Outcome}
 pub data Source : Type 0 where
   -- an input of the command
   an_input : Source
-  -- a file of the folder
+  -- a file of the folder, or the names of the files
   a_file : Source
+  -- nothing: it settles what is pending
+  a_settling : Source
 
 -- what each call that is made reads, and what comes of all of them: a value, or the first refusal
 pub record Asking (X : Type 0) : Type 0 where
@@ -17,6 +19,10 @@ pub record Asking (X : Type 0) : Type 0 where
 -- one call, and what it gives
 abbrev pub asks : {X : Type 0} → Source → Result X Outcome → Asking X
 asks source answer = record { calls = source ∷ []; gives = answer }
+
+-- what is pending is settled, which a writing command does before it reads a file
+abbrev pub settles_first : Asking (Unit {0})
+settles_first = asks a_settling (Ok tt)
 
 -- what follows with no call
 abbrev pub follows : {X : Type 0} → Result X Outcome → Asking X

@@ -11,6 +11,10 @@ pub(crate) enum Form<'a> {
     Unknown,
     /// Prints the stored configuration as the patch of this input would leave it.
     Preview { patch: &'a Txt },
+    /// Prints the names of all checkpoints.
+    ListCheckpoints,
+    /// Deletes the checkpoint of this name.
+    DeleteCheckpoint { name: &'a Txt },
 }
 
 /// The command that the words are.
@@ -20,6 +24,12 @@ pub(crate) fn read_form(words: &[Txt]) -> Form<'_>
     match words {
         [command, patch] if command.as_str() == "preview" && !patch.as_str().starts_with("--") => {
             Form::Preview { patch }
+        }
+        [command] if command.as_str() == "list-checkpoints" => Form::ListCheckpoints,
+        [command, name]
+            if command.as_str() == "delete-checkpoint" && !name.as_str().starts_with("--") =>
+        {
+            Form::DeleteCheckpoint { name }
         }
         _ => Form::Unknown,
     }

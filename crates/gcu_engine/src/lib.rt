@@ -1,8 +1,10 @@
 //! What the program `gcu` does: its commands, their answers and what they print.
 #![tactic(auto)]
 
+mod delete_checkpoint;
 mod form;
 mod lines;
+mod list_checkpoints;
 mod outcomes;
 mod preview;
 mod printing;
@@ -10,5 +12,5 @@ mod run_command;
 mod stored;
 
 pub use conf_store::StoredWhy;
-pub use outcomes::Outcome;
+pub use outcomes::{Outcome, PointWhy};
 pub use run_command::run;

@@ -50,6 +50,7 @@ pub(crate) fn point_name(file: &str) -> Option<&str>
 {
     match file.strip_suffix(POINT_END) {
         Some(name) if is_good_name(name) => Some(name),
-        _ => None,
+        Some(_) => None,
+        None => None,
     }
 }
