@@ -7,7 +7,7 @@ use Rattle.conf_doc.specs.Texts.{file_text}
 use Rattle.conf_doc.specs.declared.configuration.Config.{Config}
 use Rattle.conf_store.specs.Changes.{Changes, IsSettled, Leads, Settles}
 use Rattle.conf_store.specs.Files.{without_scratch}
-use Rattle.conf_store.specs.Puts.{IsPutOrNot, IsSame, after_put, put}
+use Rattle.conf_store.specs.Puts.{IsPutOrNot, after_put, put}
 use Rattle.checkpoints.specs.Changes.{IsDeleted, IsDeletedOrNot, IsSaved, IsSavedOrNot, with_point, without_file}
 use Rattle.checkpoints.specs.Names.{is_good_name, point_file}
 use Rattle.checkpoints.specs.Points.{held, points}

@@ -1,5 +1,5 @@
 -- What the bytes of a file hold, by what they are read as.
-use Rattle.std.proofs.Common.{◌≡◌, ℕ, List, Option, Some, None, Result, Ok, Err, refl, sym, ap, ◌∙◌}
+use Rattle.std.proofs.Common.{◌≡◌, ℕ, List, Option, Some, None, Result, Ok, Err, refl, ap, ◌∙◌}
 use Rattle.std.specs.Result.{result_ok}
 use Rattle.host_core.specs.Answers.{◌>>=◌}
 use Rattle.conf_doc.specs.Document.{Document}

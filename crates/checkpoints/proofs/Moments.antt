@@ -2,7 +2,7 @@
 use Rattle.std.proofs.Common.{◌≡◌, ℕ, Option, Some, None, Result, Ok, Err, subst, sym, refl, ◌∙◌}
 use Rattle.std.specs.Prelude.{IfErr, IfSome}
 use Rattle.host_core.specs.Crashes.{Elapses, Image, Left, LeavesOnly, MayLeave, MayLeaveNow}
-use Rattle.host_core.specs.State.{Files, State, settled}
+use Rattle.host_core.specs.State.{Files, State}
 use Rattle.host_core.proofs.Runs as runs
 use Rattle.conf_store.specs.Changes.{AreLeft, Changes, IsSettled, Leads, Settles}
 use Rattle.checkpoints.specs.Changes.{LeavesOf}
@@ -31,13 +31,17 @@ left_settled P same s clean left may = record {
 -- with nothing pending nothing is changed
 pub unchanged : (P : Files → Files → Type 0) → ((files : Files) → P files files) → (o n : Option State) → IfSome o IsSettled → n ≡ o → Changes P o n
 unchanged P same None n clean e = e
-unchanged P same (Some s) n clean e = (s, e, record {
-  inputs = refl;
-  output = refl;
-  restarts = refl;
-  reads = same s.files;
-  images = λ left image. subst (P s.files) (sym (subst (λ p. Image p s.files left) clean image)) (same s.files);
-})
+unchanged P same (Some s) n clean e = (
+  s,
+  e,
+  record {
+    inputs = refl;
+    output = refl;
+    restarts = refl;
+    reads = same s.files;
+    images = λ left image. subst (P s.files) (sym (subst (λ p. Image p s.files left) clean image)) (same s.files);
+  },
+)
 
 -- changes that are weaker ones too
 pub changes_weaker : (P Q : Files → Files → Type 0) → ((f g : Files) → P f g → Q f g) → (o p n : Option State) → p ≡ o → Changes P p n → Changes Q o n
@@ -59,13 +63,17 @@ changes_weaker P Q gives (Some s) p n told changes =
 -- what is settled like this is changed like that
 pub settled_changes : (P Q : Files → Files → Type 0) → ((f g : Files) → P f g → Q f g) → (o n : Option State) → Settles P o n → Changes Q o n
 settled_changes P Q gives None n ends = ends
-settled_changes P Q gives (Some s) n ends = (_, ends.1, record {
-  inputs = refl;
-  output = refl;
-  restarts = refl;
-  reads = gives s.files ends.0 ends.2;
-  images = λ left image. subst (Q s.files) (sym image) (gives s.files ends.0 ends.2);
-})
+settled_changes P Q gives (Some s) n ends = (
+  _,
+  ends.1,
+  record {
+    inputs = refl;
+    output = refl;
+    restarts = refl;
+    reads = gives s.files ends.0 ends.2;
+    images = λ left image. subst (Q s.files) (sym image) (gives s.files ends.0 ends.2);
+  },
+)
 
 -- after an error of a call that only read nothing is changed
 pub leaves_unchanged : (P : Files → Files → Type 0) → ((files : Files) → P files files) → (o n : Option State) → IfSome o IsSettled → n ≡ o

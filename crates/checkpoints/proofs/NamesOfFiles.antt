@@ -1,5 +1,5 @@
 -- The names of checkpoints and of their files give one another.
-use Rattle.std.proofs.Common.{◌≡◌, ℕ, ◌+◌, ◌-◌, ◌≤◌, ◌==◌, List, [], ◌∷◌, ◌++◌, ◌⊎◌, Bool, true, false, ◌&&◌, length, take, drop, nat_eq, nat_le, not, inl, inr, refl, sym, ap, ◌∙◌, subst, arith, length-append, take-append-drop}
+use Rattle.std.proofs.Common.{◌≡◌, ℕ, ◌-◌, ◌≤◌, ◌==◌, List, ◌++◌, ◌⊎◌, Bool, true, false, ◌&&◌, length, take, drop, nat_eq, nat_le, not, inl, inr, refl, sym, ap, ◌∙◌, arith, length-append, take-append-drop}
 use Rattle.std.proofs.Math.Seq.{drop-append_seam, take-append_seam}
 use Rattle.std.proofs.lemmas.Bool.{and_from, and_parts, leb-true}
 use Rattle.std.specs.Cmp.{tied_itself}
@@ -65,7 +65,7 @@ pub good_file : (name : List ℕ) → is_good_name name ≡ true → is_point_fi
 good_file name good =
     let front : length (point_file name) - length point_end ≡ length name = omega (arith, length-append name point_end) in
     let end : drop (length (point_file name) - length point_end) (point_file name) ≡ point_end =
-        ap (λ n. drop n (point_file name)) front ∙ drop-append_seam name point_end in
+    ap (λ n. drop n (point_file name)) front ∙ drop-append_seam name point_end in
     and_from (ends_with nat_eq (point_file name) point_end) (is_good_name (point_name (point_file name)))
     (ap (pointwise nat_eq point_end) end)
     (ap is_good_name (name_back name) ∙ good)

@@ -1,14 +1,13 @@
 -- What stands under a name among the checkpoints, and how changes of the files change it.
-use Rattle.std.proofs.Common.{◌≡◌, ℕ, List, [], ◌∷◌, ◌⊎◌, Bool, true, false, cond, map, filter, Option, Some, None, Vec, Global, option_map, inl, inr, ⊎_elim, refl, sym, ap, ◌∙◌}
+use Rattle.std.proofs.Common.{◌≡◌, ℕ, List, [], ◌∷◌, Bool, true, false, cond, map, filter, Option, Some, None, Vec, Global, option_map, ⊎_elim, refl, sym, ap, ◌∙◌}
 use Rattle.std.specs.Cmp.Lexicographic.{nat_list_cmp_total}
 use Rattle.std.specs.FinMap as finmap
 use Rattle.std.specs.FinMap.{entries, get, insert, remove}
 use Rattle.host_core.specs.Names.{name_cmp}
 use Rattle.std.specs.Prelude.{IfSome}
 use Rattle.host_core.specs.State.{Files, State, with_file}
-use Rattle.conf_doc.specs.declared.configuration.Config.{Config}
 use Rattle.conf_store.specs.Files.{scratch, without_scratch}
-use Rattle.conf_store.specs.Puts.{IsPutOrNot, IsSame, put}
+use Rattle.conf_store.specs.Puts.{IsSame}
 use Rattle.checkpoints.specs.Names.{is_good_name, is_point_file, point_file, point_name}
 use Rattle.checkpoints.specs.Points.{Held, Points, held, point, points}
 use Rattle.checkpoints.proofs.NamesOfFiles.{by_name, file_back, files_differ, good_back, good_file, is_name, name_back, other_name, same_name}
@@ -41,7 +40,7 @@ here name file bytes rest others is so_far = ⊎_elim same differ (by_name name 
     differ apart =
         let one : is_name name (point_name file) ≡ false = other_name name (point_name file) apart in
         let two : is_name (point_file name) file ≡ false =
-            other_name (point_file name) file (λ e. apart (sym (name_back name) ∙ ap point_name e)) in
+        other_name (point_file name) file (λ e. apart (sym (name_back name) ∙ ap point_name e)) in
         rw (one, two) so_far
 
 -- another file
@@ -52,7 +51,7 @@ elsewhere name file bytes rest others isnt so_far = by (is_good_name name) refl
     by : (good : Bool) → is_good_name name ≡ good → rest ≡ held_in name (cond (is_name (point_file name) file) (Some bytes) others)
     by true good =
         let apart : is_name (point_file name) file ≡ false =
-            other_name (point_file name) file (λ e. let is : is_point_file file ≡ true = ap is_point_file (sym e) ∙ good_file name good in absurd cc) in
+        other_name (point_file name) file (λ e. let is : is_point_file file ≡ true = ap is_point_file (sym e) ∙ good_file name good in absurd cc) in
         rw apart so_far
     by false bad = so_far ∙ ap (λ g. cond g (option_map held others) None) bad ∙ sym (ap (λ g. cond g (option_map held (cond (is_name (point_file name) file) (Some bytes) others)) None) bad)
 

@@ -11,7 +11,7 @@ use Rattle.std.specs.Prelude.{IfSome}
 use Rattle.host_core.specs.State.{Files, State, names}
 use Rattle.checkpoints.specs.Answers.{Lists}
 use Rattle.checkpoints.specs.Names.{is_point_file, point_name}
-use Rattle.checkpoints.specs.Points.{Held, Points, point, points}
+use Rattle.checkpoints.specs.Points.{Held, point, points}
 use Rattle.checkpoints.specs.Reads.{names_in}
 
 -- putting a pair puts its name

@@ -1,5 +1,5 @@
 -- What a folder stands for doesn't rest on its checkpoints.
-use Rattle.std.proofs.Common.{◌≡◌, ℕ, zero, suc, ◌+◌, ◌≤◌, List, Bool, true, false, cond, length, Option, Some, None, Result, Ok, refl, sym, ap, ◌∙◌, arith}
+use Rattle.std.proofs.Common.{◌≡◌, ℕ, zero, suc, ◌+◌, ◌≤◌, List, true, false, cond, length, Option, Some, None, Result, refl, sym, ap, ◌∙◌, arith}
 use Rattle.std.specs.FinMap.{get}
 use Rattle.host_core.specs.Answers.{◌>>=◌}
 use Rattle.host_core.specs.State.{Files, with_file}
@@ -39,8 +39,8 @@ module _ (f g : Files) (alike : AnswerAlike f g) where
       let folded : get f folded_file ≡ get g folded_file = alike folded_file refl (apart folded_file 16 refl (omega arith)) in
       let config : get f config_file ≡ get g config_file = alike config_file refl (apart config_file 14 refl (omega arith)) in
       let all : after_all_steps f ≡ after_all_steps g =
-          ap (λ o. or_none NoFile o >>= λ bytes. config_in bytes >>= λ c. after_steps last_step 1 f c) config
-          ∙ ap (λ (k : Config → Result Config StoredWhy). or_none NoFile (get g config_file) >>= λ bytes. config_in bytes >>= k) (λ i c. steps_alike last_step 1 c i) in
+      ap (λ o. or_none NoFile o >>= λ bytes. config_in bytes >>= λ c. after_steps last_step 1 f c) config
+      ∙ ap (λ (k : Config → Result Config StoredWhy). or_none NoFile (get g config_file) >>= λ bytes. config_in bytes >>= k) (λ i c. steps_alike last_step 1 c i) in
       ap (λ o. or_unfolded o (after_all_steps f)) folded ∙ ap (or_unfolded (get g folded_file)) all
 
 -- a checkpoint's file

@@ -13,4 +13,5 @@ pub use deleting::delete;
 pub use errors::PointError;
 pub use listing::names;
 pub use loading::load;
+pub use naming::is_good_name;
 pub use saving::save;

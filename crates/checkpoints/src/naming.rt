@@ -13,8 +13,8 @@ const LONGEST_NAME: usize = 64;
 /// How the name of a checkpoint's file ends.
 const POINT_END: &str = ".cp.json";
 
-/// Whether a checkpoint may have that name.
-pub(crate) fn is_good_name(name: &str) -> bool
+/// Whether a checkpoint may have that name: 1 to 64 ASCII letters, digits, `_` and `-`.
+pub fn is_good_name(name: &str) -> bool
     ensures { result ≡ is_name name.now }
 {
     let bytes = name.as_bytes();

@@ -45,9 +45,9 @@ returns-in_err-settle-clause-any_moment g c =
     let is = c.as_str.ensures.text ∙ c.in_ok-file.ensures.file in
     let read = reads_on g.H.Host.moment g.H.Host.left_since (IsDeletedOrNot c.args.name.now) (not_deleted c.args.name.now) (g.H.Host.told c.args.host.now) c.requires.ready c.args.host.now c.read_point.new.host (λ left since. g.met.H.Host.only_now c.args.host.now left since) c.read_point.ensures.reads.time in
     let changes = lists c.args.name.now c.in_ok-file.ensures.named (g.H.Host.told c.args.host.now) (g.H.Host.told c.read_point.new.host) (g.H.Host.told c.remove.new.self) c.read_point.ensures.reads.state
-        (inl (subst (λ q. g.H.Host.told c.remove.new.self ≡ option_map (after_listing (with_file q None)) (g.H.Host.told c.read_point.new.host)) is c.in_ok-remove.ensures.ok)) in
+    (inl (subst (λ q. g.H.Host.told c.remove.new.self ≡ option_map (after_listing (with_file q None)) (g.H.Host.told c.read_point.new.host)) is c.in_ok-remove.ensures.ok)) in
     let removed = goes_on g.H.Host.moment g.H.Host.left_since (IsDeletedOrNot c.args.name.now) (not_deleted c.args.name.now) (g.H.Host.told c.args.host.now) (g.H.Host.told c.remove.new.self) changes
-        c.args.host.now c.read_point.new.host c.remove.new.self read c.remove.ensures.time in
+    c.args.host.now c.read_point.new.host c.remove.new.self read c.remove.ensures.time in
     goes_on g.H.Host.moment g.H.Host.left_since (IsDeletedOrNot c.args.name.now) (not_deleted c.args.name.now) (g.H.Host.told c.args.host.now) (g.H.Host.told c.settle.new.self)
     (subst (Changes (IsDeletedOrNot c.args.name.now) (g.H.Host.told c.args.host.now)) (sym c.in_err-settle.ensures.err) changes)
     c.args.host.now c.remove.new.self c.settle.new.self removed c.settle.ensures.time
@@ -66,8 +66,8 @@ returns-clause-any_moment g c =
     let read = reads_on g.H.Host.moment g.H.Host.left_since (IsDeletedOrNot c.args.name.now) (not_deleted c.args.name.now) (g.H.Host.told c.args.host.now) c.requires.ready c.args.host.now c.read_point.new.host (λ left since. g.met.H.Host.only_now c.args.host.now left since) c.read_point.ensures.reads.time in
     let done = subst (λ q. g.H.Host.told c.remove.new.self ≡ option_map (after_listing (with_file q None)) (g.H.Host.told c.read_point.new.host)) is c.in_ok-remove.ensures.ok in
     let removed = goes_on g.H.Host.moment g.H.Host.left_since (IsDeletedOrNot c.args.name.now) (not_deleted c.args.name.now) (g.H.Host.told c.args.host.now) (g.H.Host.told c.remove.new.self)
-        (lists c.args.name.now c.in_ok-file.ensures.named (g.H.Host.told c.args.host.now) (g.H.Host.told c.read_point.new.host) (g.H.Host.told c.remove.new.self) c.read_point.ensures.reads.state (inl done))
-        c.args.host.now c.read_point.new.host c.remove.new.self read c.remove.ensures.time in
+    (lists c.args.name.now c.in_ok-file.ensures.named (g.H.Host.told c.args.host.now) (g.H.Host.told c.read_point.new.host) (g.H.Host.told c.remove.new.self) c.read_point.ensures.reads.state (inl done))
+    c.args.host.now c.read_point.new.host c.remove.new.self read c.remove.ensures.time in
     goes_on g.H.Host.moment g.H.Host.left_since (IsDeletedOrNot c.args.name.now) (not_deleted c.args.name.now) (g.H.Host.told c.args.host.now) (g.H.Host.told c.settle.new.self)
     (settled_changes (IsDeleted c.args.name.now) (IsDeletedOrNot c.args.name.now) (deleted_or_not c.args.name.now c.in_ok-file.ensures.named) (g.H.Host.told c.args.host.now) (g.H.Host.told c.settle.new.self)
     (deletes c.args.name.now c.in_ok-file.ensures.named (g.H.Host.told c.args.host.now) (g.H.Host.told c.read_point.new.host) (g.H.Host.told c.remove.new.self) (g.H.Host.told c.settle.new.self) c.read_point.ensures.reads.state done c.in_ok-settle.ensures.ok))

@@ -1,10 +1,8 @@
 use Rattle.std.proofs.Common.{◌≡◌, ◌∙◌, Some, option_map, subst}
 use Rattle.std.proofs.lemmas.Result.{err_from_is_err_and}
-use Rattle.std.specs.Prelude.{IfSome}
-use Rattle.host_core.specs.Crashes.{LeavesOnly}
 use Rattle.conf_doc.specs.Configuration.{tree}
 use Rattle.conf_doc.specs.Texts.{file_text}
-use Rattle.conf_store.specs.Changes.{AreLeft, Changes}
+use Rattle.conf_store.specs.Changes.{Changes}
 use Rattle.conf_store.specs.Puts.{IsPutOrNot, after_put}
 use Rattle.checkpoints.specs.Changes.{IsSavedOrNot, LeavesOf}
 use Rattle.checkpoints.specs.Names.{point_file}
@@ -28,7 +26,7 @@ returns-in_err-put_file-clause-err g c =
     let written = c.deref.ensures.value ∙ c.in_ok-text.ensures.text in
     let reads = subst (λ b. held b ≡ Some c.args.config.now) c.in_ok-text.ensures.text (held_read c.in_ok-text.text.items (tree c.args.config.now) c.args.config.now c.in_ok-text.ensures.reads_back c.in_ok-text.ensures.shapes_back) in
     let err = subst (λ b. Changes (IsPutOrNot (point_file c.args.name.now) b) (g.H.Host.told c.read_point.new.host) (g.H.Host.told c.put_file.new.host)) written
-        (subst (λ q. Changes (IsPutOrNot q c.deref.result.now) (g.H.Host.told c.read_point.new.host) (g.H.Host.told c.put_file.new.host)) named c.in_err-put_file.ensures.err) in
+    (subst (λ q. Changes (IsPutOrNot q c.deref.result.now) (g.H.Host.told c.read_point.new.host) (g.H.Host.told c.put_file.new.host)) named c.in_err-put_file.ensures.err) in
     rw (p.1, p.2)
     (changes_weaker (IsPutOrNot (point_file c.args.name.now) (file_text c.args.config.now)) (IsSavedOrNot c.args.name.now c.args.config.now)
     (saved_or_not c.args.name.now c.in_ok-file.ensures.named c.args.config.now reads)
@@ -41,7 +39,7 @@ returns-in_err-put_file-clause-any_moment g c =
     let reads = subst (λ b. held b ≡ Some c.args.config.now) c.in_ok-text.ensures.text (held_read c.in_ok-text.text.items (tree c.args.config.now) c.args.config.now c.in_ok-text.ensures.reads_back c.in_ok-text.ensures.shapes_back) in
     let read = reads_on g.H.Host.moment g.H.Host.left_since (IsSavedOrNot c.args.name.now c.args.config.now) (not_saved c.args.name.now c.args.config.now) (g.H.Host.told c.args.host.now) c.requires.ready c.args.host.now c.read_point.new.host (λ left since. g.met.H.Host.only_now c.args.host.now left since) c.read_point.ensures.reads.time in
     let put = subst (λ b. AtAnyMoment g.H.Host.moment g.H.Host.left_since (IsPutOrNot (point_file c.args.name.now) b) (g.H.Host.told c.read_point.new.host) c.read_point.new.host c.put_file.new.host) written
-        (subst (λ q. AtAnyMoment g.H.Host.moment g.H.Host.left_since (IsPutOrNot q c.deref.result.now) (g.H.Host.told c.read_point.new.host) c.read_point.new.host c.put_file.new.host) named c.put_file.ensures.any_moment) in
+    (subst (λ q. AtAnyMoment g.H.Host.moment g.H.Host.left_since (IsPutOrNot q c.deref.result.now) (g.H.Host.told c.read_point.new.host) c.read_point.new.host c.put_file.new.host) named c.put_file.ensures.any_moment) in
     changes_on g.H.Host.moment g.H.Host.left_since (IsSavedOrNot c.args.name.now c.args.config.now) (not_saved c.args.name.now c.args.config.now)
     (IsPutOrNot (point_file c.args.name.now) (file_text c.args.config.now)) (saved_or_not c.args.name.now c.in_ok-file.ensures.named c.args.config.now reads)
     (g.H.Host.told c.args.host.now) (g.H.Host.told c.read_point.new.host) c.read_point.ensures.reads.state c.args.host.now c.read_point.new.host c.put_file.new.host read put
@@ -54,7 +52,7 @@ returns-clause-ok g c =
     let written = c.deref.ensures.value ∙ c.in_ok-text.ensures.text in
     let reads = subst (λ b. held b ≡ Some c.args.config.now) c.in_ok-text.ensures.text (held_read c.in_ok-text.text.items (tree c.args.config.now) c.args.config.now c.in_ok-text.ensures.reads_back c.in_ok-text.ensures.shapes_back) in
     let ok = subst (λ b. g.H.Host.told c.put_file.new.host ≡ option_map (after_put (point_file c.args.name.now) b) (g.H.Host.told c.read_point.new.host)) written
-        (subst (λ q. g.H.Host.told c.put_file.new.host ≡ option_map (after_put q c.deref.result.now) (g.H.Host.told c.read_point.new.host)) named c.in_ok-put_file.ensures.ok) in
+    (subst (λ q. g.H.Host.told c.put_file.new.host ≡ option_map (after_put q c.deref.result.now) (g.H.Host.told c.read_point.new.host)) named c.in_ok-put_file.ensures.ok) in
     saves c.args.name.now c.in_ok-file.ensures.named c.args.config.now reads
     (g.H.Host.told c.args.host.now) (g.H.Host.told c.read_point.new.host) (g.H.Host.told c.put_file.new.host) c.read_point.ensures.reads.state ok
 
@@ -65,7 +63,7 @@ returns-clause-any_moment g c =
     let reads = subst (λ b. held b ≡ Some c.args.config.now) c.in_ok-text.ensures.text (held_read c.in_ok-text.text.items (tree c.args.config.now) c.args.config.now c.in_ok-text.ensures.reads_back c.in_ok-text.ensures.shapes_back) in
     let read = reads_on g.H.Host.moment g.H.Host.left_since (IsSavedOrNot c.args.name.now c.args.config.now) (not_saved c.args.name.now c.args.config.now) (g.H.Host.told c.args.host.now) c.requires.ready c.args.host.now c.read_point.new.host (λ left since. g.met.H.Host.only_now c.args.host.now left since) c.read_point.ensures.reads.time in
     let put = subst (λ b. AtAnyMoment g.H.Host.moment g.H.Host.left_since (IsPutOrNot (point_file c.args.name.now) b) (g.H.Host.told c.read_point.new.host) c.read_point.new.host c.put_file.new.host) written
-        (subst (λ q. AtAnyMoment g.H.Host.moment g.H.Host.left_since (IsPutOrNot q c.deref.result.now) (g.H.Host.told c.read_point.new.host) c.read_point.new.host c.put_file.new.host) named c.put_file.ensures.any_moment) in
+    (subst (λ q. AtAnyMoment g.H.Host.moment g.H.Host.left_since (IsPutOrNot q c.deref.result.now) (g.H.Host.told c.read_point.new.host) c.read_point.new.host c.put_file.new.host) named c.put_file.ensures.any_moment) in
     changes_on g.H.Host.moment g.H.Host.left_since (IsSavedOrNot c.args.name.now c.args.config.now) (not_saved c.args.name.now c.args.config.now)
     (IsPutOrNot (point_file c.args.name.now) (file_text c.args.config.now)) (saved_or_not c.args.name.now c.in_ok-file.ensures.named c.args.config.now reads)
     (g.H.Host.told c.args.host.now) (g.H.Host.told c.read_point.new.host) c.read_point.ensures.reads.state c.args.host.now c.read_point.new.host c.put_file.new.host read put
