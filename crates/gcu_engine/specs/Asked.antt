@@ -97,6 +97,11 @@ abbrev pub there_answer : List ℕ → Option Held → Result (List ℕ) Outcome
 there_answer name None = Err (NoCheckpoint name why.Absent)
 there_answer name (Some held) = Ok name
 
+-- the checkpoint of a name is to be deleted
+abbrev pub there_asked : List ℕ → State → Asking Request
+there_asked name s =
+    asks a_file (map_ok request.delete_checkpoint (there_answer name (get (points s.files) name)))
+
 -- ---- the commands
 
 -- `preview PATH`: the stored configuration is read before the patch
@@ -115,9 +120,10 @@ abbrev pub delete_asked : List ℕ → State → Asking Request
 delete_asked word s =
     follows (name_answer word) >>> λ name.
     settles_first >>> λ _.
-    asks a_file (map_ok request.delete_checkpoint (there_answer name (get (points s.files) name)))
+    there_asked name s
 
-abbrev form_asked : Option Form → State → Asking Request
+-- what a command asks, or that there is none
+abbrev pub form_asked : Option Form → State → Asking Request
 form_asked None s = follows (Err Usage)
 form_asked (Some (preview path)) s = preview_asked path s
 form_asked (Some list_checkpoints) s = list_asked s

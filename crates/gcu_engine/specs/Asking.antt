@@ -1,5 +1,5 @@
 -- What a command asks of its host before it does anything: its calls in their order, and what they give.
-use Rattle.std.specs.Prelude.{List, [], ◌∷◌, ◌++◌, Result, Ok, Err}
+use Rattle.std.specs.Prelude.{List, [], ◌∷◌, ◌++◌, Bool, true, false, Result, Ok, Err}
 use Rattle.gcu_engine.specs.declared.outcomes.Outcome.{Outcome}
 
 -- what a call of the host reads
@@ -15,6 +15,12 @@ pub data Source : Type 0 where
 pub record Asking (X : Type 0) : Type 0 where
   pub calls : List Source
   pub gives : Result X Outcome
+
+-- whether one of the calls settles what is pending
+abbrev pub settles : List Source → Bool
+settles [] = false
+settles (a_settling ∷ calls) = true
+settles (call ∷ calls) = settles calls
 
 -- one call, and what it gives
 abbrev pub asks : {X : Type 0} → Source → Result X Outcome → Asking X

@@ -6,6 +6,7 @@ pub mod Form
 pub mod Lines
 pub mod Request
 -- what only private clauses cite
+pub mod Commands
 pub mod FormView
 pub mod Preparing
 pub mod Printing

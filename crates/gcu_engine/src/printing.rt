@@ -45,7 +45,7 @@ pub(crate) fn show<H: Host>(alloc: Global, config: &Config, host: &mut H) -> Out
 }
 
 /// Prints the last line of Memory, for which no memory is needed.
-fn say_memory<H: Host>(host: &mut H) -> Outcome
+pub(crate) fn say_memory<H: Host>(host: &mut H) -> Outcome
     ensures printed { IsPrinted no_memory (last_line no_memory)
         (H.told host.old) (H.told host.new) (H.counts host.old) (H.counts host.new) result }
     ensures counts { PrintMayRise (H.counts host.old) (H.counts host.new) }
@@ -68,7 +68,7 @@ fn shown(alloc: Global, config: &Config) -> Result<Vec<u8>, Memory>
 }
 
 /// Prints the whole output of an outcome in one call.
-fn print<H: Host>(outcome: Outcome, text: &[u8], host: &mut H) -> Outcome
+pub(crate) fn print<H: Host>(outcome: Outcome, text: &[u8], host: &mut H) -> Outcome
     ensures printed { IsPrinted outcome text.now
         (H.told host.old) (H.told host.new) (H.counts host.old) (H.counts host.new) result }
     ensures counts { PrintMayRise (H.counts host.old) (H.counts host.new) }

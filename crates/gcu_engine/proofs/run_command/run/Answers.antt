@@ -1,8 +1,8 @@
 use Rattle.std.proofs.Common.{sym, ◌++◌}
 use Rattle.conf_doc.specs.Texts.{file_text}
 use Rattle.gcu_engine.specs.Lines.{last_line}
-use Rattle.gcu_engine.proofs.Elapsing.{command_leaves, command_leaves_behind}
-use Rattle.gcu_engine.proofs.Answering.{said_answers, no_form_says, preview_says, preview_refuses, refused_cause}
+use Rattle.gcu_engine.proofs.Elapsing.{command_leaves, command_leaves_behind, leaves_by}
+use Rattle.gcu_engine.proofs.Answering.{answers_by, said_answers, no_form_reads, no_form_says, preview_reads, preview_says, preview_refuses, refused_cause}
 use Rattle.gcu_engine.specs.declared.outcomes.Outcome.TheVariants.{Usage, Done}
 use Rattle.gcu_engine.proofs.run_command.run.Goals as goal
 
@@ -10,21 +10,21 @@ use Rattle.gcu_engine.proofs.run_command.run.Goals as goal
 pub returns-in-Unknown-clause-answers : goal.returns-in-Unknown-clause-answers
 returns-in-Unknown-clause-answers g c =
     said_answers c.args.words.now (g.H.Host.told c.args.host.now) (g.H.Host.told c.say.new.host) (g.H.Host.counts c.args.host.now) (g.H.Host.counts c.args.host.now) (g.H.Host.counts c.say.new.host)
-    Usage (last_line Usage) c.say.result c.say.ensures.said c.say.ensures.counts tt
+    Usage (last_line Usage) c.say.result (no_form_reads c.args.words.now (g.H.Host.told c.args.host.now) (sym c.in-Unknown.ensures)) c.say.ensures.said c.say.ensures.counts tt
     (no_form_says c.args.words.now (g.H.Host.told c.args.host.now) (sym c.in-Unknown.ensures))
 
 -- a preview
 pub returns-in-Ok-clause-answers : goal.returns-in-Ok-clause-answers
 returns-in-Ok-clause-answers g c =
     said_answers c.args.words.now (g.H.Host.told c.args.host.now) (g.H.Host.told c.show.new.host) (g.H.Host.counts c.args.host.now) (g.H.Host.counts c.preview.new.host) (g.H.Host.counts c.show.new.host)
-    Done (file_text c.in-Ok.config ++ last_line Done) c.show.result (rw c.in-Ok.ensures.told at c.show.ensures.said) c.show.ensures.counts tt
+    Done (file_text c.in-Ok.config ++ last_line Done) c.show.result (preview_reads c.args.words.now _ (g.H.Host.told c.args.host.now) (sym c.in-Preview.ensures)) (rw c.in-Ok.ensures.told at c.show.ensures.said) c.show.ensures.counts tt
     (preview_says c.args.words.now _ (g.H.Host.told c.args.host.now) c.in-Ok.config (sym c.in-Preview.ensures) c.in-Ok.ensures.answer)
 
 -- a refused preview
 pub returns-in-Err-clause-answers : goal.returns-in-Err-clause-answers
 returns-in-Err-clause-answers g c =
     said_answers c.args.words.now (g.H.Host.told c.args.host.now) (g.H.Host.told c.say-in-Err.new.host) (g.H.Host.counts c.args.host.now) (g.H.Host.counts c.preview.new.host) (g.H.Host.counts c.say-in-Err.new.host)
-    c.in-Err.outcome (last_line c.in-Err.outcome) c.say-in-Err.result (rw c.in-Err.ensures.told at c.say-in-Err.ensures.said) c.say-in-Err.ensures.counts
+    c.in-Err.outcome (last_line c.in-Err.outcome) c.say-in-Err.result (preview_reads c.args.words.now _ (g.H.Host.told c.args.host.now) (sym c.in-Preview.ensures)) (rw c.in-Err.ensures.told at c.say-in-Err.ensures.said) c.say-in-Err.ensures.counts
     (refused_cause (g.H.Host.counts c.args.host.now) (g.H.Host.counts c.preview.new.host) c.in-Err.outcome c.in-Err.ensures.cause)
     (preview_refuses c.args.words.now _ (g.H.Host.told c.args.host.now) c.in-Err.outcome (g.H.Host.counts c.args.host.now) (g.H.Host.counts c.preview.new.host) (sym c.in-Preview.ensures) c.in-Err.ensures.cause c.in-Err.ensures.answer)
 
@@ -54,3 +54,8 @@ returns-in-Ok-clause-goes g c =
 pub returns-in-Err-clause-goes : goal.returns-in-Err-clause-goes
 returns-in-Err-clause-goes g c =
     g.met.H.Host.continues c.args.host.now c.preview.new.host c.say-in-Err.new.host c.preview.ensures.goes c.say-in-Err.ensures.goes
+
+-- ---- commands in functions of their own
+
+pub returns-in-ListCheckpoints-clause-answers : goal.returns-in-ListCheckpoints-clause-answers
+returns-in-ListCheckpoints-clause-answers g c = ?
