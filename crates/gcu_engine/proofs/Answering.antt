@@ -37,7 +37,7 @@ says_prints asking old new Memory output h = h
 says_prints asking old new other output h = h
 
 -- a cause stays one while output is printed
-cause_stays : (old mid new : Counts) (r : Outcome) (asking : Asking Request) (text : List ℕ)
+pub cause_stays : (old mid new : Counts) (r : Outcome) (asking : Asking Request) (text : List ℕ)
     → PrintMayRise mid new → HasCause old mid r → Says asking r text → HasCause old new r
 cause_stays old mid new InputFault asking text rises h says = subst (λ n. Rose old.input n) (sym (ap (λ c. c.input) rises.2)) h
 cause_stays old mid new (DiskFault step) asking text rises h says = (h.0, subst (λ n. Rose old.disk n) (sym (ap (λ c. c.disk) rises.2)) h.1)

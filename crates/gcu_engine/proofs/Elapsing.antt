@@ -13,7 +13,7 @@ use Rattle.gcu_engine.specs.Request.{Request}
 use Rattle.gcu_engine.specs.declared.outcomes.Outcome.{Outcome}
 
 -- with no output yet
-now_with_output : (before : Option State) (left : Left) → MayLeaveNow before left → LeftWithOutput before left
+pub now_with_output : (before : Option State) (left : Left) → MayLeaveNow before left → LeftWithOutput before left
 now_with_output None left h = ([], tt)
 now_with_output (Some s) left h =
     ([], record { files = h.files; output = h.output ∙ sym (append-nil s.output); restarts = h.restarts })
@@ -25,7 +25,8 @@ left_in (Ok (request.delete_checkpoint name)) s left h =
     record { files = inl h.1.files; part = h.0; output = h.1.output; restarts = h.1.restarts }
 left_in (Err e) s left h = h
 
-left_to : (asking : State → Asking Request) (before : Option State) (left : Left) → LeftWithOutput before left → LeftTo asking before left
+-- so may what a question may leave
+pub left_to : (asking : State → Asking Request) (before : Option State) (left : Left) → LeftWithOutput before left → LeftTo asking before left
 left_to asking None left h = tt
 left_to asking (Some s) left h = left_in (asking s).gives s left h
 

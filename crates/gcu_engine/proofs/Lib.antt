@@ -1,3 +1,6 @@
-pub mod Answering
-pub mod Elapsing
-pub mod Finding
+mod Answering
+mod Completing
+mod Deletions
+mod Elapsing
+mod Finding
+mod Listing

@@ -1,5 +1,5 @@
 -- What a command leaves and answers that asks a stated question, for commands in functions of their own.
-use Rattle.std.specs.Prelude.{◌≡◌, List, ℕ, Option, Some, None, Result, Ok, Err, IfSome, ⊤}
+use Rattle.std.specs.Prelude.{◌≡◌, List, ℕ, Bool, true, false, Option, Some, None, Result, Ok, Err, IfSome, ⊤}
 use Rattle.host_core.specs.Counts.{Counts, NoneRose}
 use Rattle.host_core.specs.Crashes.{Left}
 use Rattle.host_core.specs.State.{State}
@@ -7,6 +7,8 @@ use Rattle.conf_store.specs.Changes.{Changes}
 use Rattle.checkpoints.specs.Changes.{IsDeletedOrNot}
 use Rattle.gcu_engine.specs.Answers.{Complete, DeletesWith, IsUntouched, Leaves, LeftIn}
 use Rattle.gcu_engine.specs.Asking.{Asking, settles}
+use Rattle.gcu_engine.specs.Lines.{last_line}
+use Rattle.gcu_engine.specs.Printing.{IsPrinted, IsSaid}
 use Rattle.gcu_engine.specs.Request.{Request}
 use Rattle.gcu_engine.specs.declared.outcomes.Outcome.{Outcome}
 use Rattle.gcu_engine.specs.declared.outcomes.Outcome.TheVariants.{Done, DiskFault}
@@ -35,6 +37,27 @@ TellsOn None after = ⊤
 TellsOn (Some before) after = (now : State) × (after ≡ Some now)
 
 -- ---- a checkpoint that is deleted
+
+-- it is a refusal
+abbrev pub IsRefused : Result Request Outcome → Type 0
+IsRefused (Ok r) = ⊥
+IsRefused (Err e) = ⊤
+
+-- a fault of the disk
+abbrev pub is_disk_fault : Outcome → Bool
+is_disk_fault (DiskFault step) = true
+is_disk_fault other = false
+
+-- a fault of the disk comes after no acknowledgement
+abbrev pub IsFirst : Outcome → Type 0
+IsFirst (DiskFault step) = step ≡ 0
+IsFirst other = ⊤
+
+-- the answer that is printed; for want of memory another one may be, unless none is asked for
+abbrev pub IsTold : Bool → Outcome
+    → Option State → Option State → Counts → Counts → Outcome → Type 0
+IsTold true answer = IsPrinted answer (last_line answer)
+IsTold false answer = IsSaid answer (last_line answer)
 
 -- the outcome of what was done or refused
 abbrev pub outcome_of : Result (Unit {0}) Outcome → Outcome

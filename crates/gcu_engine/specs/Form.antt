@@ -18,12 +18,14 @@ is_positional word = not (starts_with nat_eq word (codes "--"))
 abbrev is_word : List ℕ → List ℕ → Bool
 is_word word name = pointwise nat_eq word name
 
-abbrev form_of_one : List ℕ → Option Form
+-- the command that a word is
+abbrev pub form_of_one : List ℕ → Option Form
 form_of_one command =
     if is_word command (codes "list-checkpoints") then Some list_checkpoints
     else None
 
-abbrev form_of_two : List ℕ → List ℕ → Option Form
+-- the command that two words are
+abbrev pub form_of_two : List ℕ → List ℕ → Option Form
 form_of_two command word =
     if is_word command (codes "preview") && is_positional word then Some (preview word)
     else if is_word command (codes "delete-checkpoint") && is_positional word
