@@ -81,7 +81,7 @@ module _ (name : List ℕ) (s : State) (new : Option State) where
   deletes_with : (r : Result (Unit {0}) Outcome) (c d : Counts)
       → OnOk r (Settles (IsDeleted name) (Some start) new) → IfErr r (LeavesRefused name (Some start) new) → IfErr r (Refuses c d)
       → (now : State) × (new ≡ Some now) × DeletesWith name s now (outcome_of r)
-  deletes_with (Ok done) c d ok err cause = (_, ok.1, ok.0, refl, ok.2)
+  deletes_with (Ok done) c d ok err cause = (_, ok.1, (ok.0, refl, ok.2))
   deletes_with (Err Done) c d ok err never = absurd never
   deletes_with (Err (DiskFault step)) c d ok err cause = (err.0, err.1, inr err.2)
   deletes_with (Err other) c d ok err cause = (start, err, inr refl)
