@@ -2,7 +2,7 @@
 use Rattle.std.proofs.Common.{◌≡◌, inl, inr, ℕ, List, ◌++◌, refl, sym, ap, subst, Option, Some, None, Result, Ok, Err, IfSome}
 use Rattle.host_core.specs.Counts.{Counts, NoneRose}
 use Rattle.host_core.specs.State.{State}
-use Rattle.gcu_engine.specs.Answers.{Complete, DeletesWith, HasCause, Leaves, PrintsAlone, Prints, PrintsAfter, Says}
+use Rattle.gcu_engine.specs.Answers.{Answers, Complete, DeletesWith, HasCause, Leaves, PrintsAlone, Prints, PrintsAfter, Says}
 use Rattle.gcu_engine.specs.Asked.{asked, form_asked}
 use Rattle.gcu_engine.specs.Asking.{Asking}
 use Rattle.gcu_engine.specs.Commands.{AnswersTo, CompleteTo}
@@ -68,3 +68,9 @@ pub complete_by : (words : List (List ℕ)) (f : Option Form) (o : Option State)
     → CompleteTo (λ s. form_asked f s) o old new result → IfSome o (λ s. NoneRose old new → Complete (asked words s).gives result)
 complete_by words f None old new result is h = tt
 complete_by words f (Some s) old new result is h = λ none. subst (λ g. Complete (form_asked g s).gives result) is (h none)
+
+-- what is answered to words is complete
+pub words_complete : (words : List (List ℕ)) (before after : Option State) (old new : Counts) (result : Outcome) → HasCause old new result
+    → Answers words before after old new result → IfSome before (λ s. NoneRose old new → Complete (asked words s).gives result)
+words_complete words None after old new result cause h = tt
+words_complete words (Some s) after old new result cause h = λ none. leaves_completes (asked words s) old new none (asked words s).gives s after result cause h

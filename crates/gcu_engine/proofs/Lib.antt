@@ -1,4 +1,5 @@
 mod Answering
+mod Causes
 mod Completing
 mod Deletions
 mod Elapsing

@@ -1,12 +1,12 @@
 -- The names of checkpoints, found and printed.
-use Rattle.std.proofs.Common.{◌≡◌, ℕ, List, [], ◌∷◌, ◌++◌, append_assoc, append-nil, refl, sym, ap, ◌∙◌, arith, Option, Some, None, Result, Ok, Err, IfSome}
+use Rattle.std.proofs.Common.{◌≡◌, ℕ, List, ◌++◌, refl, sym, ap, arith, Option, Some, None, Result, Ok, Err, IfSome}
 use Rattle.host_core.specs.Counts.{Counts}
 use Rattle.host_core.specs.State.{State}
 use Rattle.checkpoints.specs.Answers.{Lists}
 use Rattle.checkpoints.specs.declared.errors.PointError.{PointError}
 use Rattle.gcu_engine.specs.Answers.{Says}
 use Rattle.gcu_engine.specs.Asked.{list_asked}
-use Rattle.gcu_engine.specs.Lines.{last_line, line_feed, lines}
+use Rattle.gcu_engine.specs.Lines.{last_line, lines}
 use Rattle.gcu_engine.specs.Preparing.{Finds, Refuses}
 use Rattle.gcu_engine.specs.Request as request
 use Rattle.gcu_engine.specs.declared.outcomes.Outcome.{Outcome}
@@ -40,20 +40,3 @@ pub names_refused : (o : Option State) (e : Outcome) (old new : Counts) → Refu
     → Finds {X = List (List ℕ)} o request.list_checkpoints (Err e) list_asked → IfSome o (λ s. Says (list_asked s) e (last_line e))
 names_refused None e old new h f = tt
 names_refused (Some s) e old new h f = refused_says (list_asked s) e old new h f.stands f.gives
-
--- ---- lines
-
--- one line more
-pub lines_more : (names : List (List ℕ)) (text new name : List ℕ) (rest left : List (List ℕ)) → lines names ≡ text ++ lines left → left ≡ name ∷ rest
-    → new ≡ text ++ name ++ line_feed → lines names ≡ new ++ lines rest
-lines_more names text new name rest left so_far is more =
-    so_far ∙ ap (λ (ns : List (List ℕ)). text ++ lines ns) is
-    ∙ sym (append_assoc text (name ++ line_feed) (lines rest) ∙ ap (λ (l : List ℕ). text ++ l) (append_assoc name line_feed (lines rest)))
-    ∙ ap (λ (l : List ℕ). l ++ lines rest) (sym (append_assoc text name line_feed)) ∙ ap (λ (l : List ℕ). l ++ lines rest) (sym more)
-
--- and the last one
-pub lines_end : (names left : List (List ℕ)) (text new done : List ℕ) → lines names ≡ text ++ lines left → left ≡ []
-    → new ≡ text ++ done ++ line_feed → new ≡ lines names ++ (done ++ line_feed)
-lines_end names left text new done so_far none last =
-    let all : lines names ≡ text = so_far ∙ ap (λ (ns : List (List ℕ)). text ++ lines ns) none ∙ append-nil text in
-    last ∙ append_assoc text done line_feed ∙ ap (λ (l : List ℕ). l ++ (done ++ line_feed)) (sym all)

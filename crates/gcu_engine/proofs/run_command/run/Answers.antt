@@ -2,7 +2,8 @@ use Rattle.std.proofs.Common.{Some, sym, ◌++◌}
 use Rattle.conf_doc.specs.Texts.{file_text}
 use Rattle.gcu_engine.specs.Form.{list_checkpoints}
 use Rattle.gcu_engine.specs.Lines.{last_line}
-use Rattle.gcu_engine.proofs.Completing.{complete_by}
+use Rattle.gcu_engine.proofs.Causes.{said_cause}
+use Rattle.gcu_engine.proofs.Completing.{complete_by, words_complete}
 use Rattle.gcu_engine.proofs.Elapsing.{command_leaves, command_leaves_behind, leaves_by}
 use Rattle.gcu_engine.proofs.Answering.{answers_by, said_answers, no_form_reads, no_form_says, preview_reads, preview_says, preview_refuses, refused_cause}
 use Rattle.gcu_engine.specs.declared.outcomes.Outcome.TheVariants.{Usage, Done}
@@ -29,6 +30,13 @@ returns-in-Err-clause-answers g c =
     c.in-Err.outcome (last_line c.in-Err.outcome) c.say-in-Err.result (preview_reads c.args.words.now _ (g.H.Host.told c.args.host.now) (sym c.in-Preview.ensures)) (rw c.in-Err.ensures.told at c.say-in-Err.ensures.said) c.say-in-Err.ensures.counts
     (refused_cause (g.H.Host.counts c.args.host.now) (g.H.Host.counts c.preview.new.host) c.in-Err.outcome c.in-Err.ensures.cause)
     (preview_refuses c.args.words.now _ (g.H.Host.told c.args.host.now) c.in-Err.outcome (g.H.Host.counts c.args.host.now) (g.H.Host.counts c.preview.new.host) (sym c.in-Preview.ensures) c.in-Err.ensures.cause c.in-Err.ensures.answer)
+
+pub returns-in-Err-clause-complete : goal.returns-in-Err-clause-complete
+returns-in-Err-clause-complete g c =
+    words_complete c.args.words.now (g.H.Host.told c.args.host.now) (g.H.Host.told c.say-in-Err.new.host) (g.H.Host.counts c.args.host.now) (g.H.Host.counts c.say-in-Err.new.host) c.say-in-Err.result
+    (said_cause (g.H.Host.counts c.args.host.now) (g.H.Host.counts c.preview.new.host) (g.H.Host.counts c.say-in-Err.new.host) c.preview.ensures.counts c.say-in-Err.ensures.counts
+    c.in-Err.outcome (g.H.Host.told c.preview.new.host) (g.H.Host.told c.say-in-Err.new.host) c.say-in-Err.result c.in-Err.ensures.cause c.say-in-Err.ensures.said)
+    (returns-in-Err-clause-answers g c)
 
 -- ---- time
 
