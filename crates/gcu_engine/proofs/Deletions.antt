@@ -212,8 +212,8 @@ module _ {H : Type 0} (moment : H → ℕ) (left_since : H → ℕ → Left → 
       record { later = omega (arith, time.later, later); each = λ left since. tt; before = λ t left le since. inr tt }
   deletes_within name (Some s) told is good old mid new now time deletes reads later =
       let so_far : LeavesOnly moment left_since old mid (LeftIn (delete_asked name s).gives s) =
-          runs.goes_on moment left_since old old mid (LeftIn (delete_asked name s).gives s) (MayLeaveNow told) (asking_begins (delete_asked name) (Some s) old now) time
-          (λ left may. left_to (delete_asked name) (Some s) left (settled_left s left (subst (λ m. MayLeaveNow m left) is may))) in
+      runs.goes_on moment left_since old old mid (LeftIn (delete_asked name s).gives s) (MayLeaveNow told) (asking_begins (delete_asked name) (Some s) old now) time
+      (λ left may. left_to (delete_asked name) (Some s) left (settled_left s left (subst (λ m. MayLeaveNow m left) is may))) in
       within name s (delete_asked name s).gives (deletion_asked name s) old mid new so_far
       (subst (λ m. IfSome m (λ t. LeavesOnly moment left_since mid new (AreLeft (IsDeletedOrNot name) t))) is deletes)
       (λ refused. subst (λ m. IfSome m (λ t. IsRefused (there_asked name t).gives → Elapses moment left_since mid new (MayLeaveNow m))) is reads (rw good at refused))

@@ -50,8 +50,8 @@ printed_left asking (Some s) now tells may left h =
     let t = tells.0 in
     let part : (part : List ℕ) × MayLeave (printed part t) left = subst (λ o. LeftWithOutput o left) tells.1 h in
     let so_far : LeftIn (asking s).gives s (record left { output = t.output }) =
-        may (record left { output = t.output }) (subst (λ o. MayLeaveNow o (record left { output = t.output })) (sym tells.1)
-        (record { files = part.1.files; output = λ i. t.output; restarts = part.1.restarts })) in
+    may (record left { output = t.output }) (subst (λ o. MayLeaveNow o (record left { output = t.output })) (sym tells.1)
+    (record { files = part.1.files; output = λ i. t.output; restarts = part.1.restarts })) in
     front_on (asking s).gives s left t.output part.0 so_far part.1.output
 
 -- no command leaves more today
