@@ -78,7 +78,8 @@ SaysPart asking before now old new output =
 -- the output with that answer, which a print fault cuts short
 abbrev pub Prints : Asking Request
     → State → State → Counts → Counts → Outcome → List ℕ → Type 0
-Prints asking before now old new (PrintFault step) output = SaysPart asking before now old new output
+Prints asking before now old new (PrintFault step) output =
+    SaysPart asking before now old new output
 Prints asking before now old new other output = Says asking before now other output
 
 -- what is left with that answer: what is there before the output, and the output
