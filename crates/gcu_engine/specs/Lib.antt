@@ -7,6 +7,7 @@ pub mod Lines
 pub mod ModelFiles
 pub mod Request
 -- what only private clauses cite
+pub mod Commands
 pub mod FormView
 pub mod Preparing
 pub mod Printing

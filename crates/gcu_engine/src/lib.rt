@@ -1,9 +1,11 @@
 //! What the program `gcu` does: its commands, their answers and what they print.
 #![tactic(auto)]
 
+mod delete_checkpoint;
 mod form;
 mod inputs;
 mod lines;
+mod list_checkpoints;
 mod model_files;
 mod outcomes;
 mod preview;
@@ -13,5 +15,5 @@ mod stored;
 mod tree_text;
 
 pub use conf_store::StoredWhy;
-pub use outcomes::Outcome;
+pub use outcomes::{Outcome, PointWhy};
 pub use run_command::run;
