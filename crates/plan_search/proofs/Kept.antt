@@ -1,7 +1,7 @@
 -- What a search keeps true, step by step.
-use Rattle.std.proofs.Common.{Result, Ok, Err, MatchResult, ◌≡◌, ◌≢◌, ◌⊎◌, inl, inr, ℕ, ◌<◌, ◌≤◌, ◌+◌, List, [], ◌∷◌, ◌++◌, length, reverse, Option, None, Some, refl, sym, ap, subst, ◌∙◌, arith, length-append}
-use Rattle.std.specs.List.{All, AllPairs, Contains}
-use Rattle.std.proofs.lemmas.List.Elements.{Contains-append_left, Contains-get_or, Contains-push, Contains-push_cases, All-cons, All-push, All-contains, All-nil}
+use Rattle.std.proofs.Common.{Result, Ok, Err, MatchResult, ◌≡◌, ◌≢◌, ◌⊎◌, inl, inr, ℕ, ◌<◌, ◌≤◌, List, [], ◌∷◌, ◌++◌, length, reverse, None, Some, refl, sym, ap, subst, ◌∙◌, arith, length-append}
+use Rattle.std.specs.List.{Contains}
+use Rattle.std.proofs.lemmas.List.Elements.{Contains-append_left, Contains-get_or, Contains-push, Contains-push_cases, All-push, All-contains, All-nil}
 use Rattle.std.proofs.lemmas.List.{length-reverse}
 use Rattle.plan_search.specs.Answers.{IsAnswer}
 use Rattle.plan_search.specs.declared.errors.SearchError.{SearchError}

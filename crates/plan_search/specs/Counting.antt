@@ -1,5 +1,5 @@
 -- Counts that a number of the machine holds.
-use Rattle.std.specs.Prelude.{ℕ, ◌^◌, ◌-◌}
+use Rattle.std.specs.Prelude.{ℕ}
 
 -- the greatest u64
 abbrev pub largest_count : ℕ

@@ -1,4 +1,3 @@
-use Rattle.std.proofs.Common.{◌≡◌}
 use Rattle.plan_search.specs.Searching.{IsUnderWay}
 use Rattle.plan_search.specs.Stacks.{spots, taken, weight}
 use Rattle.plan_search.proofs.searching.find_new.Given as goal

@@ -1,4 +1,4 @@
-use Rattle.std.proofs.Common.{◌≡◌, ◌+◌, ◌<◌, length, refl, arith}
+use Rattle.std.proofs.Common.{refl, arith}
 use Rattle.plan_search.specs.Stacks.{taken}
 use Rattle.plan_search.proofs.Kept.{goal_unreachable, few_reachable, whole_answer}
 use Rattle.plan_search.proofs.searching.go_on.Goals as goal

@@ -1,4 +1,4 @@
-use Rattle.std.proofs.Common.{◌≡◌, ◌+◌, [], ◌∷◌, ◌++◌, List, length, refl, sym, subst, ◌∙◌, arith, length-append}
+use Rattle.std.proofs.Common.{[], ◌∷◌, ◌++◌, refl, sym, subst, ◌∙◌, arith, length-append}
 use Rattle.plan_search.specs.Searching.{AreMet, IsEntered, IsUnderWay}
 use Rattle.plan_search.specs.Stacks.{spots, taken}
 use Rattle.plan_search.proofs.Kept.{many_reachable, met_entered, under_way_entered}

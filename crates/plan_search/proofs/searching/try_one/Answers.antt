@@ -1,4 +1,4 @@
-use Rattle.std.proofs.Common.{◌≡◌, [], ◌∷◌, ◌++◌, List, sym, subst, ◌∙◌, true≢false}
+use Rattle.std.proofs.Common.{sym, subst, ◌∙◌, true≢false}
 use Rattle.std.specs.List.{Contains}
 use Rattle.plan_search.proofs.Kept.{nowhere_new, leads_to_goal, leads_to_new}
 use Rattle.plan_search.proofs.searching.try_one.Goals as goal

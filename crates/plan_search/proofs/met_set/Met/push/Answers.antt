@@ -1,4 +1,4 @@
-use Rattle.std.proofs.Common.{◌≡◌, refl, ◌∙◌}
+use Rattle.std.proofs.Common.{refl, ◌∙◌}
 use Rattle.conf_doc.specs.Order.{pairs_eq}
 use Rattle.conf_doc.specs.contracts.configuration.ValuePartialEq.TheImpl as values
 use Rattle.plan_search.proofs.Same.{configs_decide, inserted}

@@ -1,4 +1,4 @@
-use Rattle.std.proofs.Common.{◌≡◌, ◌+◌, ◌-◌, [], ◌∷◌, ◌++◌, List, length, take, ap, subst, refl, ◌∙◌, arith, None, MatchOption, vec_len}
+use Rattle.std.proofs.Common.{◌-◌, take, ap, refl, ◌∙◌, arith}
 use Rattle.plan_search.proofs.Takings.{top_written}
 use Rattle.plan_search.proofs.stacks.Stack.take_at_top.Goals as goal
 
