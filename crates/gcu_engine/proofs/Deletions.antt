@@ -166,12 +166,16 @@ module _ {H : Type 0} (moment : H → ℕ) (left_since : H → ℕ → Left → 
       by (Some held) there =
           runs.joins moment left_since old mid new (LeftOf (delete_asked name s) s) so_far
           (runs.weaker moment left_since mid new (AreLeft (IsDeletedOrNot name) (with_pending settled s)) (LeftOf (delete_asked name s) s)
-          (λ left h. inr (request.delete_checkpoint name, deletion_given name s held good there, record {
-            files = h.files;
-            part = [];
-            output = h.output ∙ sym (append-nil s.output);
-            restarts = h.restarts;
-          })) deletes)
+          (λ left h. inr (
+            request.delete_checkpoint name,
+            deletion_given name s held good there,
+            record {
+              files = h.files;
+              part = [];
+              output = h.output ∙ sym (append-nil s.output);
+              restarts = h.restarts;
+            },
+          )) deletes)
 
   -- nothing is called yet
   pub asking_begins : (asking : State → Asking Request) (o : Option State) (old : H) → ((left : Left) → left_since old (moment old) left → MayLeaveNow o left)
