@@ -3,6 +3,7 @@ pub mod Given
 pub mod Holding
 pub mod Narrow
 pub mod Places
+pub mod Plain
 pub mod Reached
 pub mod Alike
 pub mod Taken

@@ -10,10 +10,10 @@ use Rattle.yang_values.specs.Circles.{LeadsIn, IsReached}
 use Rattle.yang_values.specs.TypeValues.{next}
 use Rattle.yang_values.specs.Walks.{IsAdded, AreReached, AreReachedUpTo}
 
-no_element : {X : Type 0} (x : X) → ¬ (Contains [] x)
+pub no_element : {X : Type 0} (x : X) → ¬ (Contains [] x)
 no_element x c = absurd (omega (arith, c.1))
 
-only : (q r : Placed) → Contains (q ∷ []) r → q ≡ r
+pub only : (q r : Placed) → Contains (q ∷ []) r → q ≡ r
 only q r c = elim (Contains-push_cases [] q r c) [ | inl n ↦ absurd (no_element r n) | inr e ↦ e ]
 
 -- one that is there

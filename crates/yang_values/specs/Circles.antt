@@ -1,11 +1,13 @@
 -- Circles of typedefs and leafrefs, through unions too (RFC 7950, sections 7.3.4 and 9.9).
-use Rattle.std.specs.Prelude.{◌≡◌, ◌↔◌, IsTrue, ℕ, zero, suc, Bool, List, [], ◌∷◌, ◌++◌, Contains, codes, if◌then◌else◌}
+use Rattle.std.specs.Prelude.{◌≡◌, ◌↔◌, IsTrue, ℕ, zero, suc, Bool, true, false, List, [], ◌∷◌, ◌++◌, Contains, Option, Some, None, codes, if◌then◌else◌}
 use Rattle.yang_text.specs.Declarations.{Declaration, declare, Block, no_more, more}
 use Rattle.yang_text.specs.declared.errors.ModelWhy.TheVariants.{Circle}
 use Rattle.yang_scope.specs.Faults.{fault_at}
 use Rattle.yang_scope.specs.Modules.{Module}
 use Rattle.yang_scope.specs.Paths.{Placed}
 use Rattle.yang_scope.specs.Statements.{is_keyword, each_from}
+use Rattle.yang_scope.specs.declared.bases.Base.{Base}
+use Rattle.yang_scope.specs.declared.bases.Base.TheVariants.{Leafref, Union}
 use Rattle.yang_scope.specs.declared.faults.Fault.{Fault}
 use Rattle.yang_values.specs.TypeValues.{next}
 
@@ -56,3 +58,10 @@ circles_of_module is_on_circle number m = circles_in is_on_circle m.file number 
 -- of all modules
 abbrev pub circles : (Placed → Bool) → List Module → List Fault
 circles is_on_circle modules = each_from (circles_of_module is_on_circle) 0 modules
+
+-- a base that is all that its typedefs lead to
+abbrev pub is_plain : Option Base → Bool
+is_plain None = false
+is_plain (Some Leafref) = false
+is_plain (Some Union) = false
+is_plain (Some _) = true

@@ -3,14 +3,14 @@ ghost use Rattle.std.specs.Prelude.{◌≡◌, ◌↔◌, IsTrue, [], ◌∷◌,
 ghost use Rattle.yang_text.specs.Statements.{declaration};
 ghost use Rattle.yang_scope.specs.Faults.{least_of};
 ghost use Rattle.yang_scope.specs.Paths.{Placed};
-ghost use Rattle.yang_values.specs.Circles.{IsOnCircle, DecidesCircles, circle};
+ghost use Rattle.yang_values.specs.Circles.{IsOnCircle, DecidesCircles, circle, is_plain};
 ghost use Rattle.yang_values.specs.Walks.{placed, IsAdded, AreReached};
 
 use crate::sameness::same_declaration;
 use crate::walks::{Place, next};
 use host_core::Memory;
 use std::alloc::Global;
-use yang_scope::{Fault, Names, note};
+use yang_scope::{Base, Fault, Names, note};
 use yang_text::{ModelWhy, Statement};
 
 /// Whether two type statements are one.
@@ -74,7 +74,19 @@ fn reached<'a>(
     Err(Memory)
 }
 
-/// Whether a type statement leads to itself.
+/// Whether typedefs end at a base that leads on to no type statement.
+fn is_plain(base: Option<Base>) -> bool
+    ensures { result ≡ is_plain base }
+{
+    match base {
+        None => false,
+        Some(Base::Leafref) => false,
+        Some(Base::Union) => false,
+        Some(_) => true,
+    }
+}
+
+/// Whether a type statement leads to itself. Typedefs that end at a plain base are told without a walk.
 fn is_on_circle<'a>(
     alloc: Global,
     names: &Names<'a>,
@@ -82,6 +94,9 @@ fn is_on_circle<'a>(
 ) -> Result<bool, Memory>
     ensures { IfOk result (λ found. IsTrue found ↔ IsOnCircle names.now (placed place.entry)) }
 {
+    if is_plain(names.base_of(place.number, &place.statement.argument)) {
+        return Ok(false);
+    }
     let places = reached(alloc, names, place)?;
     Ok(is_among(places.as_slice(), &place))
 }
