@@ -1,5 +1,5 @@
 -- Typedefs that end at a plain base go round no circle.
-use Rattle.std.proofs.Common.{◌≡◌, ℕ, zero, suc, Bool, true, false, List, [], ◌∷◌, Option, Some, None, codes, option_and_then, refl, sym, ap, subst, ◌∙◌, arith}
+use Rattle.std.proofs.Common.{◌≡◌, ℕ, zero, suc, true, List, Option, Some, None, codes, option_and_then, refl, sym, ap, subst, ◌∙◌, arith}
 use Rattle.std.specs.Option.{option_map_or, option_to_list}
 use Rattle.std.specs.Prelude.{Contains}
 use Rattle.std.proofs.lemmas.Bool.{false≢true}
@@ -13,7 +13,7 @@ use Rattle.yang_scope.specs.declared.bases.Base.TheVariants.{Text, Number, Enume
 use Rattle.yang_scope.specs.declared.meanings.Meaning.{Meaning}
 use Rattle.yang_scope.specs.declared.meanings.Meaning.TheVariants.{Ends, Goes, Nothing}
 use Rattle.yang_values.specs.Circles.{IsOnCircle, is_plain}
-use Rattle.yang_values.specs.TypeValues.{placed_in, next_by, next}
+use Rattle.yang_values.specs.TypeValues.{placed_in, next_by}
 use Rattle.yang_values.specs.Values.{typedef_type}
 use Rattle.yang_values.proofs.Reached.{no_element, only, leads_on}
 

@@ -139,7 +139,11 @@ fn next_by<'a>(
 }
 
 /// The type statements that one leads to.
-pub(crate) fn next<'a>(alloc: Global, names: &Names<'a>, place: Place<'a>) -> Result<Vec<Place<'a>>, Memory>
+pub(crate) fn next<'a>(
+    alloc: Global,
+    names: &Names<'a>,
+    place: Place<'a>,
+) -> Result<Vec<Place<'a>>, Memory>
     ensures { IfOk result
         (λ places. map placed places.items ≡ next names.now (placed place.entry)) }
 {

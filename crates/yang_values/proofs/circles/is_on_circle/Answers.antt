@@ -13,13 +13,15 @@ use Rattle.yang_values.proofs.circles.is_on_circle.Goals as goal
 pub returns : goal.returns
 returns c =
     let p : Placed = placed c.args.place in
-    let same = ap (map placed) c.as_slice.ensures.value in
-    (λ h. c.in_ok-places.ensures.reached p (subst (λ (qs : List Placed). Contains qs p) same (c.is_among.ensures.0 h)),
-    λ r. c.is_among.ensures.1 (subst (λ (qs : List Placed). Contains qs p) (sym same) (reached_there c.args.names.now p (map placed c.in_ok-places.places.items) c.in_ok-places.ensures p r)))
+    let same = ap (map placed) c.as_slice.ensures.value in (
+      λ h. c.in_ok-places.ensures.reached p (subst (λ (qs : List Placed). Contains qs p) same (c.is_among.ensures.0 h)),
+      λ r. c.is_among.ensures.1 (subst (λ (qs : List Placed). Contains qs p) (sym same) (reached_there c.args.names.now p (map placed c.in_ok-places.places.items) c.in_ok-places.ensures p r)),
+    )
 
 pub returns-then-is_plain : goal.returns-then-is_plain
 returns-then-is_plain c =
-    let p : Placed = placed c.args.place in
-    (λ h. absurd (false≢true h),
-    λ r. absurd (no_circle c.args.names.now most_typedefs p (type_meaning c.args.names.now p.0 (argument p.1)) refl
-    (ap is_plain (sym c.base_of.ensures) ∙ sym c.is_plain.ensures ∙ c.if-is_plain.true) r))
+    let p : Placed = placed c.args.place in (
+      λ h. absurd (false≢true h),
+      λ r. absurd (no_circle c.args.names.now most_typedefs p (type_meaning c.args.names.now p.0 (argument p.1)) refl
+          (ap is_plain (sym c.base_of.ensures) ∙ sym c.is_plain.ensures ∙ c.if-is_plain.true) r),
+    )
