@@ -1,5 +1,5 @@
 -- What a type statement leads to, found step by step.
-use Rattle.std.proofs.Common.{◌≡◌, ◌<◌, ◌≤◌, ◌+◌, ◌⊎◌, ℕ, zero, suc, List, [], ◌∷◌, ◌++◌, map, length, take, get_or, refl, sym, ap, subst, ◌∙◌, inl, inr, arith, append_assoc, length-append}
+use Rattle.std.proofs.Common.{◌≡◌, ◌<◌, ◌≤◌, ◌+◌, ℕ, zero, suc, List, [], ◌∷◌, ◌++◌, map, length, take, get_or, refl, sym, ap, subst, ◌∙◌, inl, inr, arith, append_assoc}
 use Rattle.std.specs.Prelude.{Contains}
 use Rattle.std.proofs.lemmas.Bool.{cases_lt}
 use Rattle.std.proofs.lemmas.List.{append-nil, map-append, take_more}
@@ -10,11 +10,11 @@ use Rattle.yang_values.specs.Circles.{LeadsIn, IsReached}
 use Rattle.yang_values.specs.TypeValues.{next}
 use Rattle.yang_values.specs.Walks.{IsAdded, AreReached, AreReachedUpTo}
 
-no_element : {X : Type 0} (x : X) → ¬ (Contains [] x)
+pub no_element : {X : Type 0} (x : X) → ¬ (Contains [] x)
 no_element x c = absurd (omega (arith, c.1))
 
-only : (q r : Placed) → Contains (q ∷ []) r → q ≡ r
-only q r c = elim (Contains-push_cases [] q r c) [ | inl n ↦ absurd (no_element r n) | inr e ↦ e ]
+pub only : (q r : Placed) → Contains (q ∷ []) r → q ≡ r
+only q r c = elim (Contains-push_cases [] q r c) [ inl n ↦ absurd (no_element r n) | inr e ↦ e ]
 
 -- one that is there
 pub added_none : (before : List Placed) (q : Placed) → Contains before q → IsAdded before (q ∷ []) before
@@ -101,8 +101,8 @@ reached_more modules i p r qs others after within is leads all added = record {
   closed = λ j q below c. elim (cases_lt j i) [
     | inl before ↦ left q (all.closed j q before (subst (λ (s : Placed). Contains (next modules s) q) (ap (λ rs. get_or rs j p) added.behind ∙ get_or-left qs added.extra j p (omega arith)) c))
     | inr after ↦
-      let e : j ≡ i = omega arith in
-      added.there q (subst (λ (rs : List Placed). Contains rs q) (sym leads) (subst (λ (s : Placed). Contains (next modules s) q) (ap (λ k. get_or after_all k p) e ∙ ap (λ rs. get_or rs i p) added.behind ∙ get_or-left qs added.extra i p within ∙ sym is) c))
+        let e : j ≡ i = omega arith in
+        added.there q (subst (λ (rs : List Placed). Contains rs q) (sym leads) (subst (λ (s : Placed). Contains (next modules s) q) (ap (λ k. get_or after_all k p) e ∙ ap (λ rs. get_or rs i p) added.behind ∙ get_or-left qs added.extra i p within ∙ sym is) c))
   ];
 }
   where

@@ -1,5 +1,5 @@
 -- Statements compared by all that they are.
-use Rattle.std.specs.Prelude.{ℕ, ◌==◌, ◌&&◌, Bool, true, false, List, [], ◌∷◌, Option, Some, None}
+use Rattle.std.specs.Prelude.{ℕ, ◌==◌, ◌&&◌, Bool, true, false, List, Option, Some, None}
 use Rattle.std.specs.Str.{bytes_eq}
 use Rattle.yang_text.specs.Declarations.{Declaration, declare, Block, no_more, more}
 
@@ -14,7 +14,8 @@ abbrev mutual
   -- the same keyword, argument, place and block
   pub same_declaration : Declaration → Declaration → Bool
   same_declaration (declare k a l s e b) (declare k' a' l' s' e' b') =
-      bytes_eq k k' && (same_argument a a' && (l == l' && (s == s' && (e == e' && same_block b b'))))
+      bytes_eq k k'
+      && (same_argument a a' && (l == l' && (s == s' && (e == e' && same_block b b'))))
 
   -- the same statements in order
   pub same_block : Block → Block → Bool

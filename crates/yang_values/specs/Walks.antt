@@ -52,7 +52,8 @@ pub record AreReached (modules : List Module) (p : Placed) (qs : List Placed) : 
   pub closed : (r q : Placed) → Contains qs r → Contains (next modules r) q → Contains qs q
 
 -- the same, where so many of them were gone on from
-pub record AreReachedUpTo (modules : List Module) (i : ℕ) (p : Placed) (qs : List Placed) : Type 0 where
+pub record AreReachedUpTo (modules : List Module) (i : ℕ) (p : Placed) (qs : List Placed)
+    : Type 0 where
   pub reached : (q : Placed) → Contains qs q → IsReached modules p q
   pub first : (q : Placed) → Contains (next modules p) q → Contains qs q
   pub closed :
