@@ -5,6 +5,7 @@ pub mod Given
 pub mod Holding
 pub mod Narrow
 pub mod Places
+pub mod Plain
 pub mod Reached
 pub mod Alike
 pub mod Taken

@@ -1,5 +1,5 @@
 -- What a type statement leads to, found step by step.
-use Rattle.std.proofs.Common.{◌≡◌, ◌<◌, ◌≤◌, ◌+◌, ◌⊎◌, ℕ, zero, suc, List, [], ◌∷◌, ◌++◌, map, length, take, get_or, refl, sym, ap, subst, ◌∙◌, inl, inr, arith, append_assoc, length-append}
+use Rattle.std.proofs.Common.{◌≡◌, ◌<◌, ◌≤◌, ◌+◌, ℕ, zero, suc, List, [], ◌∷◌, ◌++◌, map, length, take, get_or, refl, sym, ap, subst, ◌∙◌, inl, inr, arith, append_assoc}
 use Rattle.std.specs.Prelude.{Contains}
 use Rattle.std.proofs.lemmas.Bool.{cases_lt}
 use Rattle.std.proofs.lemmas.List.{append-nil, map-append, take_more}
@@ -10,10 +10,10 @@ use Rattle.yang_values.specs.Circles.{LeadsIn, IsReached}
 use Rattle.yang_values.specs.TypeValues.{next}
 use Rattle.yang_values.specs.Walks.{IsAdded, AreReached, AreReachedUpTo}
 
-no_element : {X : Type 0} (x : X) → ¬ (Contains [] x)
+pub no_element : {X : Type 0} (x : X) → ¬ (Contains [] x)
 no_element x c = absurd (omega (arith, c.1))
 
-only : (q r : Placed) → Contains (q ∷ []) r → q ≡ r
+pub only : (q r : Placed) → Contains (q ∷ []) r → q ≡ r
 only q r c = elim (Contains-push_cases [] q r c) [ inl n ↦ absurd (no_element r n) | inr e ↦ e ]
 
 -- one that is there

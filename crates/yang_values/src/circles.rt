@@ -1,16 +1,17 @@
 //! Type statements on circles of typedefs and leafrefs.
 ghost use Rattle.std.specs.Prelude.{◌≡◌, ◌↔◌, IsTrue, [], ◌∷◌, Bool, map, Contains, IfOk};
 ghost use Rattle.yang_text.specs.Statements.{declaration};
-ghost use Rattle.yang_scope.specs.Faults.{least_of};
+ghost use Rattle.yang_scope.specs.Faults.{lesser, least_of};
+ghost use Rattle.yang_text.specs.declared.errors.ModelWhy.{ModelWhy};
 ghost use Rattle.yang_scope.specs.Paths.{Placed};
-ghost use Rattle.yang_values.specs.Circles.{IsOnCircle, DecidesCircles, circle};
+ghost use Rattle.yang_values.specs.Circles.{IsOnCircle, DecidesCircles, circle, is_plain};
 ghost use Rattle.yang_values.specs.Walks.{placed, IsAdded, AreReached};
 
 use crate::sameness::same_declaration;
 use crate::walks::{Place, next};
 use host_core::Memory;
 use std::alloc::Global;
-use yang_scope::{Fault, Names, note};
+use yang_scope::{Base, Fault, Names, note};
 use yang_text::{ModelWhy, Statement};
 
 /// Whether two type statements are one.
@@ -70,12 +71,38 @@ fn reached<'a>(alloc: Global, names: &Names<'a>, place: Place<'a>) -> Result<Vec
     Err(Memory)
 }
 
-/// Whether a type statement leads to itself.
+/// Whether typedefs end at a base that leads on to no type statement.
+fn is_plain(base: Option<Base>) -> bool
+    ensures { result ≡ is_plain base }
+{
+    match base {
+        None => false,
+        Some(Base::Leafref) => false,
+        Some(Base::Union) => false,
+        Some(_) => true,
+    }
+}
+
+/// Whether a type statement leads to itself. Typedefs that end at a plain base are told without a walk.
 fn is_on_circle<'a>(alloc: Global, names: &Names<'a>, place: Place<'a>) -> Result<bool, Memory>
     ensures { IfOk result (λ found. IsTrue found ↔ IsOnCircle names.now (placed place.entry)) }
 {
+    if is_plain(names.base_of(place.number, &place.statement.argument)) {
+        return Ok(false);
+    }
     let places = reached(alloc, names, place)?;
     Ok(is_among(places.as_slice(), &place))
+}
+
+/// Whether a fault so far is answered before any on a line.
+fn is_settled(least: &Option<Fault>, file: u32, line: u32) -> bool
+    ensures { IsTrue result → (why : ModelWhy)
+        → lesser least.now (record { file = file; line = line; why = why }) ≡ least.now }
+{
+    match least {
+        Some(first) => first.file < file || (first.file == file && first.line < line),
+        None => false,
+    }
 }
 
 /// A type statement of a module that lies on a circle of typedefs and leafrefs, through unions too. One
@@ -92,6 +119,9 @@ pub(crate) fn note_circle<'a>(
         → DecidesCircles names.now is_on_circle → least.new ≡ least_of least.old
         (circle is_on_circle file number (declaration statement.now))) }
 {
+    if is_settled(least, file, statement.line) {
+        return Ok(());
+    }
     if is_on_circle(alloc, names, Place { number, statement })? {
         note(least, file, statement.line, ModelWhy::Circle);
     }
