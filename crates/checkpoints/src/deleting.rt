@@ -1,11 +1,14 @@
 //! A checkpoint deleted.
-ghost use Rattle.std.specs.Prelude.{◌≡◌, ◌≤◌, IfErr, IfSome, IsErrOf, OnOk};
+ghost use Rattle.std.specs.Prelude.{◌≡◌, ◌≤◌, IfErr, IfSome, IsErrOf, None, OnOk};
+ghost use Rattle.std.specs.FinMap.{get};
 ghost use Rattle.host_core.specs.Counts.{DiskMayRise, Rose};
 ghost use Rattle.host_core.specs.Crashes.{LeavesOnly};
 ghost use Rattle.host_core.specs.Names.{longest_plain_name};
 ghost use Rattle.conf_store.specs.Changes.{AreLeft, IsSettled, Settles};
+ghost use Rattle.conf_store.specs.Reads.{OnlyReads};
 ghost use Rattle.checkpoints.specs.Answers.{Deletes, IsOfDeleting, Named};
 ghost use Rattle.checkpoints.specs.Changes.{IsDeleted, IsDeletedOrNot, LeavesOf};
+ghost use Rattle.checkpoints.specs.Points.{points};
 ghost use Rattle.checkpoints.specs.declared.errors.PointError.TheVariants.{Disk as disk_failed};
 
 use crate::PointError;
@@ -27,9 +30,13 @@ pub fn delete<H: Host>(alloc: Global, host: &mut H, name: &str) -> Result<(), Po
     // After a fault of the disk the checkpoint is there or not, and after another error nothing is changed.
     ensures err { IfErr result
         (LeavesOf (IsDeletedOrNot name.now) (H.told host.old) (H.told host.new)) }
+    // Where there is no such checkpoint the folder is only read, whatever the answer.
+    ensures only_reads { IfSome (H.told host.old) (λ s. get (points s.files) name.now ≡ None
+        → OnlyReads H.told H.counts H.moment H.left_since H.goes_on host.old host.new) }
     ensures any_moment { IfSome (H.told host.old)
         (λ s. LeavesOnly H.moment H.left_since host.old host.new
         (AreLeft (IsDeletedOrNot name.now) s)) }
+    ensures later { H.moment host.old ≤ H.moment host.new }
     ensures counts { DiskMayRise (H.counts host.old) (H.counts host.new) }
     ensures cause { IsErrOf result disk_failed
         → Rose (H.counts host.old).disk (H.counts host.new).disk }

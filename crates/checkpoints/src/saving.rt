@@ -1,11 +1,14 @@
 //! A checkpoint saved.
-ghost use Rattle.std.specs.Prelude.{◌≡◌, ◌≤◌, IfErr, IfSome, IsErrOf, OnOk};
+ghost use Rattle.std.specs.Prelude.{◌≡◌, ◌≤◌, IfErr, IfSome, IsErrOf, IsSome, OnOk};
+ghost use Rattle.std.specs.FinMap.{get};
 ghost use Rattle.host_core.specs.Counts.{DiskMayRise, Rose};
 ghost use Rattle.host_core.specs.Crashes.{LeavesOnly};
 ghost use Rattle.host_core.specs.Names.{longest_plain_name};
 ghost use Rattle.conf_store.specs.Changes.{AreLeft, IsSettled, Settles};
+ghost use Rattle.conf_store.specs.Reads.{OnlyReads};
 ghost use Rattle.checkpoints.specs.Answers.{IsOfSaving, Named, Saves};
 ghost use Rattle.checkpoints.specs.Changes.{IsSaved, IsSavedOrNot, LeavesOf};
+ghost use Rattle.checkpoints.specs.Points.{points};
 ghost use Rattle.checkpoints.specs.declared.errors.PointError.TheVariants.{Disk as disk_failed};
 
 use crate::PointError;
@@ -36,6 +39,9 @@ pub fn save<H: Host>(
     // After a fault of the disk the checkpoint is there or not, and after another error nothing is changed.
     ensures err { IfErr result
         (LeavesOf (IsSavedOrNot name.now config.now) (H.told host.old) (H.told host.new)) }
+    // Where there is such a checkpoint the folder is only read, whatever the answer.
+    ensures only_reads { IfSome (H.told host.old) (λ s. IsSome (get (points s.files) name.now)
+        → OnlyReads H.told H.counts H.moment H.left_since H.goes_on host.old host.new) }
     ensures any_moment { IfSome (H.told host.old)
         (λ s. LeavesOnly H.moment H.left_since host.old host.new
         (AreLeft (IsSavedOrNot name.now config.now) s)) }

@@ -1,11 +1,13 @@
+-- What public clauses cite.
 pub mod Acceptance
 pub mod Belongings
 pub mod ConfigTree
-pub mod Faults
 pub mod FirstWants
-pub mod NodeTrees
 pub mod Rows
 pub mod Validity
-pub mod Verdicts
 pub mod WantRuns
 pub mod Wants
+-- What only private clauses cite.
+pub mod Faults
+pub mod NodeTrees
+pub mod Verdicts

@@ -29,7 +29,8 @@ module_of s table = module_of_table s.models.now s.config.now s.known.0 table
 abbrev pub HasModule : ConfigNodes → ℕ → Type 0
 HasModule s table = IsSome (module_of s table)
 
--- a node: no other one is of the root's level, and below modules its table has one
+-- a node: of its level the root is the only one, and what stands below a module has a table that
+-- has a model
 pub record IsNodeOf (s : ConfigNodes) (n : Node) : Type 0 where
   pub root : n.level ≡ root_level → n ≡ root_node
   pub below : module_level < n.level → HasModule s n.table

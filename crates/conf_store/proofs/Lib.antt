@@ -3,6 +3,7 @@ mod Digits
 mod Entries
 mod Finds
 mod FileMaps
+pub mod FileTexts
 mod FoldStages
 mod KeepsShape
 mod Levels

@@ -5,111 +5,136 @@ use Rattle.host_core.specs.State.{State}
 use Rattle.conf_doc.specs.Configuration.{tree}
 use Rattle.conf_doc.specs.Document.{Document}
 use Rattle.conf_doc.specs.Trees.{document}
+use Rattle.conf_doc.specs.declared.configuration.Config.{Config}
 use Rattle.conf_doc.specs.declared.trees.Tree.{Tree}
-use Rattle.gcu_engine.specs.Answers.{Answers, Complete, HasCause, Prints, PrintsAlone, Says, done_output}
-use Rattle.gcu_engine.specs.Asked.{asked, preview_asked}
+use Rattle.gcu_engine.specs.Answers.{Answers, Complete, HasCause, Leaves, Prints, Says}
+use Rattle.gcu_engine.specs.Asked.{asked, form_asked, preview_asked, target_asked}
 use Rattle.gcu_engine.specs.Asking.{Asking}
-use Rattle.gcu_engine.specs.Form.{form, preview}
+use Rattle.gcu_engine.specs.Commands.{AnswersTo}
+use Rattle.gcu_engine.specs.Form.{Form, form, preview}
 use Rattle.gcu_engine.specs.Lines.{last_line}
 use Rattle.gcu_engine.specs.Preparing.{FailsIn, Finds, Refuses, StandsIn, refusal}
 use Rattle.gcu_engine.specs.Printing.{IsPrinted, IsSaid, text_in_lines}
 use Rattle.gcu_engine.specs.Request as request
 use Rattle.gcu_engine.specs.Request.{Request}
-use Rattle.gcu_engine.specs.Trees.{document_in, preview_document, through}
-use Rattle.gcu_engine.proofs.Finding.{fails_before}
+use Rattle.gcu_engine.specs.Trees.{preview_document}
+use Rattle.gcu_engine.proofs.Finding.{fails_before, fails_first, tree_given}
 use Rattle.gcu_engine.specs.declared.outcomes.Outcome.{Outcome}
 use Rattle.gcu_engine.specs.declared.outcomes.Outcome.TheVariants.{Done, Memory, Usage, InputFault, DiskFault, PrintFault}
 
 -- a refusal's last line is all that it says
-refused_says : (asking : Asking Request) (e : Outcome) (old new : Counts)
-    → Refuses old new e → StandsIn asking e → FailsIn (refusal e) asking → Says asking e (last_line e)
-refused_says asking Done old new never s f = absurd never
-refused_says asking Memory old new h s f = refl
-refused_says asking Usage old new never s f = absurd never
-refused_says asking InputFault old new h s f = (s, refl)
-refused_says asking (DiskFault step) old new h s f = (s, refl)
-refused_says asking (PrintFault step) old new never s f = absurd never
-refused_says asking other old new h s f = (f, refl)
+pub refused_says : (asking : Asking Request) (s : State) (e : Outcome) (old new : Counts)
+    → Refuses old new e → StandsIn asking e → FailsIn (refusal e) asking → Says asking s s e (last_line e)
+refused_says asking s Done old new never st f = absurd never
+refused_says asking s Memory old new h st f = (inl refl, refl)
+refused_says asking s Usage old new never st f = absurd never
+refused_says asking s InputFault old new h st f = (st, inl refl, refl)
+refused_says asking s (DiskFault step) old new h st f = (st, inl (inl refl), refl)
+refused_says asking s (PrintFault step) old new never st f = absurd never
+refused_says asking s other old new h st f = (f, inl refl, refl)
 
 -- whole, it is the output of that answer
-says_prints : (asking : Asking Request) (old new : Counts) (r : Outcome) (output : List ℕ) → Says asking r output → Prints asking old new r output
-says_prints asking old new (PrintFault step) output never = absurd never
-says_prints asking old new Done output h = h
-says_prints asking old new Memory output h = h
-says_prints asking old new other output h = h
+says_prints : (asking : Asking Request) (s now : State) (old new : Counts) (r : Outcome) (output : List ℕ) → Says asking s now r output
+    → Prints asking s now old new r output
+says_prints asking s now old new (PrintFault step) output never = absurd never
+says_prints asking s now old new Done output h = h
+says_prints asking s now old new Memory output h = h
+says_prints asking s now old new other output h = h
 
 -- a cause stays one while output is printed
-cause_stays : (old mid new : Counts) (r : Outcome) (asking : Asking Request) (text : List ℕ)
-    → PrintMayRise mid new → HasCause old mid r → Says asking r text → HasCause old new r
-cause_stays old mid new InputFault asking text rises h says = subst (λ n. Rose old.input n) (sym (ap (λ c. c.input) rises.2)) h
-cause_stays old mid new (DiskFault step) asking text rises h says = (h.0, subst (λ n. Rose old.disk n) (sym (ap (λ c. c.disk) rises.2)) h.1)
-cause_stays old mid new (PrintFault step) asking text rises h never = absurd never
-cause_stays old mid new Done asking text rises h says = tt
-cause_stays old mid new other asking text rises h says = tt
+cause_stays : (old mid new : Counts) (r : Outcome) (asking : Asking Request) (s now : State) (text : List ℕ)
+    → PrintMayRise mid new → HasCause old mid r → Says asking s now r text → HasCause old new r
+cause_stays old mid new InputFault asking s now text rises h says = subst (λ n. Rose old.input n) (sym (ap (λ c. c.input) rises.2)) h
+cause_stays old mid new (DiskFault step) asking s now text rises h says = (h.0, subst (λ n. Rose old.disk n) (sym (ap (λ c. c.disk) rises.2)) h.1)
+cause_stays old mid new (PrintFault step) asking s now text rises h never = absurd never
+cause_stays old mid new Done asking s now text rises h says = tt
+cause_stays old mid new other asking s now text rises h says = tt
 
--- what one answer prints
-prints_alone : (asking : Asking Request) (s : State) (after : Option State) (old mid new : Counts) (r : Outcome) (text : List ℕ) (result : Outcome)
-    → IsPrinted r text (Some s) after mid new result → PrintMayRise mid new → HasCause old mid r → Says asking r text
-    → PrintsAlone asking s after old new result
-prints_alone asking s after old mid new r text result (inl whole) rises cause says =
-    (text, whole.1, subst (λ x. Prints asking old new x text) (sym whole.0) (says_prints asking old new r text says))
-prints_alone asking s after old mid new r text result (inr part) rises cause says = (
+-- what one answer leaves
+pub printed_leaves : (asking : Asking Request) (s now : State) (after : Option State) (old mid new : Counts) (r : Outcome) (text : List ℕ) (result : Outcome)
+    → IsPrinted r text (Some now) after mid new result → PrintMayRise mid new → HasCause old mid r → Says asking s now r text
+    → Leaves asking s after old new result
+printed_leaves asking s now after old mid new r text result (inl whole) rises cause says =
+    (now, text, whole.1, subst (λ x. Prints asking s now old new x text) (sym whole.0) (says_prints asking s now old new r text says))
+printed_leaves asking s now after old mid new r text result (inr part) rises cause says = (
+  now,
   part.1.0,
   part.1.3,
-  subst (λ x. Prints asking old new x part.1.0) (sym part.0)
-      (r, part.1.1, cause_stays old mid new r asking text rises cause says, subst (λ t. Says asking r t) part.1.2 says),
+  subst (λ x. Prints asking s now old new x part.1.0) (sym part.0)
+      (r, part.1.1, cause_stays old mid new r asking s now text rises cause says, subst (λ t. Says asking s now r t) part.1.2 says),
 )
 
-printed_answers : (words : List (List ℕ)) (before after : Option State) (old mid new : Counts) (r : Outcome) (text : List ℕ) (result : Outcome)
-    → IsPrinted r text before after mid new result → PrintMayRise mid new → HasCause old mid r → IfSome before (λ s. Says (asked words s) r text)
-    → Answers words before after old new result
-printed_answers words None after old mid new r text result (inl whole) rises cause says = whole.1
-printed_answers words None after old mid new r text result (inr part) rises cause says = part.1.3
-printed_answers words (Some s) after old mid new r text result printed rises cause says =
-    prints_alone (asked words s) s after old mid new r text result printed rises cause says
+-- a question whose command changes nothing but the output
+module _ (asking : State → Asking Request) where
+  printed_to : (before after : Option State) (old mid new : Counts) (r : Outcome) (text : List ℕ) (result : Outcome)
+      → IsPrinted r text before after mid new result → PrintMayRise mid new → HasCause old mid r → IfSome before (λ s. Says (asking s) s s r text)
+      → AnswersTo asking before after old new result
+  printed_to None after old mid new r text result (inl whole) rises cause says = whole.1
+  printed_to None after old mid new r text result (inr part) rises cause says = part.1.3
+  printed_to (Some s) after old mid new r text result printed rises cause says =
+      printed_leaves (asking s) s s after old mid new r text result printed rises cause says
 
-memory_says : (words : List (List ℕ)) (o : Option State) → IfSome o (λ s. Says (asked words s) Memory (last_line Memory))
-memory_says words None = tt
-memory_says words (Some s) = refl
+  memory_says : (o : Option State) → IfSome o (λ s. Says (asking s) s s Memory (last_line Memory))
+  memory_says None = tt
+  memory_says (Some s) = (inl refl, refl)
+
+  -- the answer, or want of memory in its place
+  pub said_to : (before after : Option State) (old mid new : Counts) (r : Outcome) (text : List ℕ) (result : Outcome)
+      → IsSaid r text before after mid new result → PrintMayRise mid new → HasCause old mid r → IfSome before (λ s. Says (asking s) s s r text)
+      → AnswersTo asking before after old new result
+  said_to before after old mid new r text result (inl said) rises cause says =
+      printed_to before after old mid new r text result said rises cause says
+  said_to before after old mid new r text result (inr said) rises cause says =
+      printed_to before after old mid new Memory (last_line Memory) result said rises tt (memory_says before)
+
+-- an answer to the command that the words are is one to the words
+pub answers_by : (words : List (List ℕ)) (f : Option Form) (before after : Option State) (old new : Counts) (result : Outcome) → f ≡ form words
+    → AnswersTo (λ s. form_asked f s) before after old new result → Answers words before after old new result
+answers_by words f None after old new result is h = h
+answers_by words f (Some s) after old new result is h = subst (λ g. Leaves (form_asked g s) s after old new result) is h
 
 -- the answer, or want of memory in its place
 pub said_answers : (words : List (List ℕ)) (before after : Option State) (old mid new : Counts) (r : Outcome) (text : List ℕ) (result : Outcome)
-    → IsSaid r text before after mid new result → PrintMayRise mid new → HasCause old mid r → IfSome before (λ s. Says (asked words s) r text)
+    → IsSaid r text before after mid new result → PrintMayRise mid new → HasCause old mid r → IfSome before (λ s. Says (asked words s) s s r text)
     → Answers words before after old new result
-said_answers words before after old mid new r text result (inl said) rises cause says =
-    printed_answers words before after old mid new r text result said rises cause says
-said_answers words before after old mid new r text result (inr said) rises cause says =
-    printed_answers words before after old mid new Memory (last_line Memory) result said rises tt (memory_says words before)
+said_answers words before after old mid new r text result said rises cause says =
+    answers_by words (form words) before after old new result refl
+    (said_to (asked words) before after old mid new r text result said rises cause says)
 
 -- words that are no command are told so
-pub no_form_says : (words : List (List ℕ)) (o : Option State) → form words ≡ None → IfSome o (λ s. Says (asked words s) Usage (last_line Usage))
+pub no_form_says : (words : List (List ℕ)) (o : Option State) → form words ≡ None → IfSome o (λ s. Says (asked words s) s s Usage (last_line Usage))
 no_form_says words None is = tt
-no_form_says words (Some s) is = (rw is refl, refl)
+no_form_says words (Some s) is = (rw is refl, inl refl, refl)
 
--- what is printed of a document is the file text of the configuration that is asked for
-printed_given : (asking : Asking Request) (d : Document) → (through document_in asking).Gives (Ok d)
-    → (r : Request) × asking.Gives (Ok r) × (text_in_lines d ++ last_line Done ≡ done_output r)
-printed_given asking d (Ok (request.preview c), h, is) =
-    let same : tree c ≡ d = cc in (request.preview c, h, ap (λ e. text_in_lines e ++ last_line Done) (sym same))
-printed_given asking d (Err e, h, is) = absurd cc
+-- the document that was found is that of the configuration that a preview is of
+preview_given : (path : List ℕ) (s : State) (d : Document) → (preview_document path s).Gives (Ok d)
+    → (c : Config) × (preview_asked path s).Gives (Ok (request.preview c)) × (tree c ≡ d)
+preview_given path s d h =
+    let given = tree_given (target_asked path s) d h in (given.0, inr (given.0, given.1, refl), given.2)
 
 -- what a preview gives is what its words ask for
 pub preview_says : (words : List (List ℕ)) (path : List ℕ) (o : Option State) (t : Tree) → form words ≡ Some (preview path)
-    → Finds o document (Ok t) (preview_document path) → IfSome o (λ s. Says (asked words s) Done (text_in_lines (document t) ++ last_line Done))
+    → Finds o document (Ok t) (preview_document path) → IfSome o (λ s. Says (asked words s) s s Done (text_in_lines (document t) ++ last_line Done))
 preview_says words path None t is h = tt
-preview_says words path (Some s) t is h = rw is (printed_given (preview_asked path s) (document t) h.gives)
+preview_says words path (Some s) t is h =
+    let given = preview_given path s (document t) h.gives in
+    (request.preview given.0, rw is given.1, refl, ap (λ e. text_in_lines e ++ last_line Done) (sym given.2))
 
-stands_before : (asking : Asking Request) (e : Outcome) → StandsIn (through document_in asking) e → StandsIn asking e
-stands_before asking InputFault h = h
-stands_before asking (DiskFault step) h = h
-stands_before asking other h = tt
+stands_before : (path : List ℕ) (s : State) (e : Outcome) → StandsIn (preview_document path s) e → StandsIn (preview_asked path s) e
+stands_before path s InputFault h = inl h
+stands_before path s (DiskFault step) h = inl h
+stands_before path s other h = tt
+
+-- what is refused of the configuration that a preview is of is refused of the preview
+preview_fails : (path : List ℕ) (s : State) (o : Option Outcome) → FailsIn o (preview_document path s) → FailsIn o (preview_asked path s)
+preview_fails path s o h = fails_first (target_asked path s) _ o (fails_before tree o (target_asked path s) h)
 
 -- what a preview refuses is what its words are refused
 pub preview_refuses : (words : List (List ℕ)) (path : List ℕ) (o : Option State) (e : Outcome) (old new : Counts) → form words ≡ Some (preview path)
-    → Refuses old new e → Finds {X = Tree} o document (Err e) (preview_document path) → IfSome o (λ s. Says (asked words s) e (last_line e))
+    → Refuses old new e → Finds {X = Tree} o document (Err e) (preview_document path) → IfSome o (λ s. Says (asked words s) s s e (last_line e))
 preview_refuses words path None e old new is h f = tt
 preview_refuses words path (Some s) e old new is h f =
-    refused_says (asked words s) e old new h (rw is (stands_before (preview_asked path s) e f.stands)) (rw is (fails_before document_in (refusal e) (preview_asked path s) f.gives))
+    refused_says (asked words s) s e old new h (rw is (stands_before path s e f.stands)) (rw is (preview_fails path s (refusal e) f.gives))
 
 -- a refusal has its cause
 pub refused_cause : (old new : Counts) (e : Outcome) → Refuses old new e → HasCause old new e
@@ -151,7 +176,7 @@ said_completes words path None after told old mid new e result is said rises fel
 said_completes words path (Some s) after told old mid new e result is said rises fell h f = λ none. by none said
   where
     refused : FailsIn (refusal e) (asked words s)
-    refused = rw is (fails_before document_in (refusal e) (preview_asked path s) f.gives)
+    refused = rw is (preview_fails path s (refusal e) f.gives)
 
     by : NoneRose old new → IsSaid e (last_line e) told after mid new result → Complete (asked words s) result
     by none (inl first) =
@@ -168,13 +193,12 @@ pub done_completes : (words : List (List ℕ)) (path text : List ℕ) (o after t
 done_completes words path text None after told old mid new t result is said fell f = tt
 done_completes words path text (Some s) after told old mid new t result is said fell f = λ none. by none said
   where
-    given : (r : Request) × (asked words s).Gives (Ok r) × (text_in_lines (document t) ++ last_line Done ≡ done_output r)
-    given = rw is (printed_given (preview_asked path s) (document t) f.gives)
-
-    finished : (r : Request) → (asked words s).Gives (Ok r) → Complete (asked words s) Done
-    finished (request.preview c) h = inr (inr (request.preview c, h, refl))
+    finished : Complete (asked words s) Done
+    finished =
+        let given = preview_given path s (document t) f.gives in
+        inr (inr (request.preview given.0, rw is given.1, refl))
 
     by : NoneRose old new → IsSaid Done text told after mid new result → Complete (asked words s) result
-    by none (inl first) = printed_completes (asked words s) old mid new Done text told after result first fell none (finished given.0 given.1)
+    by none (inl first) = printed_completes (asked words s) old mid new Done text told after result first fell none finished
     by none (inr second) =
         printed_completes (asked words s) old mid new Memory (last_line Memory) told after result second fell none (inl refl)

@@ -5,16 +5,15 @@ use Rattle.host_core.specs.State.{State}
 use Rattle.conf_doc.specs.declared.configuration.Config.{Config}
 use Rattle.yang_model.specs.ModelSets.{ModelSet}
 use Rattle.gcu_engine.specs.Answers.{Says}
-use Rattle.gcu_engine.specs.Asked.{asked}
 use Rattle.gcu_engine.specs.Checking.{IsJudged, check_asked}
-use Rattle.gcu_engine.specs.Form.{form, check}
 use Rattle.gcu_engine.specs.Lines.{last_line}
 use Rattle.gcu_engine.specs.ModelFiles.{AreModels, Text, models_asked, texts_asked}
-use Rattle.gcu_engine.specs.Preparing.{Finds, IsTold, RefusesAlways}
+use Rattle.gcu_engine.specs.Preparing.{Finds, IsRightBy, Refuses, RefusesAlways}
 use Rattle.gcu_engine.specs.Request as request
 use Rattle.gcu_engine.specs.StoredAsked.{stored_asked}
 use Rattle.gcu_engine.specs.declared.outcomes.Outcome.{Outcome}
 use Rattle.gcu_engine.specs.declared.outcomes.Outcome.TheVariants.{Done}
+use Rattle.gcu_engine.proofs.Answering.{refused_says}
 use Rattle.gcu_engine.proofs.Finding.{first_refused, then_found, found_told}
 
 abbrev self : {X : Type 0} → X → X
@@ -29,7 +28,7 @@ no_texts (Some s) e h = first_refused self self e (texts_asked s) _ h
 
 -- what the texts give
 pub models_read : (o : Option State) (texts : List Text) (r : Result ModelSet Outcome) → Finds o self (Ok texts) texts_asked
-    → IsTold self r (AreModels texts) → IfErr r RefusesAlways → Finds o self r models_asked
+    → IsRightBy self r (AreModels texts) → IfErr r RefusesAlways → Finds o self r models_asked
 models_read None texts r h told always = tt
 models_read (Some s) texts r h told always =
     then_found self self texts r (texts_asked s) _ h (found_told self r (AreModels texts) told always)
@@ -53,9 +52,23 @@ no_config (Some s) models e h f =
 
 -- what is said of the configuration
 pub judged : (o : Option State) (models : ModelSet) (config : Config) (r : Result (Unit {0}) Outcome) → Finds o self (Ok models) models_asked
-    → Finds o self (Ok config) stored_asked → IsTold check_of r (IsJudged models config) → IfErr r RefusesAlways
+    → Finds o self (Ok config) stored_asked → IsRightBy check_of r (IsJudged models config) → IfErr r RefusesAlways
     → Finds o check_of r check_asked
 judged None models config r h f told always = tt
 judged (Some s) models config r h f told always =
     then_found self check_of models r (models_asked s) _ h
     (then_found self check_of config r (stored_asked s) _ f (found_told check_of r (IsJudged models config) told always))
+
+-- ---- what is said
+
+-- what is printed of a valid configuration is what is asked for
+pub check_says : (o : Option State) (u : Unit {0}) → Finds o check_of (Ok u) check_asked
+    → IfSome o (λ s. Says (check_asked s) s s Done (last_line Done))
+check_says None u h = tt
+check_says (Some s) u h = (request.check, h.gives, refl, refl)
+
+-- what is refused of it is refused of the question
+pub check_refused : (o : Option State) (e : Outcome) (old new : Counts) → Refuses old new e
+    → Finds {X = Unit {0}} o check_of (Err e) check_asked → IfSome o (λ s. Says (check_asked s) s s e (last_line e))
+check_refused None e old new h f = tt
+check_refused (Some s) e old new h f = refused_says (check_asked s) s e old new h f.stands f.gives

@@ -22,15 +22,14 @@ use Rattle.conf_store.specs.declared.loaded.Stored.{Stored}
 use Rattle.gcu_engine.specs.Asked.{patch_asked, patch_in, patch_limit, target, target_shape}
 use Rattle.gcu_engine.specs.StoredAsked.{stored_asked, stored_answer}
 use Rattle.gcu_engine.specs.Asking.{Asking, follows, follows_by, ◌>>>◌}
-use Rattle.gcu_engine.specs.Preparing.{FailsIn, Finds, Found, IsGiven, IsTold, Refuses, RefusesAlways, StandsIn, refusal}
-use Rattle.gcu_engine.specs.Request as request
-use Rattle.gcu_engine.specs.Trees.{document_in, document_shape, preview_document, stored_document, target_document, through}
+use Rattle.gcu_engine.specs.Preparing.{FailsIn, Finds, Found, IsGiven, IsRightBy, Refuses, RefusesAlways, StandsIn, refusal}
+use Rattle.gcu_engine.specs.Trees.{document_shape, preview_document, stored_document, target_document, through}
 use Rattle.gcu_engine.specs.declared.outcomes.Outcome.{Outcome}
 use Rattle.gcu_engine.specs.declared.outcomes.Outcome.TheVariants.{BadStored, Done, Memory, Usage, InputFault, DiskFault, PrintFault, TargetShape}
 
 -- ---- what is asked one after the other
 
-stands_first : {X Y : Type 0} (first : Asking X) (next : X → Asking Y) (e : Outcome) → StandsIn first e → StandsIn (first >>> next) e
+pub stands_first : {X Y : Type 0} (first : Asking X) (next : X → Asking Y) (e : Outcome) → StandsIn first e → StandsIn (first >>> next) e
 stands_first first next InputFault h = inl h
 stands_first first next (DiskFault step) h = inl h
 stands_first first next other h = tt
@@ -41,7 +40,7 @@ stands_next first next x InputFault is h = inr (x, is, h)
 stands_next first next x (DiskFault step) is h = inr (x, is, h)
 stands_next first next x other is h = tt
 
-fails_first : {X Y : Type 0} (first : Asking X) (next : X → Asking Y) (o : Option Outcome) → FailsIn o first → FailsIn o (first >>> next)
+pub fails_first : {X Y : Type 0} (first : Asking X) (next : X → Asking Y) (o : Option Outcome) → FailsIn o first → FailsIn o (first >>> next)
 fails_first first next None h = tt
 fails_first first next (Some e) h = inl h
 
@@ -115,7 +114,7 @@ found_always view r answer asking right gives h = record {
 
 -- what a relation tells is found with no call
 pub found_told : {X Y : Type 0} (view : X → Y) (r : Result X Outcome) (Tells : Result Y Outcome → Type 0)
-    → IsTold view r Tells → IfErr r RefusesAlways → Found view r (follows_by Tells)
+    → IsRightBy view r Tells → IfErr r RefusesAlways → Found view r (follows_by Tells)
 found_told view r Tells gives h = record { gives = gives; stands = always_stands r (follows_by Tells) h }
 
 -- ---- the stored configuration
@@ -208,7 +207,7 @@ found_through f view (Err e) first next h = record {
 }
 
 -- a document that was found is that of a configuration that is given
-tree_given : (asking : Asking Config) (d : Document) → (through tree asking).Gives (Ok d) → (c : Config) × asking.Gives (Ok c) × (tree c ≡ d)
+pub tree_given : (asking : Asking Config) (d : Document) → (through tree asking).Gives (Ok d) → (c : Config) × asking.Gives (Ok c) × (tree c ≡ d)
 tree_given asking d (Ok c, h, is) = let same : tree c ≡ d = cc in (c, h, same)
 tree_given asking d (Err e, h, is) = absurd cc
 
@@ -217,10 +216,6 @@ pub fails_before : {X Y : Type 0} (f : X → Y) (o : Option Outcome) (asking : A
 fails_before f None asking h = tt
 fails_before f (Some e) asking (Ok x, h, is) = absurd cc
 fails_before {X = X} f (Some e) asking (Err x, h, is) = let same : x ≡ e = cc in subst (λ y. asking.Gives (Err y)) same h
-
-printed_as : (answer : Result Config Outcome) → map_ok document_in (map_ok request.preview answer) ≡ map_ok tree answer
-printed_as (Ok c) = refl
-printed_as (Err e) = refl
 
 -- ---- the preview
 
@@ -234,17 +229,17 @@ pub no_stored : (o : Option State) (path : List ℕ) (e : Outcome)
     → Finds {X = Tree} o document (Err e) stored_document → Finds {X = Tree} o document (Err e) (preview_document path)
 no_stored None path e h = tt
 no_stored (Some s) path e h =
-    found_through document_in document (Err e) (stored_asked s) _
+    found_through tree document (Err e) (stored_asked s) _
     (first_refused (λ c. c) document e (stored_asked s) _
     (record { gives = fails_before tree (refusal e) (stored_asked s) h.gives; stands = stored_stands s e h.stands }))
 
 -- what is found at the stored configuration
-behind_stored : {W : Type 0} (s : State) (start : Tree) (view : W → Document) (r : Result W Outcome) (next : Config → Asking request.Request)
-    → Found document (Ok start) (stored_document s) → ((c : Config) → tree c ≡ document start → Found view r (through document_in (next c)))
-    → Found view r (through document_in (stored_asked s >>> next))
+behind_stored : {W : Type 0} (s : State) (start : Tree) (view : W → Document) (r : Result W Outcome) (next : Config → Asking Config)
+    → Found document (Ok start) (stored_document s) → ((c : Config) → tree c ≡ document start → Found view r (through tree (next c)))
+    → Found view r (through tree (stored_asked s >>> next))
 behind_stored s start view r next h then =
     let given = tree_given (stored_asked s) (document start) h.gives in
-    found_through document_in view r (stored_asked s) next
+    found_through tree view r (stored_asked s) next
     (then_found (λ c. c) view given.0 r (stored_asked s) _ (record { gives = given.1; stands = tt }) (then given.0 given.2))
 
 -- nothing is found where there is no patch
@@ -254,7 +249,7 @@ pub no_patch : (o : Option State) (path : List ℕ) (start : Tree) (e : Outcome)
 no_patch None path start e h f = tt
 no_patch (Some s) path start e h f =
     behind_stored s start document (Err e) _ h (λ c same.
-    found_through document_in document (Err e) (patch_asked path s) _
+    found_through tree document (Err e) (patch_asked path s) _
     (first_refused operations document e (patch_asked path s) _ f))
 
 -- the target is what is found where there are a configuration and a patch
@@ -265,10 +260,10 @@ pub target_found : (o : Option State) (path : List ℕ) (start : Tree) (patch : 
 target_found None path start patch r h f gives always = tt
 target_found (Some s) path start patch r h f gives always =
     behind_stored s start document r _ h (λ c same.
-    found_through document_in document r (patch_asked path s) _
+    found_through tree document r (patch_asked path s) _
     (then_found operations document patch r (patch_asked path s) _ f
-    (found_always document r _ (through document_in (follows (map_ok request.preview (target (operations patch) c)))) (λ q is. (_, refl, is))
-    (subst (Gives document refusal r) (ap (λ d. target_document (operations patch) d) (sym same) ∙ sym (printed_as (target (operations patch) c))) gives) always)))
+    (found_always document r _ (through tree (follows (target (operations patch) c))) (λ q is. (_, refl, is))
+    (subst (Gives document refusal r) (ap (λ d. target_document (operations patch) d) (sym same)) gives) always)))
 
 -- ---- shapes
 

@@ -1,13 +1,16 @@
--- Which answers a command may give to what is asked, what it then has printed, and what a fault needs.
+-- Which answers a command may give to what is asked, what it then leaves and has printed, and what a fault
+-- needs.
 use Rattle.std.specs.Prelude.{◌≡◌, ◌⊎◌, ℕ, List, ◌++◌, Option, Some, None, Ok, Err, option_map, ⊤}
 use Rattle.host_core.specs.Counts.{Counts, Rose}
 use Rattle.host_core.specs.Crashes.{Left, MayLeaveNow}
-use Rattle.host_core.specs.State.{State, printed}
+use Rattle.host_core.specs.State.{Files, State, printed, settled, with_pending}
 use Rattle.conf_doc.specs.Texts.{file_text}
+use Rattle.conf_store.specs.Changes.{Leads}
+use Rattle.checkpoints.specs.Changes.{IsDeleted, IsDeletedOrNot}
 use Rattle.gcu_engine.specs.Asked.{asked}
-use Rattle.gcu_engine.specs.Asking.{Asking, an_input, a_file}
-use Rattle.gcu_engine.specs.Lines.{last_line}
-use Rattle.gcu_engine.specs.Request.{Request, preview, check}
+use Rattle.gcu_engine.specs.Asking.{Asking, an_input, a_file, a_settling}
+use Rattle.gcu_engine.specs.Lines.{last_line, lines}
+use Rattle.gcu_engine.specs.Request.{Request, delete_checkpoint, list_checkpoints, preview, check}
 use Rattle.gcu_engine.specs.declared.outcomes.Outcome.{Outcome}
 use Rattle.gcu_engine.specs.declared.outcomes.Outcome.TheVariants.{Done, Memory, Usage, InputFault, DiskFault, PrintFault}
 
@@ -18,38 +21,74 @@ HasCause old new (DiskFault step) = (step ≡ 0) × Rose old.disk new.disk
 HasCause old new (PrintFault step) = (step ≡ 0) × Rose old.print new.print
 HasCause old new other = ⊤
 
+-- ---- what is there before the output
+
+-- all is as before, or what was pending is settled where that is asked
+abbrev pub IsUntouched : Asking Request → State → State → Type 0
+IsUntouched asking before now =
+    (now ≡ before) ⊎ (asking.Reads a_settling × (now ≡ with_pending settled before))
+
+-- what a request leaves that is done
+abbrev pub LeavesDone : Request → State → State → Type 0
+LeavesDone (delete_checkpoint name) before now =
+    (files : Files) × (now ≡ record before { files = files; pending = settled })
+    × IsDeleted name before.files files
+LeavesDone other before now = now ≡ before
+
+-- what a request leaves that a fault of the disk stops once it has begun to write
+abbrev pub LeavesStopped : Request → State → State → Type 0
+LeavesStopped (delete_checkpoint name) before now =
+    Leads (IsDeletedOrNot name) (with_pending settled before) now
+LeavesStopped other before now = ⊥
+
+-- what a fault of the disk leaves: nothing is done, or a request that is right is stopped
+abbrev pub IsStopped : Asking Request → State → State → Type 0
+IsStopped asking before now =
+    IsUntouched asking before now
+    ⊎ ((r : Request) × asking.Gives (Ok r) × LeavesStopped r before now)
+
+-- ---- the output
+
 -- what is printed where the command did all that was requested
 abbrev pub done_output : Request → List ℕ
 done_output (preview c) = file_text c ++ last_line Done
+done_output (list_checkpoints names) = lines names ++ last_line Done
 done_output check = last_line Done
+done_output (delete_checkpoint name) = last_line Done
 
--- the whole output with that answer; a fault is answered only where a call of its kind stands
-abbrev pub Says : Asking Request → Outcome → List ℕ → Type 0
-Says asking Done output = (r : Request) × asking.Gives (Ok r) × (output ≡ done_output r)
-Says asking Memory output = output ≡ last_line Memory
-Says asking InputFault output = asking.Reads an_input × (output ≡ last_line InputFault)
-Says asking (DiskFault step) output =
-    asking.Reads a_file × (output ≡ last_line (DiskFault step))
-Says asking (PrintFault step) output = ⊥
-Says asking other output = asking.Gives (Err other) × (output ≡ last_line other)
+-- what is there before the output with that answer, and the whole output; a fault is answered only where a
+-- call of its kind stands
+abbrev pub Says : Asking Request → State → State → Outcome → List ℕ → Type 0
+Says asking before now Done output =
+    (r : Request) × asking.Gives (Ok r) × LeavesDone r before now × (output ≡ done_output r)
+Says asking before now Memory output = IsUntouched asking before now × (output ≡ last_line Memory)
+Says asking before now InputFault output =
+    asking.Reads an_input × IsUntouched asking before now × (output ≡ last_line InputFault)
+Says asking before now (DiskFault step) output =
+    asking.Reads a_file × IsStopped asking before now × (output ≡ last_line (DiskFault step))
+Says asking before now (PrintFault step) output = ⊥
+Says asking before now other output =
+    asking.Gives (Err other) × IsUntouched asking before now × (output ≡ last_line other)
 
 -- a front of what some other answer says
-abbrev pub SaysPart : Asking Request → Counts → Counts → List ℕ → Type 0
-SaysPart asking old new output =
+abbrev pub SaysPart : Asking Request → State → State → Counts → Counts → List ℕ → Type 0
+SaysPart asking before now old new output =
     (other : Outcome) × (rest : List ℕ)
-    × HasCause old new other × Says asking other (output ++ rest)
+    × HasCause old new other × Says asking before now other (output ++ rest)
 
 -- the output with that answer, which a print fault cuts short
-abbrev pub Prints : Asking Request → Counts → Counts → Outcome → List ℕ → Type 0
-Prints asking old new (PrintFault step) output = SaysPart asking old new output
-Prints asking old new other output = Says asking other output
+abbrev pub Prints : Asking Request
+    → State → State → Counts → Counts → Outcome → List ℕ → Type 0
+Prints asking before now old new (PrintFault step) output =
+    SaysPart asking before now old new output
+Prints asking before now old new other output = Says asking before now other output
 
--- nothing but the output is another one afterwards, and it is as the answer says
-abbrev pub PrintsAlone : Asking Request
+-- what is left with that answer: what is there before the output, and the output
+abbrev pub Leaves : Asking Request
     → State → Option State → Counts → Counts → Outcome → Type 0
-PrintsAlone asking before after old new result =
-    (output : List ℕ) × (after ≡ Some (printed output before))
-    × Prints asking old new result output
+Leaves asking before after old new result =
+    (now : State) × (output : List ℕ) × (after ≡ Some (printed output now))
+    × Prints asking before now old new result output
 
 -- What a command leaves of a host that tells its state, and which answer that is. It goes by what the words
 -- ask of that state.
@@ -57,17 +96,40 @@ abbrev pub Answers : List (List ℕ)
     → Option State → Option State → Counts → Counts → Outcome → Type 0
 Answers words None after old new result = after ≡ None
 Answers words (Some before) after old new result =
-    PrintsAlone (asked words before) before after old new result
+    Leaves (asked words before) before after old new result
+
+-- ---- what a crash leaves
 
 -- what a crash leaves where nothing but the output changes: what was there, with a front of some output
 abbrev pub LeftWithOutput : Option State → Left → Type 0
 LeftWithOutput before left =
     (part : List ℕ) × MayLeaveNow (option_map (printed part) before) left
 
+-- what a crash leaves while a checkpoint is deleted: its file is there or not, and all else is as before,
+-- with a front of some output
+pub record LeftDeleting (name : List ℕ) (before : State) (left : Left) : Type 0 where
+  pub files : IsDeletedOrNot name before.files left.files
+  pub part : List ℕ
+  pub output : left.output ≡ before.output ++ part
+  pub restarts : left.restarts ≡ before.restarts
+
+-- what a crash leaves while a request writes
+abbrev pub LeftDoing : Request → State → Left → Type 0
+LeftDoing (delete_checkpoint name) before left = LeftDeleting name before left
+LeftDoing other before left = ⊥
+
+-- what a crash leaves: what was there, or what a request leaves that is right and writes
+abbrev pub LeftOf : Asking Request → State → Left → Type 0
+LeftOf asking before left =
+    LeftWithOutput (Some before) left
+    ⊎ ((r : Request) × asking.Gives (Ok r) × LeftDoing r before left)
+
 -- What a crash leaves at a moment of a command, of a host that tells its state.
 abbrev pub LeftMeanwhile : List (List ℕ) → Option State → Left → Type 0
 LeftMeanwhile words None left = ⊤
-LeftMeanwhile words (Some before) left = LeftWithOutput (Some before) left
+LeftMeanwhile words (Some before) left = LeftOf (asked words before) before left
+
+-- ---- which answers there are
 
 -- the answer to words that are no command, unless it can't be told
 abbrev pub TellsUsage : Outcome → Type 0
@@ -79,7 +141,9 @@ TellsUsage other = ⊥
 -- the answers to a request where nothing failed, but for want of memory
 abbrev pub Finishes : Request → Outcome → Type 0
 Finishes (preview c) result = result ≡ Done
+Finishes (list_checkpoints names) result = result ≡ Done
 Finishes check result = result ≡ Done
+Finishes (delete_checkpoint name) result = result ≡ Done
 
 -- the answers where nothing failed: for want of memory, the refusal, or what the request says
 abbrev pub Complete : Asking Request → Outcome → Type 0

@@ -1,5 +1,6 @@
 -- What words ask of a host that tells its state: the first refusal in its order, or the request.
-use Rattle.std.specs.Prelude.{ℕ, List, Option, Some, None, Result, Ok, Err}
+use Rattle.std.specs.Prelude.{ℕ, List, if◌then◌else◌, Option, Some, None, Result, Ok, Err}
+use Rattle.std.specs.FinMap.{get, keys}
 use Rattle.host_core.specs.Answers.{map_ok}
 use Rattle.host_core.specs.Inputs.{input_of}
 use Rattle.host_core.specs.State.{State}
@@ -18,14 +19,17 @@ use Rattle.patch_core.specs.declared.errors.ApplyError.{ApplyError}
 use Rattle.patch_core.specs.declared.errors.ApplyError.TheVariants as failed
 use Rattle.patch_core.specs.declared.errors.PatchError.{PatchError}
 use Rattle.patch_core.specs.declared.errors.PatchError.TheVariants as bad
-use Rattle.gcu_engine.specs.Asking.{Asking, an_input, asks, follows, ◌>>>◌}
+use Rattle.checkpoints.specs.Names.{is_good_name}
+use Rattle.checkpoints.specs.Points.{Held, points}
+use Rattle.gcu_engine.specs.Asking.{Asking, an_input, a_file, asks, follows, settles_first, ◌>>>◌}
 use Rattle.gcu_engine.specs.Checking.{check_asked}
-use Rattle.gcu_engine.specs.Form.{Form, preview, check, form}
+use Rattle.gcu_engine.specs.Form.{Form, check, delete_checkpoint, form, list_checkpoints, preview}
 use Rattle.gcu_engine.specs.Request as request
 use Rattle.gcu_engine.specs.Request.{Request}
 use Rattle.gcu_engine.specs.StoredAsked.{stored_asked}
 use Rattle.gcu_engine.specs.declared.outcomes.Outcome.{Outcome}
-use Rattle.gcu_engine.specs.declared.outcomes.Outcome.TheVariants.{Memory, Usage, NoInput, TooBig, BadJson, BadPatch, PatchFailed, TargetShape}
+use Rattle.gcu_engine.specs.declared.outcomes.Outcome.TheVariants.{Memory, Usage, NoInput, TooBig, BadJson, BadPatch, PatchFailed, TargetShape, NoCheckpoint, BadName}
+use Rattle.gcu_engine.specs.declared.outcomes.PointWhy.TheVariants as why
 
 -- ---- the patch
 
@@ -72,19 +76,53 @@ target_in (Err failed.Memory) = Err Memory
 abbrev pub target : List Operation → Config → Result Config Outcome
 target ops start = target_in (apply ops (tree start))
 
+-- ---- checkpoints
+
+-- a name that no checkpoint has is refused
+abbrev pub name_answer : List ℕ → Result (List ℕ) Outcome
+name_answer name = if is_good_name name then Ok name else Err (BadName name)
+
+-- a checkpoint that isn't there is refused, whatever one that is there holds
+abbrev pub there_answer : List ℕ → Option Held → Result (List ℕ) Outcome
+there_answer name None = Err (NoCheckpoint name why.Absent)
+there_answer name (Some held) = Ok name
+
+-- the checkpoint of a name is to be deleted
+abbrev pub there_asked : List ℕ → State → Asking Request
+there_asked name s =
+    asks a_file (map_ok request.delete_checkpoint (there_answer name (get (points s.files) name)))
+
 -- ---- the commands
 
--- `preview PATH`: the stored configuration is read before the patch
-abbrev pub preview_asked : List ℕ → State → Asking Request
-preview_asked path s =
+-- the configuration after a patch; the stored one is read before the patch
+abbrev pub target_asked : List ℕ → State → Asking Config
+target_asked path s =
     stored_asked s >>> λ start.
     patch_asked path s >>> λ ops.
-    follows (map_ok request.preview (target ops start))
+    follows (target ops start)
 
-abbrev form_asked : Option Form → State → Asking Request
+-- `preview PATH`: the configuration after the patch
+abbrev pub preview_asked : List ℕ → State → Asking Request
+preview_asked path s = target_asked path s >>> λ c. follows (Ok (request.preview c))
+
+-- `list-checkpoints`: the names of all checkpoints
+abbrev pub list_asked : State → Asking Request
+list_asked s = asks a_file (Ok (request.list_checkpoints (keys (points s.files))))
+
+-- `delete-checkpoint NAME`: the name is looked at before the folder
+abbrev pub delete_asked : List ℕ → State → Asking Request
+delete_asked word s =
+    follows (name_answer word) >>> λ name.
+    settles_first >>> λ _.
+    there_asked name s
+
+-- what a command asks, or that there is none
+abbrev pub form_asked : Option Form → State → Asking Request
 form_asked None s = follows (Err Usage)
 form_asked (Some (preview path)) s = preview_asked path s
 form_asked (Some check) s = check_asked s
+form_asked (Some list_checkpoints) s = list_asked s
+form_asked (Some (delete_checkpoint name)) s = delete_asked name s
 
 -- what the words ask of a host in this state
 abbrev pub asked : List (List ℕ) → State → Asking Request

@@ -7,8 +7,10 @@ use Rattle.gcu_engine.specs.declared.outcomes.Outcome.{Outcome}
 pub data Source : Type 0 where
   -- an input of the command
   an_input : Source
-  -- a file of the folder
+  -- a file of the folder, or the names of the files
   a_file : Source
+  -- nothing: it settles what is pending
+  a_settling : Source
 
 -- what the calls that are made read, and what comes of all of them: a value, or the first refusal
 pub record Asking (X : Type 0) : Type 1 where
@@ -18,6 +20,10 @@ pub record Asking (X : Type 0) : Type 1 where
 -- one call, and what it gives
 abbrev pub asks : {X : Type 0} → Source → Result X Outcome → Asking X
 asks source answer = record { Reads = λ s. source ≡ s; Gives = λ r. answer ≡ r }
+
+-- what is pending is settled, which a writing command does before it reads a file
+abbrev pub settles_first : Asking (Unit {0})
+settles_first = asks a_settling (Ok tt)
 
 -- what follows with no call, as a relation tells it
 abbrev pub follows_by : {X : Type 0} → (Result X Outcome → Type 0) → Asking X

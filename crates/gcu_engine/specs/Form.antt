@@ -7,8 +7,10 @@ use Rattle.std.specs.List.{starts_with}
 pub data Form : Type 0 where
   -- with the path of the patch
   preview : List ℕ → Form
-  -- with no word more
   check : Form
+  list_checkpoints : Form
+  -- with the name of the checkpoint
+  delete_checkpoint : List ℕ → Form
 
 -- options begin with two dashes, and any other word is positional
 abbrev pub is_positional : List ℕ → Bool
@@ -17,12 +19,19 @@ is_positional word = not (starts_with nat_eq word (codes "--"))
 abbrev is_word : List ℕ → List ℕ → Bool
 is_word word name = pointwise nat_eq word name
 
-abbrev form_of_one : List ℕ → Option Form
-form_of_one command = if is_word command (codes "check") then Some check else None
+-- the command that a word is
+abbrev pub form_of_one : List ℕ → Option Form
+form_of_one command =
+    if is_word command (codes "check") then Some check
+    else if is_word command (codes "list-checkpoints") then Some list_checkpoints
+    else None
 
-abbrev form_of_two : List ℕ → List ℕ → Option Form
+-- the command that two words are
+abbrev pub form_of_two : List ℕ → List ℕ → Option Form
 form_of_two command word =
     if is_word command (codes "preview") && is_positional word then Some (preview word)
+    else if is_word command (codes "delete-checkpoint") && is_positional word
+    then Some (delete_checkpoint word)
     else None
 
 -- the command that the words are

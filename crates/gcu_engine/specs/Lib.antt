@@ -9,6 +9,7 @@ pub mod ModelFiles
 pub mod Request
 pub mod StoredAsked
 -- what only private clauses cite
+pub mod Commands
 pub mod FormView
 pub mod Preparing
 pub mod Printing

@@ -13,7 +13,9 @@ use Rattle.conf_check.specs.declared.violations.Rule.TheVariants as rules
 use Rattle.yang_text.specs.declared.errors.ModelWhy.{ModelWhy}
 use Rattle.yang_text.specs.declared.errors.ModelWhy.TheVariants as models
 use Rattle.gcu_engine.specs.declared.outcomes.Outcome.{Outcome}
-use Rattle.gcu_engine.specs.declared.outcomes.Outcome.TheVariants.{Done, Memory, Usage, InputFault, DiskFault, PrintFault, NoInput, TooBig, BadJson, BadModels, BadPatch, PatchFailed, TargetShape, CurrentInvalid, BadStored}
+use Rattle.gcu_engine.specs.declared.outcomes.Outcome.TheVariants.{Done, Memory, Usage, InputFault, DiskFault, PrintFault, NoInput, TooBig, BadJson, BadModels, BadPatch, PatchFailed, TargetShape, CurrentInvalid, NoCheckpoint, BadName, BadStored}
+use Rattle.gcu_engine.specs.declared.outcomes.PointWhy.{PointWhy}
+use Rattle.gcu_engine.specs.declared.outcomes.PointWhy.TheVariants as point
 
 -- the exit status
 abbrev pub number : Outcome → ℕ
@@ -30,6 +32,8 @@ number (BadModels file line why) = 11
 number (BadPatch index why) = 13
 number (PatchFailed index why) = 14
 number (TargetShape place) = 15
+number (NoCheckpoint name why) = 22
+number (BadName name) = 24
 number (CurrentInvalid place rule) = 16
 number (BadStored why) = 25
 
@@ -92,6 +96,11 @@ model_why models.BadPattern = codes "BadPattern"
 model_why models.BadExpr = codes "BadExpr"
 model_why models.TooMany = codes "TooMany"
 
+-- why there is no such checkpoint
+abbrev pub point_why : PointWhy → List ℕ
+point_why point.Absent = codes "Absent"
+point_why point.NotConfig = codes "NotConfig"
+
 -- a text in a line, as a compact JSON text
 abbrev pub quoted : List ℕ → List ℕ
 quoted s = compact (text s)
@@ -120,9 +129,16 @@ said (BadModels file line why) =
 said (BadPatch index why) = codes "bad patch " ++ decimal index ++ space ++ patch_why why
 said (PatchFailed index why) = codes "patch failed " ++ decimal index ++ space ++ fail_why why
 said (TargetShape place) = codes "target shape " ++ quoted place
+said (NoCheckpoint name why) = codes "no checkpoint " ++ quoted name ++ space ++ point_why why
+said (BadName name) = codes "bad name " ++ quoted name
 said (CurrentInvalid place rule) =
     codes "current invalid " ++ quoted place ++ space ++ rule_name rule
 said (BadStored why) = codes "bad stored " ++ stored_why why
+
+-- each text as a line
+abbrev pub lines : List (List ℕ) → List ℕ
+lines [] = []
+lines (t ∷ ts) = t ++ line_feed ++ lines ts
 
 -- the line of a number and a text
 abbrev pub numbered_line : ℕ → List ℕ → List ℕ

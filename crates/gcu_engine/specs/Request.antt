@@ -1,4 +1,5 @@
 -- What a command is to do, once nothing stands against it.
+use Rattle.std.specs.Prelude.{ℕ, List}
 use Rattle.conf_doc.specs.declared.configuration.Config.{Config}
 
 -- a command with all that it needs
@@ -7,3 +8,7 @@ pub data Request : Type 0 where
   preview : Config → Request
   -- nothing but to say that the stored configuration is valid
   check : Request
+  -- print these names of checkpoints
+  list_checkpoints : List (List ℕ) → Request
+  -- delete the checkpoint of this name
+  delete_checkpoint : List ℕ → Request

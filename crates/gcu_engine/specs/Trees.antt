@@ -1,5 +1,5 @@
 -- What a command asks for, as documents: its code goes from tree to tree and builds no configuration.
-use Rattle.std.specs.Prelude.{◌≡◌, ℕ, List, [], Result}
+use Rattle.std.specs.Prelude.{◌≡◌, ℕ, List, Result}
 use Rattle.host_core.specs.Answers.{map_ok}
 use Rattle.host_core.specs.State.{State}
 use Rattle.conf_doc.specs.Configuration.{tree}
@@ -7,10 +7,9 @@ use Rattle.conf_doc.specs.Document.{Document}
 use Rattle.conf_doc.specs.Shaping.{shaping}
 use Rattle.patch_core.specs.Apply.{apply}
 use Rattle.patch_core.specs.Operation.{Operation}
-use Rattle.gcu_engine.specs.Asked.{preview_asked, target_in, target_shape}
+use Rattle.gcu_engine.specs.Asked.{target_asked, target_in, target_shape}
 use Rattle.gcu_engine.specs.StoredAsked.{stored_asked}
 use Rattle.gcu_engine.specs.Asking.{Asking}
-use Rattle.gcu_engine.specs.Request.{Request, preview, check}
 use Rattle.gcu_engine.specs.declared.outcomes.Outcome.{Outcome}
 
 -- the same calls, and what f makes of what they give
@@ -33,11 +32,6 @@ document_shape d = map_ok tree (target_shape (shaping d))
 abbrev pub target_document : List Operation → Document → Result Document Outcome
 target_document ops d = map_ok tree (target_in (apply ops d))
 
--- what a request prints
-abbrev pub document_in : Request → Document
-document_in (preview c) = tree c
-document_in check = tree []
-
 -- what a preview prints
 abbrev pub preview_document : List ℕ → State → Asking Document
-preview_document path s = through document_in (preview_asked path s)
+preview_document path s = through tree (target_asked path s)

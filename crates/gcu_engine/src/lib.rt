@@ -2,9 +2,11 @@
 #![tactic(auto)]
 
 mod check;
+mod delete_checkpoint;
 mod form;
 mod inputs;
 mod lines;
+mod list_checkpoints;
 mod model_files;
 mod models;
 mod outcomes;
@@ -16,5 +18,5 @@ mod tree_text;
 
 pub use conf_check::Rule;
 pub use conf_store::StoredWhy;
-pub use outcomes::Outcome;
+pub use outcomes::{Outcome, PointWhy};
 pub use run_command::run;

@@ -1,8 +1,8 @@
 //! The last line of each outcome.
-ghost use Rattle.std.specs.Prelude.{◌≡◌, ◌++◌, IfOk, string_bytes, decimal};
-ghost use Rattle.gcu_engine.specs.Lines.{last_line, numbered_line as numbered, refused_line as refused, said as said_text, space, quoted as quoted_text, patch_why, fail_why, stored_why, model_why, rule_name};
+ghost use Rattle.std.specs.Prelude.{◌≡◌, ◌++◌, IfOk, codes, string_bytes, decimal};
+ghost use Rattle.gcu_engine.specs.Lines.{last_line, numbered_line as numbered, refused_line as refused, said as said_text, space, quoted as quoted_text, patch_why, fail_why, point_why, stored_why, model_why, rule_name};
 
-use crate::Outcome;
+use crate::{Outcome, PointWhy};
 use conf_check::Rule;
 use conf_store::StoredWhy;
 use patch_core::{FailWhy, PatchWhy};
@@ -77,6 +77,15 @@ fn said(alloc: Global, outcome: &Outcome) -> Result<String, AllocError>
             let place = quoted(alloc, place.as_str())?;
             format!(in alloc; "target shape {place}")
         }
+        Outcome::NoCheckpoint { name, why } => {
+            let name = quoted(alloc, name.as_str())?;
+            let why = point_why_name(*why);
+            no_checkpoint(alloc, name.as_str(), why)
+        }
+        Outcome::BadName { name } => {
+            let name = quoted(alloc, name.as_str())?;
+            format!(in alloc; "bad name {name}")
+        }
         Outcome::CurrentInvalid { place, rule } => {
             let place = quoted(alloc, place.as_str())?;
             worded(alloc, "current invalid ", place.as_str(), rule_name_of(*rule))
@@ -117,6 +126,15 @@ fn placed(
         ≡ start.now ++ place.now ++ space ++ decimal number ++ space ++ why.now) }
 {
     format!(in alloc; "{start}{place} {number} {why}")
+}
+
+/// What stands behind the number where there is no such checkpoint.
+#[tactic(auto, using(std::proofs::Common::append_assoc))]
+fn no_checkpoint(alloc: Global, name: &str, why: &str) -> Result<String, AllocError>
+    ensures { IfOk result (λ s.
+        string_bytes s ≡ codes "no checkpoint " ++ name.now ++ space ++ why.now) }
+{
+    format!(in alloc; "no checkpoint {name} {why}")
 }
 
 /// A text as a compact JSON text.
@@ -190,6 +208,15 @@ fn fail_why_name(why: FailWhy) -> &'static str
         FailWhy::TestFailed => "TestFailed",
         FailWhy::IntoItself => "IntoItself",
         FailWhy::TooLarge => "TooLarge",
+    }
+}
+
+fn point_why_name(why: PointWhy) -> &'static str
+    ensures { result.now ≡ point_why why }
+{
+    match why {
+        PointWhy::Absent => "Absent",
+        PointWhy::NotConfig => "NotConfig",
     }
 }
 

@@ -4,7 +4,7 @@ ghost use Rattle.host_core.specs.Counts.{InputMayRise};
 ghost use Rattle.host_core.specs.Crashes.{Elapses, MayLeaveNow};
 ghost use Rattle.model_list.specs.Lists.{most_files};
 ghost use Rattle.gcu_engine.specs.ModelFiles.{AreModels, AreSmall, models_asked};
-ghost use Rattle.gcu_engine.specs.Preparing.{Finds, IsTold, Refuses, RefusesAlways};
+ghost use Rattle.gcu_engine.specs.Preparing.{Finds, IsRightBy, Refuses, RefusesAlways};
 
 use crate::Outcome;
 use crate::model_files::{Texts, input_texts};
@@ -29,7 +29,7 @@ pub(crate) fn input_models<H: Host>(alloc: Global, host: &mut H) -> Result<Model
 fn models_of(alloc: Global, texts: &Texts) -> Result<Models, Outcome>
     requires few { length texts.now ≤ most_files }
     requires small { AreSmall texts.now }
-    ensures answer { IsTold (λ models. models) result (AreModels texts.now) }
+    ensures answer { IsRightBy (λ models. models) result (AreModels texts.now) }
     ensures cause { IfErr result RefusesAlways }
 {
     match compile(alloc, texts.items()) {

@@ -8,6 +8,15 @@ use host_core::{Memory, Txt};
 use patch_core::{FailWhy, PatchWhy};
 use yang_text::ModelWhy;
 
+/// Why there is no such checkpoint.
+#[derive(Clone, Copy, Debug, PartialEq, Eq)]
+pub enum PointWhy {
+    /// There is none of that name.
+    Absent,
+    /// Its file holds no configuration.
+    NotConfig,
+}
+
 /// How a command ended. Its number is the program's exit status, and its last line ends the output.
 #[derive(Debug, Drop)]
 pub enum Outcome {
@@ -37,6 +46,10 @@ pub enum Outcome {
     PatchFailed { index: usize, why: FailWhy },
     /// The patched configuration would have a wrong shape at this place, an RFC 6901 pointer.
     TargetShape { place: Txt },
+    /// There is no such checkpoint, or it holds no configuration.
+    NoCheckpoint { name: Txt, why: PointWhy },
+    /// A name of a checkpoint has 1 to 64 ASCII letters, digits, `_` and `-`.
+    BadName { name: Txt },
     /// The stored configuration breaks this rule at this place, an RFC 6901 pointer.
     CurrentInvalid { place: Txt, rule: Rule },
     /// The folder stands for no configuration.
@@ -62,6 +75,8 @@ impl Outcome {
             Outcome::BadPatch { .. } => 13,
             Outcome::PatchFailed { .. } => 14,
             Outcome::TargetShape { .. } => 15,
+            Outcome::NoCheckpoint { .. } => 22,
+            Outcome::BadName { .. } => 24,
             Outcome::CurrentInvalid { .. } => 16,
             Outcome::BadStored { .. } => 25,
         }

@@ -46,7 +46,7 @@ pub(crate) fn show<H: Host>(alloc: Global, tree: &Tree, host: &mut H) -> Outcome
 }
 
 /// Prints the last line of Memory, for which no memory is needed.
-fn say_memory<H: Host>(host: &mut H) -> Outcome
+pub(crate) fn say_memory<H: Host>(host: &mut H) -> Outcome
     ensures printed { IsPrinted no_memory (last_line no_memory)
         (H.told host.old) (H.told host.new) (H.counts host.old) (H.counts host.new) result }
     ensures counts { PrintMayRise (H.counts host.old) (H.counts host.new) }
@@ -69,7 +69,7 @@ fn shown(alloc: Global, tree: &Tree) -> Result<Vec<u8>, Memory>
 }
 
 /// Prints the whole output of an outcome in one call.
-fn print<H: Host>(outcome: Outcome, text: &[u8], host: &mut H) -> Outcome
+pub(crate) fn print<H: Host>(outcome: Outcome, text: &[u8], host: &mut H) -> Outcome
     ensures printed { IsPrinted outcome text.now
         (H.told host.old) (H.told host.new) (H.counts host.old) (H.counts host.new) result }
     ensures counts { PrintMayRise (H.counts host.old) (H.counts host.new) }

@@ -10,23 +10,28 @@ ghost use Rattle.gcu_engine.specs.declared.outcomes.Outcome.TheVariants.{Usage a
 
 use crate::Outcome;
 use crate::check::check;
+use crate::delete_checkpoint::delete_checkpoint;
 use crate::form::{Form, read_form};
+use crate::list_checkpoints::list_checkpoints;
 use crate::preview::preview;
 use crate::printing::{say, show};
 use host_core::{Host, Txt};
 use std::alloc::Global;
 
 /// Does the command that the words are, and prints its answer. `preview PATCH` prints the stored
-/// configuration as the patch would leave it; `check` says whether it is valid by its models.
+/// configuration as the patch would leave it, `check` says whether it is valid, `list-checkpoints` the names of all checkpoints, and
+/// `delete-checkpoint NAME` deletes one.
 pub fn run<H: Host>(alloc: Global, words: &[Txt], host: &mut H) -> Outcome
     requires { longest_scoped_name ≤ H.longest_name }
-    // The answer is the first refusal, or what the command asks for, and nothing but the output changes.
+    // The answer is the first refusal, or what the command asks for, and nothing changes but the output and
+    // a checkpoint that is deleted.
     ensures answers { Answers words.now
         (H.told host.old) (H.told host.new) (H.counts host.old) (H.counts host.new) result }
     // A fault is answered only where its count rose.
     ensures cause { HasCause (H.counts host.old) (H.counts host.new) result }
     ensures counts { NoneFell (H.counts host.old) (H.counts host.new) }
-    // A crash at a moment of it leaves the folder as it was, with a front of some output.
+    // A crash at a moment of it leaves the folder as it was or without the checkpoint that is deleted, with a
+    // front of some output.
     ensures crash { LeavesOnly H.moment H.left_since host.old host.new
         (LeftMeanwhile words.now (H.told host.old)) }
     // What the host's calls keep is kept.
@@ -41,13 +46,12 @@ pub fn run<H: Host>(alloc: Global, words: &[Txt], host: &mut H) -> Outcome
 {
     match read_form(words) {
         Form::Unknown => say(alloc, Outcome::Usage, host),
-        Form::Check => match check(alloc, host) {
-            Ok(()) => say(alloc, Outcome::Done, host),
-            Err(outcome) => say(alloc, outcome, host),
-        },
         Form::Preview { patch } => match preview(alloc, patch, host) {
             Ok(tree) => show(alloc, &tree, host),
             Err(outcome) => say(alloc, outcome, host),
         },
+        Form::Check => check(alloc, host),
+        Form::ListCheckpoints => list_checkpoints(alloc, host),
+        Form::DeleteCheckpoint { name } => delete_checkpoint(alloc, name, host),
     }
 }

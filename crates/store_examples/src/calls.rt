@@ -1,5 +1,6 @@
 //! Calls of the host in memory, done or failing, and what a crash leaves after them.
-ghost use Rattle.std.specs.Prelude.{◌≡◌};
+ghost use Rattle.std.specs.Prelude.{◌≡◌, ◌≤◌, length, IfOk};
+ghost use Rattle.host_core.specs.Names.{longest_file_name};
 ghost use Rattle.host_core.specs.State.{settled};
 
 use crate::hosts::{LONGEST_NAME, PICKS, faults_at, has_files, host_at, pick_of};
@@ -55,62 +56,46 @@ fn act(alloc: Global, row: &Value, host: &mut MemHost) -> Result<String, Fail>
 {
     let name = name_at(row, "name")?;
     match text_at(row, "does")? {
-        "input" => input(alloc, row, name, host),
-        "list" => Ok(names_told(alloc, host.list(alloc))?),
-        "read" => Ok(file_told(alloc, host.read(alloc, name))?),
-        "write" => {
-            let bytes = text_bytes(alloc, row, "bytes")?;
-            told(alloc, host.write(name, &bytes))
-        }
-        "write, sync" => {
-            let bytes = text_bytes(alloc, row, "bytes")?;
-            let _ = host.write(name, &bytes);
-            told(alloc, host.sync(name))
-        }
-        "write, settle" => {
-            let bytes = text_bytes(alloc, row, "bytes")?;
-            let _ = host.write(name, &bytes);
-            told(alloc, host.settle())
-        }
-        "write, print" => {
-            let bytes = text_bytes(alloc, row, "bytes")?;
-            let _ = host.write(name, &bytes);
-            told(alloc, host.print(&bytes))
-        }
-        other => move_or_say(alloc, row, other, host),
+        "input" => input_told(alloc, host.input(alloc, name, number_at(row, "limit")?)),
+        "list" => names_told(alloc, host.list(alloc)),
+        "read" => file_told(alloc, host.read(alloc, name)),
+        does => told(alloc, change(alloc, row, does, name, host)?),
     }
 }
 
-/// The calls that change the folder's names, and those that have no condition.
-fn move_or_say(alloc: Global, row: &Value, does: &str, host: &mut MemHost) -> Result<String, Fail>
-    requires { host.old.state.pending ≡ settled }
+/// The calls that may change something.
+fn change(
+    alloc: Global,
+    row: &Value,
+    does: &str,
+    name: &str,
+    host: &mut MemHost,
+) -> Result<Result<(), Failed>, Fail>
+    requires short { length name.now ≤ longest_file_name }
+    requires ready { host.old.state.pending ≡ settled }
 {
-    let name = name_at(row, "name")?;
+    if does.starts_with("write") {
+        return Ok(write(does, name, &text_bytes(alloc, row, "bytes")?, host));
+    }
+    if does.starts_with("rename") {
+        return rename(does, name, name_at(row, "to")?, host);
+    }
+    if does.starts_with("remove") {
+        return remove(does, name, host);
+    }
     match does {
-        "sync" => told(alloc, host.sync(name)),
-        "settle" => told(alloc, host.settle()),
-        "print" => told(alloc, host.print(&text_bytes(alloc, row, "bytes")?)),
-        "restart" => told(alloc, host.restart(name)),
-        "rename" => told(alloc, rename(row, name, host)?),
-        "rename, settle" => {
-            let _ = rename(row, name, host)?;
-            told(alloc, host.settle())
-        }
-        "rename, restart" => {
-            let _ = rename(row, name, host)?;
-            told(alloc, host.restart(name))
-        }
-        "remove" => told(alloc, remove(name, host)?),
-        "remove, settle" => {
-            let _ = remove(name, host)?;
-            told(alloc, host.settle())
-        }
+        "sync" => Ok(host.sync(name)),
+        "settle" => Ok(host.settle()),
+        "print" => Ok(host.print(&text_bytes(alloc, row, "bytes")?)),
+        "restart" => Ok(host.restart(name)),
         _ => Err(Fail::Row),
     }
 }
 
 /// A name of the row, not too long for a host.
-fn name_at<'a>(row: &'a Value, word: &str) -> Result<&'a str, Fail> {
+fn name_at<'a>(row: &'a Value, word: &str) -> Result<&'a str, Fail>
+    ensures { IfOk result (λ name. length name.now ≤ longest_file_name) }
+{
     let name = row.get(word).and_then(Value::as_str).unwrap_or("none");
     if name.len() > LONGEST_NAME {
         return Err(Fail::Row);
@@ -118,27 +103,67 @@ fn name_at<'a>(row: &'a Value, word: &str) -> Result<&'a str, Fail> {
     Ok(name)
 }
 
-fn rename(row: &Value, name: &str, host: &mut MemHost) -> Result<Result<(), Failed>, Fail>
-    requires { host.old.state.pending ≡ settled }
+/// A write, and what comes behind it.
+fn write(does: &str, name: &str, bytes: &[u8], host: &mut MemHost) -> Result<(), Failed>
+    requires short { length name.now ≤ longest_file_name }
+    requires ready { host.old.state.pending ≡ settled }
 {
-    let to = name_at(row, "to")?;
+    if does == "write, sync" {
+        return write_and_sync(name, bytes, host);
+    }
+    let written = host.write(name, bytes);
+    match does {
+        "write, settle" => host.settle(),
+        "write, print" => host.print(bytes),
+        _ => written,
+    }
+}
+
+/// A write and then a sync, whether it failed or not.
+fn write_and_sync(name: &str, bytes: &[u8], host: &mut MemHost) -> Result<(), Failed>
+    requires short { length name.now ≤ longest_file_name }
+    requires ready { host.old.state.pending ≡ settled }
+{
+    match host.write(name, bytes) {
+        Ok(()) => host.sync(name),
+        Err(Failed) => host.sync(name),
+    }
+}
+
+/// Another name for a file that is there, and what comes behind it.
+fn rename(does: &str, name: &str, to: &str, host: &mut MemHost) -> Result<Result<(), Failed>, Fail>
+    requires short { length name.now ≤ longest_file_name }
+    requires to { length to.now ≤ longest_file_name }
+    requires ready { host.old.state.pending ≡ settled }
+{
     if host.file(name).is_none() {
         return Err(Fail::Row);
     }
-    Ok(host.rename(name, to))
+    let moved = host.rename(name, to);
+    match does {
+        "rename, settle" => Ok(host.settle()),
+        "rename, restart" => Ok(host.restart(name)),
+        _ => Ok(moved),
+    }
 }
 
-fn remove(name: &str, host: &mut MemHost) -> Result<Result<(), Failed>, Fail>
-    requires { host.old.state.pending ≡ settled }
+/// The removal of a file that is there, and what comes behind it.
+fn remove(does: &str, name: &str, host: &mut MemHost) -> Result<Result<(), Failed>, Fail>
+    requires short { length name.now ≤ longest_file_name }
+    requires ready { host.old.state.pending ≡ settled }
 {
     if host.file(name).is_none() {
         return Err(Fail::Row);
     }
-    Ok(host.remove(name))
+    let removed = host.remove(name);
+    match does {
+        "remove, settle" => Ok(host.settle()),
+        _ => Ok(removed),
+    }
 }
 
-fn input(alloc: Global, row: &Value, path: &str, host: &mut MemHost) -> Result<String, Fail> {
-    match host.input(alloc, path, number_at(row, "limit")?) {
+fn input_told(alloc: Global, found: Result<Input, HostError>) -> Result<String, Fail> {
+    match found {
         Ok(Input::Absent) => Ok(String::from_str(alloc, "Absent")?),
         Ok(Input::TooBig) => Ok(String::from_str(alloc, "TooBig")?),
         Ok(Input::Bytes(bytes)) => text_of(alloc, bytes.items()),

@@ -61,12 +61,24 @@ fn act(
             let bytes = text_bytes(alloc, row, "bytes")?;
             Ok(answer_text(put_file(host, name, &bytes)))
         }
-        "fold" => {
-            let bytes = file_bytes(alloc, &stored.config)?;
-            Ok(answer_text(fold(host, &bytes, stored)))
-        }
+        "fold" => Ok(answer_text(fold_stored(alloc, stored, host)?)),
         _ => Err(Fail::Row),
     }
+}
+
+/// Folds the stored configuration.
+#[tactic(auto, using(conf_store::proofs::FileTexts::text_holds))]
+fn fold_stored(
+    alloc: Global,
+    stored: &Stored,
+    host: &mut MemHost,
+) -> Result<Result<(), Failed>, Fail>
+    requires ready { host.old.state.pending ≡ settled }
+    requires stands { StandsFor stored.now host.old.state.files }
+    requires names { AllPass is_step_name stored.now.steps }
+{
+    let bytes = file_bytes(alloc, &stored.config)?;
+    Ok(fold(host, &bytes, stored))
 }
 
 fn answer_text(answer: Result<(), Failed>) -> &'static str {

@@ -59,12 +59,7 @@ pub fn pick_of(alloc: Global, row: &Value, name: &str) -> Result<Pick, Fail> {
 }
 
 /// Whether a host has the files that stand under a name, and no others.
-pub fn has_files(
-    alloc: Global,
-    row: &Value,
-    name: &str,
-    host: &mut MemHost,
-) -> Result<bool, Fail> {
+pub fn has_files(alloc: Global, row: &Value, name: &str, host: &mut MemHost) -> Result<bool, Fail> {
     let said = row.get(name).ok_or(Fail::Row)?;
     let mut count = 0usize;
     for (name, _) in said.as_object().ok_or(Fail::Row)? {

@@ -14,7 +14,7 @@ use host_core::Memory;
 use std::alloc::Global;
 use yang_scope::Fault;
 use yang_text::Statement;
-use yang_values::{note_bad_default, note_circle, type_value};
+use yang_values::{does_end, note_bad_default, type_value};
 
 /// A default, by the type statement beside it. Where that leads to a circle, the answer is Memory.
 fn note_default_of(
@@ -25,11 +25,13 @@ fn note_default_of(
     ty: &Statement,
 ) -> Result<(), Memory>
     ensures { OnOk result (Notes least.old least.new (λ tests.
-        bad_default_by scope.now.names.now tests scope.now.file scope.now.number (Some (declaration default.now))
+        bad_default_by scope.now.names.now tests scope.now.file scope.now.number
+        (Some (declaration default.now))
         (Some (declaration ty.now)))) }
 {
-    let mut circle = None;
-    note_circle(alloc, &mut circle, scope.names, scope.most, scope.file, scope.number, ty)?;
+    if !does_end(alloc, scope.names, scope.most, scope.number, ty)? {
+        return Err(Memory);
+    }
     let value = type_value(alloc, scope.names, scope.number, ty)?;
     note_bad_default(least, &value, scope.file, default);
     Ok(())
@@ -43,7 +45,8 @@ fn note_default_in(
     statements: &[Statement],
 ) -> Result<(), Memory>
     ensures { OnOk result (Notes least.old least.new (λ tests.
-        bad_default_in scope.now.names.now tests scope.now.file scope.now.number (map declaration statements.now))) }
+        bad_default_in scope.now.names.now tests scope.now.file scope.now.number
+        (map declaration statements.now))) }
 {
     match first_of("default", statements) {
         Some(default) => match first_of("type", statements) {
@@ -64,7 +67,8 @@ fn note_default_at(
 ) -> Result<(), Memory>
     ensures { OnOk result ((known : List (List ℕ)) → IsSetOf keys.now.names known
         → Notes least.old least.new (λ tests.
-        bad_default_at scope.now.names.now tests scope.now.file scope.now.number known (declaration statement.now))) }
+        bad_default_at scope.now.names.now tests scope.now.file scope.now.number
+        known (declaration statement.now))) }
 {
     if statement.keyword.as_str() == "leaf" && !is_key_leaf(keys, &statement.argument) {
         let block = statement.block.items();
@@ -83,7 +87,8 @@ fn note_defaults(
 ) -> Result<(), Memory>
     ensures { OnOk result ((known : List (List ℕ)) → IsSetOf keys.now.names known
         → Notes least.old least.new (λ tests.
-        bad_defaults scope.now.names.now tests scope.now.file scope.now.number known (map declaration statements.now))) }
+        bad_defaults scope.now.names.now tests scope.now.file scope.now.number
+        known (map declaration statements.now))) }
 {
     for statement in statements {
         note_default_at(alloc, least, scope, keys, statement)?;
@@ -99,7 +104,8 @@ pub(crate) fn note_list_defaults(
     list: &Statement,
 ) -> Result<(), Memory>
     ensures { OnOk result (Notes least.old least.new (λ tests.
-        bad_defaults scope.now.names.now tests scope.now.file scope.now.number (key_names (block (declaration list.now)))
+        bad_defaults scope.now.names.now tests scope.now.file scope.now.number
+        (key_names (block (declaration list.now)))
         (block (declaration list.now)))) }
 {
     let statements = list.block.items();
@@ -116,7 +122,8 @@ pub(crate) fn note_fixed_defaults(
     container: &Statement,
 ) -> Result<(), Memory>
     ensures { OnOk result (Notes least.old least.new (λ tests.
-        bad_defaults scope.now.names.now tests scope.now.file scope.now.number [] (block (declaration container.now)))) }
+        bad_defaults scope.now.names.now tests scope.now.file scope.now.number
+        [] (block (declaration container.now)))) }
 {
     let statements = container.block.items();
     let keys = NameSet::new(alloc);

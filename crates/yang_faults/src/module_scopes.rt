@@ -17,7 +17,7 @@ use yang_scope::{
     Base, Fault, Meaning, Names, note_bad_patterns, note_unknown_type, note_wrong_paths,
 };
 use yang_text::Statement;
-use yang_values::{note_bad_bounds, note_circle};
+use yang_values::{note_bad_bounds, note_if_circle};
 
 /// A module by its number, in the file that has it, among the names of all modules.
 #[derive(Clone, Copy)]
@@ -73,7 +73,8 @@ impl<'n, 'a> ModuleScope<'n, 'a> {
         statement: &Statement,
     ) -> Result<(), Memory>
         ensures { OnOk result (least.new ≡ least_of least.old
-            (bad_bounds self.now.names.now self.now.file self.now.number (declaration statement.now))) }
+            (bad_bounds self.now.names.now self.now.file self.now.number
+            (declaration statement.now))) }
     {
         note_bad_bounds(alloc, least, self.names, self.file, self.number, statement)
     }
@@ -87,7 +88,8 @@ impl<'n, 'a> ModuleScope<'n, 'a> {
     ) -> Result<(), Memory>
         ensures { OnOk result (Notes least.old least.new (λ tests.
             bad_patterns tests.is_pattern self.now.file (declaration statement.now)
-            ++ bad_bounds self.now.names.now self.now.file self.now.number (declaration statement.now))) }
+            ++ bad_bounds self.now.names.now self.now.file self.now.number
+            (declaration statement.now))) }
     {
         note_bad_patterns(alloc, least, self.file, statement)?;
         note_bad_bounds(alloc, least, self.names, self.file, self.number, statement)?;
@@ -132,7 +134,15 @@ impl<'n, 'a> ModuleScope<'n, 'a> {
             all_type_faults self.now.names.now tests self.now.file self.now.number kind
             (declaration statement.now))) }
     {
-        note_circle(alloc, least, self.names, self.most, self.file, self.number, statement)?;
+        note_if_circle(
+            alloc,
+            least,
+            self.names,
+            self.most,
+            self.file,
+            self.number,
+            statement,
+        )?;
         self.note_type_alone(alloc, least, kind, statement)?;
         Ok(())
     }
@@ -174,12 +184,8 @@ impl<'n, 'a> Scope for ModuleScope<'n, 'a> {
             | Kind::LeafrefType
             | Kind::UnionType
             | Kind::PlainType => self.note_type(alloc, least, kind, statement),
-            Kind::TableList => {
-                note_list_defaults(alloc, least, self, statement)
-            }
-            Kind::FixedContainer => {
-                note_fixed_defaults(alloc, least, self, statement)
-            }
+            Kind::TableList => { note_list_defaults(alloc, least, self, statement) }
+            Kind::FixedContainer => { note_fixed_defaults(alloc, least, self, statement) }
             _ => Ok(()),
         }
     }

@@ -58,8 +58,13 @@ few_modules : (place : ℕ) (files : List (List Declaration)) → All (λ ds. to
     → length (each_from modules_in place files) ≤ length files * most_statements
 few_modules place [] h = omega arith
 few_modules place (ds ∷ files) h =
-    omega (arith, length-append (modules_in place ds) (each_from modules_in (suc place) files), few_modules_in place ds,
-    All-head (λ ds. total_weight ds ≤ most_statements) ds files h, few_modules (suc place) files (All-tail (λ ds. total_weight ds ≤ most_statements) ds files h))
+    omega (
+      arith,
+      length-append (modules_in place ds) (each_from modules_in (suc place) files),
+      few_modules_in place ds,
+      All-head (λ ds. total_weight ds ≤ most_statements) ds files h,
+      few_modules (suc place) files (All-tail (λ ds. total_weight ds ≤ most_statements) ds files h),
+    )
 
 -- what each of a module's containers is
 small_containers : (file number : ℕ) (ds : List Declaration) → number < 2 ^ 32 → All (λ d. weight d ≤ most_statements) ds

@@ -9,7 +9,7 @@ pub map-there : {X Y : Type 0} (f : X → Y) (xs : List X) (i : ℕ) → i < len
 map-there f xs i within =
     elim (slice_get_cases xs i).1 [
       | inl h ↦
-        map-one_more xs i h.0 within (sym h.3) f
-        ∙ ap (λ o. map f (take i xs) ++ option_to_list (option_map f o)) (sym h.2)
+          map-one_more xs i h.0 within (sym h.3) f
+          ∙ ap (λ o. map f (take i xs) ++ option_to_list (option_map f o)) (sym h.2)
       | inr h ↦ absurd (omega (arith, h.0))
     ]

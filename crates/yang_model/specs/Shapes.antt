@@ -24,23 +24,24 @@ must_rule leaf_name must = record {
 }
 
 -- a statement at a spot, where it is a must
-abbrev pub must_at : List Module → Readers → ℕ → Option (List ℕ) → Spot → Declaration → List MustRule
+abbrev pub must_at : List Module → Readers → ℕ → Option (List ℕ) → Spot → Declaration
+    → List MustRule
 must_at modules readers m leaf_name spot d =
     if is_keyword (codes "must") d
     then option_to_list (option_map (must_rule leaf_name) (must_of readers.read modules m spot d))
     else []
 
 -- the musts of a leaf; other statements have none
-abbrev pub leaf_musts : List Module → Readers → ModelContainer → Declaration → Declaration → Declaration
-    → List MustRule
+abbrev pub leaf_musts : List Module → Readers → ModelContainer → Declaration → Declaration
+    → Declaration → List MustRule
 leaf_musts modules readers x t s d =
     if is_keyword (codes "leaf") d
     then flat_map (must_at modules readers x.number (argument d) (leaf x.statement t s d)) (block d)
     else []
 
 -- a statement of a list or a fixed container: a must, or a leaf with its musts
-abbrev pub musts_at : List Module → Readers → ModelContainer → Declaration → Declaration → Declaration
-    → List MustRule
+abbrev pub musts_at : List Module → Readers → ModelContainer → Declaration → Declaration
+    → Declaration → List MustRule
 musts_at modules readers x t s d =
     must_at modules readers x.number None (shape x.statement t s) d
     ++ leaf_musts modules readers x t s d

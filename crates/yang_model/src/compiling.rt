@@ -1,5 +1,5 @@
 //! The models of some texts, or the exact fault of these.
-ghost use Rattle.std.specs.Prelude.{◌≡◌, ◌≤◌, All, None, length, map, IfOk, IfErr};
+ghost use Rattle.std.specs.Prelude.{◌≡◌, ◌≤◌, ◌<◌, All, None, length, map, IfOk, IfErr};
 ghost use Rattle.yang_text.specs.Declarations.{total_weight};
 ghost use Rattle.yang_scope.specs.Faults.{least_of};
 ghost use Rattle.yang_scope.specs.Modules.{modules_of};
@@ -45,15 +45,22 @@ pub fn compile(alloc: Global, files: &[(Txt, Statements)]) -> Result<Models, Mod
     requires small { All (λ f. total_weight f.1 ≤ most_statements) files.now }
     ensures models { IfOk result (AreModelsOf (map (λ f. f.1) files.now)) }
     ensures fault { IfErr result (λ e. IfFault e (IsLeastFaultOf (map (λ f. f.1) files.now))) }
+    ensures file { IfErr result (λ e. IfFault e (λ f. f.file < length files.now)) }
 {
     let names = Names::new(alloc, files)?;
     let tree = ModelTree::new(alloc, &names)?;
     match least_fault(alloc, files, &names, &tree)? {
-        Some(fault) => Err(ModelError::Fault {
-            file: fault.file,
-            line: fault.line,
-            why: fault.why,
-        }),
+        Some(fault) => {
+            // each fault is of one of the files
+            if fault.file as usize >= files.len() {
+                return Err(ModelError::Memory);
+            }
+            Err(ModelError::Fault {
+                file: fault.file,
+                line: fault.line,
+                why: fault.why,
+            })
+        }
         None => Ok(models_of(alloc, &names, &tree)?),
     }
 }

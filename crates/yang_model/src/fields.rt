@@ -29,12 +29,7 @@ pub(crate) fn name_of(alloc: Global, statement: &Statement) -> Result<Txt, Memor
 }
 
 /// The type that a type statement of a module says.
-fn type_of(
-    alloc: Global,
-    names: &Names,
-    number: usize,
-    statement: &Statement,
-) -> Result<Ty, Memory>
+fn type_of(alloc: Global, names: &Names, number: usize, statement: &Statement) -> Result<Ty, Memory>
     ensures { IfOk result (λ ty. Gives ty (λ readers.
         type_of names.now readers number (declaration statement.now))) }
 {
@@ -192,7 +187,8 @@ pub(crate) fn fields(
     shape: &Statement,
 ) -> Result<Sequence<FieldRule>, Memory>
     ensures { IfOk result (λ rules. Gives rules (λ readers.
-        flat_map (field_at names.now readers number (texts keys.now)) (block (declaration shape.now)))) }
+        flat_map (field_at names.now readers number (texts keys.now))
+        (block (declaration shape.now)))) }
 {
     let mut rules = Sequence::new(alloc);
     for statement in shape.block.items() {

@@ -1,10 +1,21 @@
-//! What holds of every answer to which shape an entry belongs.
+//! What holds of every answer.
 ghost use Rattle.std.specs.Prelude.{◌≡◌, List, ℕ, Option};
+ghost use Rattle.yang_text.specs.Declarations.{Declaration};
+ghost use Rattle.yang_model.specs.Answers.{AreModelsOf};
 ghost use Rattle.yang_model.specs.Belongs.{Belongs};
+ghost use Rattle.yang_model.specs.ModelSets.{ModelSet};
+ghost use Rattle.yang_model.specs.Readers.{Readers, AreTrue};
 ghost use Rattle.yang_model.specs.declared.shapes.Shape.{Shape};
 
 /// An entry belongs to one shape of its table, or to none. The body does nothing: the law is the contract.
 pub fn belongs_once()
     ensures { (shapes : List Shape) (key : List ℕ) (a b : Option ℕ)
         → Belongs shapes key a → Belongs shapes key b → a ≡ b }
+{}
+
+/// Files have one list of models at most, by whatever functions read their texts. The body does nothing:
+/// the law is the contract.
+pub fn models_are_one()
+    ensures { (readers : Readers) (files : List (List Declaration)) (a b : ModelSet)
+        → AreTrue readers → AreModelsOf files a → AreModelsOf files b → a ≡ b }
 {}

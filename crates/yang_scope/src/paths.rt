@@ -79,11 +79,7 @@ fn statement_named<'a>(word: &str, name: &str, statements: &'a [Statement]) -> O
 }
 
 /// The first statement of a keyword and a name in another one.
-pub fn child_named<'a>(
-    word: &str,
-    name: &str,
-    statement: &'a Statement,
-) -> Option<&'a Statement>
+pub fn child_named<'a>(word: &str, name: &str, statement: &'a Statement) -> Option<&'a Statement>
     ensures { option_map (λ s. declaration s.now) result
         ≡ child_named word.now name.now (declaration statement.now) }
 {

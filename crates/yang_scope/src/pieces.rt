@@ -6,11 +6,7 @@ use host_core::Memory;
 use std::alloc::Global;
 
 /// The pieces of a text between the separators, which are ASCII characters.
-pub fn pieces<'a>(
-    alloc: Global,
-    separator: char,
-    text: &'a str,
-) -> Result<Vec<&'a str>, Memory>
+pub fn pieces<'a>(alloc: Global, separator: char, text: &'a str) -> Result<Vec<&'a str>, Memory>
     requires { separator < 128 }
     ensures { IfOk result (λ found. texts found.items ≡ pieces separator text.now) }
 {

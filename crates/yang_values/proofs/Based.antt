@@ -13,7 +13,7 @@ use Rattle.yang_scope.specs.declared.meanings.Meaning.TheVariants.{Ends, Goes, N
 use Rattle.yang_values.specs.Circles.{IsOnCircle}
 use Rattle.yang_values.specs.Endings.{EndsIn, leads_on}
 use Rattle.yang_values.specs.TypeValues.{next_by, placed_in}
-use Rattle.yang_values.proofs.Endings.{off_circle}
+use Rattle.yang_values.proofs.Ends.{off_circle}
 
 nothing_there : {X : Type 0} (x : X) → Contains [] x → ⊥
 nothing_there x within = omega (arith, within.1)

@@ -1,10 +1,13 @@
 pub mod Based
 pub mod Chains
-pub mod Endings
+pub mod Ends
 pub mod Given
 pub mod Holding
 pub mod Narrow
 pub mod Places
+pub mod Plain
+pub mod Reached
+pub mod Alike
 pub mod Taken
 pub mod Visits
 pub mod Without

@@ -10,4 +10,5 @@ pub mod TypeValues
 pub mod Values
 -- What only private clauses cite.
 pub mod Endings
+pub mod Sameness
 pub mod Walks

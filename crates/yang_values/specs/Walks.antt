@@ -1,10 +1,11 @@
 -- Type statements on the way of a walk from one to all that it leads to, and types built from it.
-use Rattle.std.specs.Prelude.{◌≡◌, ℕ, Bool, List, [], ◌∷◌, take, drop}
+use Rattle.std.specs.Prelude.{◌≡◌, ◌<◌, ℕ, Bool, List, [], ◌∷◌, ◌++◌, Contains, slice_index_or, take, drop}
 use Rattle.yang_text.specs.Statements.{declaration}
 use Rattle.yang_types.specs.DataType.{DataType}
 use Rattle.yang_scope.specs.Modules.{Module}
 use Rattle.yang_scope.specs.Paths.{Placed}
-use Rattle.yang_values.specs.TypeValues.{only_type, type_by, type_within}
+use Rattle.yang_values.specs.Circles.{IsReached}
+use Rattle.yang_values.specs.TypeValues.{next, only_type, type_by, type_within}
 use Rattle.yang_values.specs.declared.walks.Place.{Place}
 use Rattle.yang_values.specs.declared.walks.Step.{Step}
 use Rattle.yang_values.specs.declared.walks.Visit.{Visit}
@@ -36,3 +37,25 @@ built is_pattern modules (v ∷ vs) types =
 pub record IsTaken (count : ℕ) (types first rest : List DataType) : Type 0 where
   pub taken : first ≡ take count types
   pub left : rest ≡ drop count types
+
+-- some type statements with others behind them: those that weren't there
+pub record IsAdded (before added after : List Placed) : Type 0 where
+  pub extra : List Placed
+  pub behind : after ≡ before ++ extra
+  pub from : (q : Placed) → Contains extra q → Contains added q
+  pub there : (q : Placed) → Contains added q → Contains after q
+
+-- all that a type statement leads to in one or more steps
+pub record AreReached (modules : List Module) (p : Placed) (qs : List Placed) : Type 0 where
+  pub reached : (q : Placed) → Contains qs q → IsReached modules p q
+  pub first : (q : Placed) → Contains (next modules p) q → Contains qs q
+  pub closed : (r q : Placed) → Contains qs r → Contains (next modules r) q → Contains qs q
+
+-- the same, where so many of them were gone on from
+pub record AreReachedUpTo (modules : List Module) (i : ℕ) (p : Placed) (qs : List Placed)
+    : Type 0 where
+  pub reached : (q : Placed) → Contains qs q → IsReached modules p q
+  pub first : (q : Placed) → Contains (next modules p) q → Contains qs q
+  pub closed :
+      (j : ℕ) (q : Placed) → j < i → Contains (next modules (slice_index_or qs j p)) q
+      → Contains qs q

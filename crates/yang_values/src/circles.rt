@@ -1,75 +1,129 @@
-//! Circles of typedefs and leafrefs.
-ghost use Rattle.std.specs.Prelude.{◌≡◌, Bool, ℕ, IsTrue, IfOk, OnOk};
+//! Type statements on circles of typedefs and leafrefs.
+ghost use Rattle.std.specs.Prelude.{◌≡◌, ◌↔◌, IsTrue, [], ◌∷◌, Bool, map, Contains, IfOk};
 ghost use Rattle.yang_text.specs.Statements.{declaration};
-ghost use Rattle.yang_scope.specs.Faults.{least_of};
+ghost use Rattle.yang_scope.specs.Faults.{lesser, least_of};
+ghost use Rattle.yang_text.specs.declared.errors.ModelWhy.{ModelWhy};
 ghost use Rattle.yang_scope.specs.Paths.{Placed};
-ghost use Rattle.yang_values.specs.Circles.{DecidesCircles, circle};
-ghost use Rattle.yang_values.specs.Endings.{EndsIn, leads_on};
-ghost use Rattle.yang_values.specs.Walks.{placed};
+ghost use Rattle.yang_values.specs.Circles.{IsOnCircle, DecidesCircles, circle, is_plain};
+ghost use Rattle.yang_values.specs.Walks.{placed, IsAdded, AreReached};
 
-use crate::walks::{Place, Step, next, push_steps};
+use crate::sameness::same_declaration;
+use crate::walks::{Place, next};
 use host_core::Memory;
 use std::alloc::Global;
-use yang_scope::{Base, Fault, Names};
-use yang_text::Statement;
+use yang_scope::{Base, Fault, Names, note};
+use yang_text::{ModelWhy, Statement};
 
-/// Whether it is found that each way on from a type statement ends before so many steps.
-fn do_all_end<'a>(
-    alloc: Global,
-    names: &Names<'a>,
-    most: u64,
-    place: Place<'a>,
-) -> Result<bool, Memory>
-    ensures { IfOk result (λ end. IsTrue end → EndsIn names.now most (placed place.entry)) }
+/// Whether two type statements are one.
+fn is_same(one: &Place, other: &Place) -> bool
+    ensures { IsTrue result ↔ (placed one.now ≡ placed other.now) }
 {
-    let mut pending = Vec::new(alloc);
-    pending.push(Step { most, place })?;
-    for round in 0..u64::MAX {
-        match pending.pop() {
-            Some(step) => {
-                if step.most == 0 {
-                    return Ok(false);
-                }
-                let places = next(alloc, names, step.place)?;
-                push_steps(&mut pending, step.most - 1, places.as_slice())?;
-            }
-            None => return Ok(true),
+    one.number == other.number && same_declaration(one.statement, other.statement)
+}
+
+/// Whether a type statement is among some.
+fn is_among(places: &[Place], place: &Place) -> bool
+    ensures { IsTrue result ↔ Contains (map placed places.now) (placed place.now) }
+{
+    for other in places {
+        if is_same(other, place) {
+            return true;
         }
     }
-    Ok(false)
+    false
 }
 
-/// Whether a type with this base may lead to others.
-fn leads_on(base: Option<Base>) -> bool
-    ensures { result ≡ leads_on base }
+/// Adds a type statement that isn't there.
+fn push_if_new<'a>(places: &mut Vec<Place<'a>>, place: &Place<'a>) -> Result<(), Memory>
+    ensures { IfOk result (λ _. IsAdded (map placed places.old.items) (placed place.now ∷ [])
+        (map placed places.new.items)) }
+{
+    if !is_among(places.as_slice(), place) {
+        places.push(*place)?;
+    }
+    Ok(())
+}
+
+/// Adds those type statements that aren't there.
+fn push_new<'a>(places: &mut Vec<Place<'a>>, others: &[Place<'a>]) -> Result<(), Memory>
+    ensures { IfOk result (λ _. IsAdded (map placed places.old.items) (map placed others.now)
+        (map placed places.new.items)) }
+{
+    for other in others {
+        push_if_new(places, other)?;
+    }
+    Ok(())
+}
+
+/// All that a type statement leads to.
+fn reached<'a>(alloc: Global, names: &Names<'a>, place: Place<'a>) -> Result<Vec<Place<'a>>, Memory>
+    ensures { IfOk result
+        (λ places. AreReached names.now (placed place.entry) (map placed places.items)) }
+{
+    let mut places = next(alloc, names, place)?;
+    for i in 0..usize::MAX {
+        if i >= places.len() {
+            return Ok(places);
+        }
+        let others = next(alloc, names, places[i])?;
+        push_new(&mut places, others.as_slice())?;
+    }
+    Err(Memory)
+}
+
+/// Whether typedefs end at a base that leads on to no type statement.
+fn is_plain(base: Option<Base>) -> bool
+    ensures { result ≡ is_plain base }
 {
     match base {
-        Some(Base::Leafref) | Some(Base::Union) | None => true,
-        Some(_) => false,
+        None => false,
+        Some(Base::Leafref) => false,
+        Some(Base::Union) => false,
+        Some(_) => true,
     }
 }
 
-/// A type statement that is on a circle. Where a way on from it is as long as `most` steps, no memory is
-/// enough to tell.
-pub fn note_circle<'a>(
+/// Whether a type statement leads to itself. Typedefs that end at a plain base are told without a walk.
+fn is_on_circle<'a>(alloc: Global, names: &Names<'a>, place: Place<'a>) -> Result<bool, Memory>
+    ensures { IfOk result (λ found. IsTrue found ↔ IsOnCircle names.now (placed place.entry)) }
+{
+    if is_plain(names.base_of(place.number, &place.statement.argument)) {
+        return Ok(false);
+    }
+    let places = reached(alloc, names, place)?;
+    Ok(is_among(places.as_slice(), &place))
+}
+
+/// Whether a fault so far is answered before any on a line.
+fn is_settled(least: &Option<Fault>, file: u32, line: u32) -> bool
+    ensures { IsTrue result → (why : ModelWhy)
+        → lesser least.now (record { file = file; line = line; why = why }) ≡ least.now }
+{
+    match least {
+        Some(first) => first.file < file || (first.file == file && first.line < line),
+        None => false,
+    }
+}
+
+/// A type statement of a module that lies on a circle of typedefs and leafrefs, through unions too. One
+/// that only leads to a circle doesn't.
+pub(crate) fn note_circle<'a>(
     alloc: Global,
     least: &mut Option<Fault>,
     names: &Names<'a>,
-    most: u64,
     file: u32,
     number: usize,
     statement: &'a Statement,
 ) -> Result<(), Memory>
-    ensures { OnOk result ((is_on_circle : Placed → Bool) → DecidesCircles names.now is_on_circle
-        → least.new ≡ least_of least.old
+    ensures { IfOk result (λ _. (is_on_circle : Placed → Bool)
+        → DecidesCircles names.now is_on_circle → least.new ≡ least_of least.old
         (circle is_on_circle file number (declaration statement.now))) }
 {
-    if !leads_on(names.base_of(number, &statement.argument)) {
+    if is_settled(least, file, statement.line) {
         return Ok(());
     }
-    if do_all_end(alloc, names, most, Place { number, statement })? {
-        Ok(())
-    } else {
-        Err(Memory)
+    if is_on_circle(alloc, names, Place { number, statement })? {
+        note(least, file, statement.line, ModelWhy::Circle);
     }
+    Ok(())
 }

@@ -5,10 +5,12 @@
 mod bound_faults;
 mod circles;
 mod defaults;
+mod endings;
 mod named_types;
 mod numbers;
 mod parts;
 mod restrictions;
+mod sameness;
 mod statements;
 mod targets;
 mod type_values;
@@ -16,6 +18,6 @@ mod values;
 mod walks;
 
 pub use bound_faults::note_bad_bounds;
-pub use circles::note_circle;
 pub use defaults::note_bad_default;
+pub use endings::{does_end, note_if_circle};
 pub use type_values::type_value;

@@ -144,7 +144,8 @@ pub(crate) fn next<'a>(
     names: &Names<'a>,
     place: Place<'a>,
 ) -> Result<Vec<Place<'a>>, Memory>
-    ensures { IfOk result (λ places. map placed places.items ≡ next names.now (placed place.entry)) }
+    ensures { IfOk result
+        (λ places. map placed places.items ≡ next names.now (placed place.entry)) }
 {
     let meaning = names.type_meaning(place.number, &place.statement.argument);
     next_by(alloc, names, place.number, place.statement, meaning)

@@ -1,9 +1,11 @@
-use Rattle.std.proofs.Common.{sym, ◌++◌}
+use Rattle.std.proofs.Common.{Some, sym, ◌++◌}
 use Rattle.conf_doc.specs.Trees.{document}
+use Rattle.gcu_engine.specs.Form.{list_checkpoints}
 use Rattle.gcu_engine.specs.Lines.{last_line}
 use Rattle.gcu_engine.specs.Printing.{text_in_lines}
-use Rattle.gcu_engine.proofs.Elapsing.{command_leaves, command_leaves_behind}
-use Rattle.gcu_engine.proofs.Answering.{said_answers, done_completes, said_completes, no_form_says, preview_says, preview_refuses, refused_cause}
+use Rattle.gcu_engine.proofs.Completing.{complete_by}
+use Rattle.gcu_engine.proofs.Elapsing.{command_leaves, command_leaves_behind, leaves_by}
+use Rattle.gcu_engine.proofs.Answering.{answers_by, said_answers, done_completes, said_completes, no_form_says, preview_says, preview_refuses, refused_cause}
 use Rattle.gcu_engine.specs.declared.outcomes.Outcome.TheVariants.{Usage, Done}
 use Rattle.gcu_engine.proofs.run_command.run.Goals as goal
 
@@ -70,3 +72,33 @@ returns-in-Ok-clause-complete g c =
     done_completes c.args.words.now _ (text_in_lines (document c.in-Ok.tree) ++ last_line Done) (g.H.Host.told c.args.host.now) (g.H.Host.told c.show.new.host) (g.H.Host.told c.preview.new.host)
     (g.H.Host.counts c.args.host.now) (g.H.Host.counts c.preview.new.host) (g.H.Host.counts c.show.new.host)
     c.in-Ok.tree c.show.result (sym c.in-Preview.ensures) c.show.ensures.said c.in-Ok.ensures.counts c.in-Ok.ensures.answer
+
+-- ---- commands in functions of their own
+
+pub returns-in-ListCheckpoints-clause-answers : goal.returns-in-ListCheckpoints-clause-answers
+returns-in-ListCheckpoints-clause-answers g c =
+    answers_by c.args.words.now (Some list_checkpoints) (g.H.Host.told c.args.host.now) (g.H.Host.told c.list_checkpoints.new.host) (g.H.Host.counts c.args.host.now) (g.H.Host.counts c.list_checkpoints.new.host) c.list_checkpoints.result
+    c.in-ListCheckpoints.ensures c.list_checkpoints.ensures.answers
+
+pub returns-in-ListCheckpoints-clause-crash : goal.returns-in-ListCheckpoints-clause-crash
+returns-in-ListCheckpoints-clause-crash g c =
+    leaves_by g.H.Host.moment g.H.Host.left_since c.args.words.now (Some list_checkpoints) c.args.host.now c.list_checkpoints.new.host (g.H.Host.told c.args.host.now) c.in-ListCheckpoints.ensures c.list_checkpoints.ensures.crash
+
+pub returns-in-ListCheckpoints-clause-complete : goal.returns-in-ListCheckpoints-clause-complete
+returns-in-ListCheckpoints-clause-complete g c =
+    complete_by c.args.words.now (Some list_checkpoints) (g.H.Host.told c.args.host.now) (g.H.Host.counts c.args.host.now) (g.H.Host.counts c.list_checkpoints.new.host) c.list_checkpoints.result
+    c.in-ListCheckpoints.ensures c.list_checkpoints.ensures.complete
+
+pub returns-in-DeleteCheckpoint-clause-answers : goal.returns-in-DeleteCheckpoint-clause-answers
+returns-in-DeleteCheckpoint-clause-answers g c =
+    answers_by c.args.words.now _ (g.H.Host.told c.args.host.now) (g.H.Host.told c.delete_checkpoint.new.host) (g.H.Host.counts c.args.host.now) (g.H.Host.counts c.delete_checkpoint.new.host) c.delete_checkpoint.result
+    c.in-DeleteCheckpoint.ensures c.delete_checkpoint.ensures.answers
+
+pub returns-in-DeleteCheckpoint-clause-crash : goal.returns-in-DeleteCheckpoint-clause-crash
+returns-in-DeleteCheckpoint-clause-crash g c =
+    leaves_by g.H.Host.moment g.H.Host.left_since c.args.words.now _ c.args.host.now c.delete_checkpoint.new.host (g.H.Host.told c.args.host.now) c.in-DeleteCheckpoint.ensures c.delete_checkpoint.ensures.crash
+
+pub returns-in-DeleteCheckpoint-clause-complete : goal.returns-in-DeleteCheckpoint-clause-complete
+returns-in-DeleteCheckpoint-clause-complete g c =
+    complete_by c.args.words.now _ (g.H.Host.told c.args.host.now) (g.H.Host.counts c.args.host.now) (g.H.Host.counts c.delete_checkpoint.new.host) c.delete_checkpoint.result
+    c.in-DeleteCheckpoint.ensures c.delete_checkpoint.ensures.complete

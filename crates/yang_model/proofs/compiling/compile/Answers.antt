@@ -23,8 +23,7 @@ models_of-requires-clause-small c =
 
 pub returns-clause-models : goal.returns-clause-models
 returns-clause-models c = λ readers is.
-    let ds : List (List Declaration) = map (λ f. f.1) c.args.files.now in
-    (
+    let ds : List (List Declaration) = map (λ f. f.1) c.args.files.now in (
       no_faults (faults readers ds) (sym c.in-None.is ∙ c.in_ok-fault.ensures readers is),
       c.in_ok-models_of-in-None.ensures readers is ∙ ap (λ (ms : List Module). models_of ms readers) c.in_ok-names.ensures,
     )

@@ -8,8 +8,8 @@ pub returns : goal.returns
 returns c = λ tests decide.
     let s = c.args.self.now in
     let d = declaration c.args.statement.now in
-    least_of-two c.args.least.now c.note_circle.new.least c.note_type_alone.new.least
+    least_of-two c.args.least.now c.note_if_circle.new.least c.note_type_alone.new.least
     (circle (tests.is_on_circle s.names.now) s.file s.number d)
     (type_faults s.names.now tests s.file s.number c.args.kind d)
-    (c.in_ok-note_circle.ensures (tests.is_on_circle s.names.now) (decide.circles s.names.now))
+    (c.in_ok-note_if_circle.ensures (tests.is_on_circle s.names.now) (decide.circles s.names.now))
     (c.in_ok-note_type_alone.ensures tests decide)

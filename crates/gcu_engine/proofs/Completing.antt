@@ -1,0 +1,46 @@
+-- Where nothing failed: the answer is the one that was asked for, or memory was wanting.
+use Rattle.std.proofs.Common.{◌≡◌, inl, inr, ℕ, List, refl, subst, Option, Some, None, IfSome}
+use Rattle.host_core.specs.Counts.{Counts, NoneRose}
+use Rattle.host_core.specs.State.{State}
+use Rattle.gcu_engine.specs.Answers.{Complete, Finishes, HasCause, Prints, Says}
+use Rattle.gcu_engine.specs.Asked.{asked, form_asked}
+use Rattle.gcu_engine.specs.Asking.{Asking}
+use Rattle.gcu_engine.specs.Commands.{AnswersTo, CompleteTo}
+use Rattle.gcu_engine.specs.Form.{Form, form}
+use Rattle.gcu_engine.specs.Request as request
+use Rattle.gcu_engine.specs.Request.{Request}
+use Rattle.gcu_engine.specs.declared.outcomes.Outcome.{Outcome}
+use Rattle.gcu_engine.specs.declared.outcomes.Outcome.TheVariants.{Done, Memory, InputFault, DiskFault, PrintFault}
+
+-- what is done is finished
+finishes : (r : Request) → Finishes r Done
+finishes (request.preview c) = refl
+finishes (request.list_checkpoints names) = refl
+finishes (request.delete_checkpoint name) = refl
+
+module _ (asking : Asking Request) (s now : State) (old new : Counts) (none : NoneRose old new) where
+  says_completes : (result : Outcome) (output : List ℕ) → HasCause old new result → Says asking s now result output → Complete asking result
+  says_completes Done output cause says = inr (inr (says.0, says.1, finishes says.0))
+  says_completes Memory output cause says = inl refl
+  says_completes InputFault output cause says = absurd (none.input cause)
+  says_completes (DiskFault step) output cause says = absurd (none.disk cause.1)
+  says_completes (PrintFault step) output cause says = absurd (none.print cause.1)
+  says_completes other output cause says = inr (inl says.0)
+
+  prints_completes : (result : Outcome) (output : List ℕ) → HasCause old new result → Prints asking s now old new result output → Complete asking result
+  prints_completes (PrintFault step) output cause prints = absurd (none.print cause.1)
+  prints_completes Done output cause prints = says_completes Done output cause prints
+  prints_completes Memory output cause prints = says_completes Memory output cause prints
+  prints_completes other output cause prints = says_completes other output cause prints
+
+-- what is answered to a question is complete
+pub completes : (asking : State → Asking Request) (before after : Option State) (old new : Counts) (result : Outcome) → HasCause old new result
+    → AnswersTo asking before after old new result → CompleteTo asking before old new result
+completes asking None after old new result cause h = tt
+completes asking (Some s) after old new result cause h = λ none. prints_completes (asking s) s h.0 old new none result h.1 cause h.3
+
+-- the words that the command is are answered so
+pub complete_by : (words : List (List ℕ)) (f : Option Form) (o : Option State) (old new : Counts) (result : Outcome) → f ≡ form words
+    → CompleteTo (λ s. form_asked f s) o old new result → IfSome o (λ s. NoneRose old new → Complete (asked words s) result)
+complete_by words f None old new result is h = tt
+complete_by words f (Some s) old new result is h = λ none. subst (λ g. Complete (form_asked g s) result) is (h none)

@@ -1,0 +1,78 @@
+-- What a command leaves and answers that asks a stated question, for commands in functions of their own.
+use Rattle.std.specs.Prelude.{◌≡◌, List, ℕ, Bool, true, false, Option, Some, None, Result, Ok, Err, IfSome, ⊤}
+use Rattle.host_core.specs.Counts.{Counts, NoneRose}
+use Rattle.host_core.specs.Crashes.{Left}
+use Rattle.host_core.specs.State.{State}
+use Rattle.conf_store.specs.Changes.{Changes}
+use Rattle.checkpoints.specs.Changes.{IsDeletedOrNot}
+use Rattle.gcu_engine.specs.Answers.{Complete, IsStopped, IsUntouched, Leaves, LeavesDone, LeftOf}
+use Rattle.gcu_engine.specs.Asking.{Asking}
+use Rattle.gcu_engine.specs.Lines.{last_line}
+use Rattle.gcu_engine.specs.Printing.{IsPrinted, IsSaid}
+use Rattle.gcu_engine.specs.Request.{Request, delete_checkpoint}
+use Rattle.gcu_engine.specs.declared.outcomes.Outcome.{Outcome}
+use Rattle.gcu_engine.specs.declared.outcomes.Outcome.TheVariants.{Done, DiskFault}
+
+-- what is left, with that answer
+abbrev pub AnswersTo : (State → Asking Request)
+    → Option State → Option State → Counts → Counts → Outcome → Type 0
+AnswersTo asking None after old new result = after ≡ None
+AnswersTo asking (Some before) after old new result =
+    Leaves (asking before) before after old new result
+
+-- what a crash leaves meanwhile
+abbrev pub LeftTo : (State → Asking Request) → Option State → Left → Type 0
+LeftTo asking None left = ⊤
+LeftTo asking (Some before) left = LeftOf (asking before) before left
+
+-- the answer where nothing failed
+abbrev pub CompleteTo : (State → Asking Request)
+    → Option State → Counts → Counts → Outcome → Type 0
+CompleteTo asking told old new result =
+    IfSome told (λ s. NoneRose old new → Complete (asking s) result)
+
+-- a host that tells its state still does
+abbrev pub TellsOn : Option State → Option State → Type 0
+TellsOn None after = ⊤
+TellsOn (Some before) after = (now : State) × (after ≡ Some now)
+
+-- ---- a checkpoint that is deleted
+
+-- a fault of the disk
+abbrev pub is_disk_fault : Outcome → Bool
+is_disk_fault (DiskFault step) = true
+is_disk_fault other = false
+
+-- a fault of the disk comes after no acknowledgement
+abbrev pub IsFirst : Outcome → Type 0
+IsFirst (DiskFault step) = step ≡ 0
+IsFirst other = ⊤
+
+-- the answer that is printed; for want of memory another one may be, unless none is asked for
+abbrev pub IsTold : Bool → Outcome
+    → Option State → Option State → Counts → Counts → Outcome → Type 0
+IsTold true answer = IsPrinted answer (last_line answer)
+IsTold false answer = IsSaid answer (last_line answer)
+
+-- the outcome of what was done or refused
+abbrev pub outcome_of : Result (Unit {0}) Outcome → Outcome
+outcome_of (Ok done) = Done
+outcome_of (Err e) = e
+
+-- after a fault of the disk the checkpoint is there or not, and after another refusal nothing is changed
+abbrev pub LeavesRefused : List ℕ → Option State → Option State → Outcome → Type 0
+LeavesRefused name old new (DiskFault step) = Changes (IsDeletedOrNot name) old new
+LeavesRefused name old new other = new ≡ old
+
+-- what is there before the output
+abbrev pub RemovesAs : Asking Request → List ℕ → State → State → Outcome → Type 0
+RemovesAs asking name before now Done = LeavesDone (delete_checkpoint name) before now
+RemovesAs asking name before now (DiskFault step) = IsStopped asking before now
+RemovesAs asking name before now other = IsUntouched asking before now
+
+-- the same of a host that may not tell its state
+abbrev pub Removes : (State → Asking Request)
+    → List ℕ → Option State → Option State → Outcome → Type 0
+Removes asking name None after out = after ≡ None
+Removes asking name (Some before) after out =
+    (now : State) × (after ≡ Some now) × RemovesAs (asking before) name before now out

@@ -1,0 +1,126 @@
+//! `gcu delete-checkpoint NAME`: one checkpoint less.
+ghost use Rattle.std.specs.Prelude.{◌≡◌, ◌≤◌, true, IfErr, IfSome, None, OnOk};
+ghost use Rattle.std.specs.FinMap.{get};
+ghost use Rattle.host_core.specs.Counts.{DiskMayRise, NoneFell, PrintMayRise};
+ghost use Rattle.host_core.specs.Crashes.{Elapses, LeavesOnly};
+ghost use Rattle.host_core.specs.Names.{longest_scoped_name};
+ghost use Rattle.conf_store.specs.Changes.{AreLeft, IsSettled, Settles};
+ghost use Rattle.conf_store.specs.Reads.{OnlyReads};
+ghost use Rattle.checkpoints.specs.Changes.{IsDeleted, IsDeletedOrNot};
+ghost use Rattle.checkpoints.specs.Names.{is_good_name as is_name};
+ghost use Rattle.checkpoints.specs.Points.{points};
+ghost use Rattle.gcu_engine.specs.Answers.{HasCause, LeftWithOutput};
+ghost use Rattle.gcu_engine.specs.Asked.{delete_asked, there_asked};
+ghost use Rattle.gcu_engine.specs.Commands.{AnswersTo, CompleteTo, IsFirst, IsTold, LeavesRefused, LeftTo, Removes, is_disk_fault as is_fault, outcome_of};
+ghost use Rattle.gcu_engine.specs.Preparing.{Finds, Refuses};
+ghost use Rattle.gcu_engine.specs.Request.{delete_checkpoint as deletion_of};
+ghost use Rattle.gcu_engine.specs.declared.outcomes.Outcome.TheVariants.{Usage as usage};
+
+use crate::printing::{print, say};
+use crate::{Outcome, PointWhy};
+use checkpoints::{PointError, delete, is_good_name};
+use host_core::{Host, Txt};
+use std::alloc::Global;
+
+/// Deletes a checkpoint, whatever it holds. Once it is deleted no memory is asked for.
+pub(crate) fn delete_checkpoint<H: Host>(alloc: Global, name: &Txt, host: &mut H) -> Outcome
+    requires { longest_scoped_name ≤ H.longest_name }
+    ensures answers { AnswersTo (delete_asked name.now)
+        (H.told host.old) (H.told host.new) (H.counts host.old) (H.counts host.new) result }
+    ensures cause { HasCause (H.counts host.old) (H.counts host.new) result }
+    ensures counts { NoneFell (H.counts host.old) (H.counts host.new) }
+    ensures crash { LeavesOnly H.moment H.left_since host.old host.new
+        (LeftTo (delete_asked name.now) (H.told host.old)) }
+    ensures goes { H.goes_on host.old host.new }
+    ensures form { result ≡ usage → ⊥ }
+    ensures complete { CompleteTo (delete_asked name.now)
+        (H.told host.old) (H.counts host.old) (H.counts host.new) result }
+{
+    match remove_checkpoint(alloc, name, host) {
+        Ok(()) => print(Outcome::Done, b"done\n", host),
+        Err(outcome) => tell(alloc, outcome, host),
+    }
+}
+
+/// Prints the last line of a refusal. That of a disk fault asks for no memory, as something may be deleted.
+fn tell<H: Host>(alloc: Global, outcome: Outcome, host: &mut H) -> Outcome
+    requires { IsFirst outcome }
+    ensures told { IsTold (is_fault outcome) outcome
+        (H.told host.old) (H.told host.new) (H.counts host.old) (H.counts host.new) result }
+    ensures counts { PrintMayRise (H.counts host.old) (H.counts host.new) }
+    ensures time { Elapses H.moment H.left_since host.old host.new
+        (LeftWithOutput (H.told host.old)) }
+    ensures goes { H.goes_on host.old host.new }
+{
+    if is_disk_fault(&outcome) {
+        let fault = Outcome::DiskFault { step: 0 };
+        return print(fault, b"refused 4 disk fault after 0\n", host);
+    }
+    say(alloc, outcome, host)
+}
+
+fn is_disk_fault(outcome: &Outcome) -> bool
+    ensures { result ≡ is_fault outcome.now }
+{
+    match outcome {
+        Outcome::DiskFault { .. } => true,
+        _ => false,
+    }
+}
+
+/// Settles what is pending, and deletes the checkpoint.
+fn remove_checkpoint<H: Host>(alloc: Global, name: &Txt, host: &mut H) -> Result<(), Outcome>
+    requires { longest_scoped_name ≤ H.longest_name }
+    ensures answer { Finds (H.told host.old) (λ _. deletion_of name.now) result
+        (delete_asked name.now) }
+    ensures left { Removes (delete_asked name.now) name.now
+        (H.told host.old) (H.told host.new) (outcome_of result) }
+    ensures counts { DiskMayRise (H.counts host.old) (H.counts host.new) }
+    ensures cause { IfErr result (Refuses (H.counts host.old) (H.counts host.new)) }
+    ensures crash { LeavesOnly H.moment H.left_since host.old host.new
+        (LeftTo (delete_asked name.now) (H.told host.old)) }
+    ensures goes { H.goes_on host.old host.new }
+{
+    if !is_good_name(name.as_str()) {
+        let name = name.copy(alloc)?;
+        return Err(Outcome::BadName { name });
+    }
+    match host.settle() {
+        Ok(()) => delete_settled(alloc, name, host),
+        Err(_) => Err(Outcome::DiskFault { step: 0 }),
+    }
+}
+
+/// Deletes the checkpoint, with nothing pending.
+fn delete_settled<H: Host>(alloc: Global, name: &Txt, host: &mut H) -> Result<(), Outcome>
+    requires longest { longest_scoped_name ≤ H.longest_name }
+    requires ready { IfSome (H.told host.old) IsSettled }
+    requires named { is_name name.now ≡ true }
+    ensures answer { Finds (H.told host.old) (λ _. deletion_of name.now) result
+        (there_asked name.now) }
+    ensures ok { OnOk result (Settles (IsDeleted name.now) (H.told host.old) (H.told host.new)) }
+    ensures err { IfErr result (LeavesRefused name.now (H.told host.old) (H.told host.new)) }
+    ensures only_reads { IfSome (H.told host.old) (λ s. get (points s.files) name.now ≡ None
+        → OnlyReads H.told H.counts H.moment H.left_since H.goes_on host.old host.new) }
+    ensures any_moment { IfSome (H.told host.old)
+        (λ s. LeavesOnly H.moment H.left_since host.old host.new
+        (AreLeft (IsDeletedOrNot name.now) s)) }
+    ensures later { H.moment host.old ≤ H.moment host.new }
+    ensures counts { DiskMayRise (H.counts host.old) (H.counts host.new) }
+    ensures cause { IfErr result (Refuses (H.counts host.old) (H.counts host.new)) }
+    ensures goes { H.goes_on host.old host.new }
+{
+    match delete(alloc, host, name.as_str()) {
+        Ok(()) => Ok(()),
+        Err(PointError::Absent) => {
+            let name = name.copy(alloc)?;
+            Err(Outcome::NoCheckpoint {
+                name,
+                why: PointWhy::Absent,
+            })
+        }
+        Err(PointError::Disk) => Err(Outcome::DiskFault { step: 0 }),
+        Err(PointError::Memory) => Err(Outcome::Memory),
+        Err(_) => unreachable!(),
+    }
+}

@@ -1,0 +1,59 @@
+//! What a search asks: the moves at a configuration, and whether one is allowed.
+ghost use Rattle.std.specs.Prelude.{◌≡◌, All, IfOk, MatchOption};
+ghost use Rattle.std.specs.List.{Contains};
+ghost use Rattle.move_core.specs.Moves.{step};
+ghost use Rattle.move_core.specs.declared.moves.Move.{Move as Change};
+ghost use Rattle.plan_search.specs.Problems.{Problem, IsLawful};
+
+use conf_doc::Config;
+use host_core::Memory;
+use move_core::Move;
+use std::alloc::Global;
+
+/// A search's problem, asked by a kit that may change with each call.
+pub(crate) trait Expanding {
+    /// What the calls change.
+    type Kit;
+
+    /// What the search is about.
+    ghost problem: { Self → Problem };
+
+    /// The kit can be asked.
+    ghost is_ready: { Self → Self.Kit → Type 0 };
+
+    /// Where the search begins.
+    fn start(&self) -> &Config
+        ensures { result.now ≡ (problem self.now).start };
+
+    /// Where it is to end.
+    fn goal(&self) -> &Config
+        ensures { result.now ≡ (problem self.now).goal };
+
+    /// The listed moves, in the order in which they are tried.
+    fn list(&self, alloc: Global, kit: &mut Self::Kit, cur: &Config) -> Result<Vec<Move>, Memory>
+        requires ready { is_ready self.now kit.old }
+        requires fit { (problem self.now).IsFit cur.now }
+        ensures ready { is_ready self.now kit.new }
+        ensures each { IfOk result (λ ms. All ((problem self.now).IsListed cur.now) ms.items) }
+        ensures all { IfOk result (λ ms.
+            (m : Change) → (problem self.now).IsListed cur.now m → Contains ms.items m) };
+
+    /// What a listed move makes of the configuration, or None where it isn't allowed.
+    fn try_move(
+        &self,
+        alloc: Global,
+        kit: &mut Self::Kit,
+        cur: &Config,
+        mv: &Move,
+    ) -> Result<Option<Config>, Memory>
+        requires ready { is_ready self.now kit.old }
+        requires fit { (problem self.now).IsFit cur.now }
+        requires listed { (problem self.now).IsListed cur.now mv.now }
+        ensures ready { is_ready self.now kit.new }
+        ensures next { IfOk result (λ found. MatchOption found
+            (¬ (problem self.now).IsAllowed cur.now mv.now)
+            (λ next. (problem self.now).IsAllowed cur.now mv.now × (next ≡ step cur.now mv.now))) };
+
+    /// An allowed move is a listed one, and after it the search can go on.
+    ghost lawful: { (s : Self) → IsLawful (problem s) };
+}

@@ -1,0 +1,58 @@
+//! The configurations that a search met, in the order of meeting.
+ghost use Rattle.std.specs.Prelude.{◌≡◌, ◌↔◌, [], ◌∷◌, ◌++◌, length, IsTrue, OnOk};
+ghost use Rattle.std.specs.List.{Contains};
+
+use conf_doc::Config;
+use host_core::Memory;
+use indexmap::IndexSet;
+use std::alloc::Global;
+use std::marker::Model;
+
+/// Configurations, each once. Contracts see the list of them.
+#[derive(Drop)]
+pub(crate) struct Met {
+    configs: IndexSet<Config>,
+}
+
+impl Model for Met {
+    ghost use Rattle.std.specs.Prelude.{List};
+    ghost use Rattle.conf_doc.specs.declared.configuration.Config.{Config as Configuration};
+
+    ghost Value = { List Configuration };
+
+    ghost view = { λ m. m.configs.keys };
+}
+
+impl Met {
+    /// None, which take no memory.
+    pub(crate) fn new(alloc: Global) -> Met
+        ensures { result ≡ [] }
+    {
+        Met {
+            configs: IndexSet::new(alloc),
+        }
+    }
+
+    /// How many there are.
+    pub(crate) fn len(&self) -> usize
+        ensures { result ≡ length self.now }
+    {
+        self.configs.len()
+    }
+
+    /// Whether the configuration is one of them.
+    pub(crate) fn contains(&self, config: &Config) -> bool
+        ensures { IsTrue result ↔ Contains self.now config.now }
+    {
+        self.configs.contains(config)
+    }
+
+    /// Adds one.
+    pub(crate) fn push(&mut self, config: Config) -> Result<(), Memory>
+        requires { ¬ Contains self.old config }
+        ensures { OnOk result (self.new ≡ self.old ++ config ∷ []) }
+    {
+        self.configs.insert(config)?;
+        Ok(())
+    }
+}
