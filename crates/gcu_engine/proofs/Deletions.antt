@@ -1,19 +1,19 @@
 -- A checkpoint that is deleted: what is found, left and answered.
-use Rattle.std.proofs.Common.{◌≡◌, ◌≤◌, ℕ, inl, inr, ⊎_elim, Bool, true, false, cond, List, [], ◌∷◌, ◌++◌, append-nil, refl, sym, ap, ◌∙◌, subst, arith, Option, Some, None, Result, Ok, Err, IfErr, IfSome, option_map}
+use Rattle.std.proofs.Common.{◌≡◌, ◌≤◌, ℕ, inl, inr, Bool, true, false, cond, List, [], append-nil, refl, sym, ap, ◌∙◌, subst, arith, Option, Some, None, Result, Ok, Err, IfErr, IfSome, option_map}
 use Rattle.std.specs.Prelude.{OnOk}
 use Rattle.std.specs.Cmp.Lexicographic.{nat_list_cmp_total}
 use Rattle.std.specs.FinMap as finmap
 use Rattle.std.specs.FinMap.{get}
-use Rattle.std.specs.Ordering.{eq_by_cmp, is_eq}
+use Rattle.std.specs.Ordering.{is_eq}
 use Rattle.std.specs.declared.cmp.Ordering.{Ordering}
 use Rattle.std.specs.declared.cmp.Ordering.TheVariants.{Less, Equal, Greater}
 use Rattle.host_core.specs.Answers.{map_ok}
-use Rattle.host_core.specs.Counts.{Counts, Rose, PrintMayRise}
+use Rattle.host_core.specs.Counts.{Counts, PrintMayRise}
 use Rattle.host_core.specs.Crashes.{Elapses, Image, Left, LeavesOnly, MayLeave, MayLeaveNow}
 use Rattle.host_core.specs.Names.{name_cmp}
 use Rattle.host_core.specs.State.{Files, Pending, State, dirty, listing, printed, settled, with_file, with_pending}
 use Rattle.host_core.proofs.Runs as runs
-use Rattle.conf_store.specs.Changes.{AreLeft, Changes, IsSettled, Leads, Settles}
+use Rattle.conf_store.specs.Changes.{AreLeft, Changes, Settles}
 use Rattle.checkpoints.specs.Changes.{IsDeleted, IsDeletedOrNot}
 use Rattle.checkpoints.specs.Names.{is_good_name}
 use Rattle.checkpoints.specs.Points.{Held, points}
@@ -23,7 +23,7 @@ use Rattle.gcu_engine.specs.Asking.{Asking, a_settling, follows, settles_first, 
 use Rattle.gcu_engine.specs.Commands.{AnswersTo, IsFirst, IsTold, LeavesRefused, LeftTo, Removes, RemovesAs, TellsOn, is_disk_fault, outcome_of}
 use Rattle.gcu_engine.specs.Lines.{last_line}
 use Rattle.gcu_engine.specs.Preparing.{FailsIn, Finds, Found, Refuses, StandsIn, refusal}
-use Rattle.gcu_engine.specs.Printing.{IsPrinted, IsSaid}
+use Rattle.gcu_engine.specs.Printing.{IsPrinted}
 use Rattle.gcu_engine.specs.Request as request
 use Rattle.gcu_engine.specs.Request.{Request}
 use Rattle.gcu_engine.specs.declared.outcomes.Outcome.{Outcome}
@@ -166,12 +166,16 @@ module _ {H : Type 0} (moment : H → ℕ) (left_since : H → ℕ → Left → 
       by (Some held) there =
           runs.joins moment left_since old mid new (LeftOf (delete_asked name s) s) so_far
           (runs.weaker moment left_since mid new (AreLeft (IsDeletedOrNot name) (with_pending settled s)) (LeftOf (delete_asked name s) s)
-          (λ left h. inr (request.delete_checkpoint name, deletion_given name s held good there, record {
-            files = h.files;
-            part = [];
-            output = h.output ∙ sym (append-nil s.output);
-            restarts = h.restarts;
-          })) deletes)
+          (λ left h. inr (
+            request.delete_checkpoint name,
+            deletion_given name s held good there,
+            record {
+              files = h.files;
+              part = [];
+              output = h.output ∙ sym (append-nil s.output);
+              restarts = h.restarts;
+            },
+          )) deletes)
 
   -- nothing is called yet
   pub asking_begins : (asking : State → Asking Request) (o : Option State) (old : H) → ((left : Left) → left_since old (moment old) left → MayLeaveNow o left)
