@@ -1,19 +1,19 @@
 -- A checkpoint that is deleted: what is found, left and answered.
-use Rattle.std.proofs.Common.{◌≡◌, ◌≤◌, ℕ, inl, inr, ⊎_elim, Bool, true, false, cond, List, [], ◌∷◌, ◌++◌, append-nil, refl, sym, ap, ◌∙◌, subst, arith, Option, Some, None, Result, Ok, Err, IfErr, IfSome, option_map}
+use Rattle.std.proofs.Common.{◌≡◌, ◌≤◌, ℕ, inl, inr, Bool, true, false, cond, List, [], append-nil, refl, sym, ap, ◌∙◌, subst, arith, Option, Some, None, Result, Ok, Err, IfErr, IfSome, option_map}
 use Rattle.std.specs.Prelude.{OnOk}
 use Rattle.std.specs.Cmp.Lexicographic.{nat_list_cmp_total}
 use Rattle.std.specs.FinMap as finmap
 use Rattle.std.specs.FinMap.{get}
-use Rattle.std.specs.Ordering.{eq_by_cmp, is_eq}
+use Rattle.std.specs.Ordering.{is_eq}
 use Rattle.std.specs.declared.cmp.Ordering.{Ordering}
 use Rattle.std.specs.declared.cmp.Ordering.TheVariants.{Less, Equal, Greater}
 use Rattle.host_core.specs.Answers.{map_ok}
-use Rattle.host_core.specs.Counts.{Counts, Rose, PrintMayRise}
+use Rattle.host_core.specs.Counts.{Counts, PrintMayRise}
 use Rattle.host_core.specs.Crashes.{Elapses, Image, Left, LeavesOnly, MayLeave, MayLeaveNow}
 use Rattle.host_core.specs.Names.{name_cmp}
 use Rattle.host_core.specs.State.{Files, Pending, State, dirty, listing, printed, settled, with_file, with_pending}
 use Rattle.host_core.proofs.Runs as runs
-use Rattle.conf_store.specs.Changes.{AreLeft, Changes, IsSettled, Leads, Settles}
+use Rattle.conf_store.specs.Changes.{AreLeft, Changes, Settles}
 use Rattle.checkpoints.specs.Changes.{IsDeleted, IsDeletedOrNot}
 use Rattle.checkpoints.specs.Names.{is_good_name}
 use Rattle.checkpoints.specs.Points.{Held, points}
@@ -23,7 +23,7 @@ use Rattle.gcu_engine.specs.Asking.{Asking, a_settling, follows, settles_first, 
 use Rattle.gcu_engine.specs.Commands.{AnswersTo, IsFirst, IsTold, LeavesRefused, LeftTo, Removes, RemovesAs, TellsOn, is_disk_fault, outcome_of}
 use Rattle.gcu_engine.specs.Lines.{last_line}
 use Rattle.gcu_engine.specs.Preparing.{FailsIn, Finds, Found, Refuses, StandsIn, refusal}
-use Rattle.gcu_engine.specs.Printing.{IsPrinted, IsSaid}
+use Rattle.gcu_engine.specs.Printing.{IsPrinted}
 use Rattle.gcu_engine.specs.Request as request
 use Rattle.gcu_engine.specs.Request.{Request}
 use Rattle.gcu_engine.specs.declared.outcomes.Outcome.{Outcome}

@@ -4,7 +4,7 @@ use Rattle.host_core.specs.Crashes.{Elapses, LeavesOnly, Left, MayLeave, MayLeav
 use Rattle.host_core.specs.State.{State, printed}
 use Rattle.host_core.proofs.Runs.{begins, goes_on}
 use Rattle.gcu_engine.specs.Answers.{LeftDoing, LeftMeanwhile, LeftOf, LeftWithOutput}
-use Rattle.gcu_engine.specs.Asked.{asked, form_asked}
+use Rattle.gcu_engine.specs.Asked.{form_asked}
 use Rattle.gcu_engine.specs.Asking.{Asking}
 use Rattle.gcu_engine.specs.Commands.{LeftTo, TellsOn}
 use Rattle.gcu_engine.specs.Form.{Form, form}

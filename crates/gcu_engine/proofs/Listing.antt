@@ -1,9 +1,8 @@
 -- The names of checkpoints, found and printed.
-use Rattle.std.proofs.Common.{◌≡◌, ℕ, List, ◌++◌, refl, sym, ap, arith, Option, Some, None, Result, Ok, Err, IfSome}
+use Rattle.std.proofs.Common.{ℕ, List, ◌++◌, refl, sym, ap, Option, Some, None, Ok, Err, IfSome}
 use Rattle.host_core.specs.Counts.{Counts}
 use Rattle.host_core.specs.State.{State}
 use Rattle.checkpoints.specs.Answers.{Lists}
-use Rattle.checkpoints.specs.declared.errors.PointError.{PointError}
 use Rattle.gcu_engine.specs.Answers.{Says}
 use Rattle.gcu_engine.specs.Asked.{list_asked}
 use Rattle.gcu_engine.specs.Lines.{last_line, lines}
