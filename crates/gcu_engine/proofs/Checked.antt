@@ -1,18 +1,23 @@
 -- How models, the stored configuration and its validity are found one after the other.
-use Rattle.std.proofs.Common.{◌≡◌, List, Option, Some, None, Result, Ok, Err, IfErr, IfSome, refl}
+use Rattle.std.proofs.Common.{◌≡◌, ℕ, List, sym, ap, ◌∙◌, Option, Some, None, Result, Ok, Err, IfErr, IfSome, refl}
 use Rattle.host_core.specs.Counts.{Counts}
 use Rattle.host_core.specs.State.{State}
 use Rattle.conf_doc.specs.declared.configuration.Config.{Config}
 use Rattle.yang_model.specs.ModelSets.{ModelSet}
+use Rattle.conf_check.specs.Validity.{Breach, IsFirstViolation, rule_number, violation_of}
+use Rattle.conf_check.specs.declared.violations.Rule.{Rule}
+use Rattle.conf_check.specs.declared.violations.Rule.TheVariants.{KeyShape, KeyReference, UnknownField, WrongKind, BadValue, DuplicateItem, MissingField, Must}
+use Rattle.conf_check.specs.declared.violations.Violation.{Violation}
+use Rattle.violation_places.specs.Places.{IsPlaceOf, rule_from}
 use Rattle.gcu_engine.specs.Answers.{Says}
-use Rattle.gcu_engine.specs.Checking.{IsJudged, check_asked}
+use Rattle.gcu_engine.specs.Checking.{IsInvalid, IsJudged, check_asked}
 use Rattle.gcu_engine.specs.Lines.{last_line}
 use Rattle.gcu_engine.specs.ModelFiles.{AreModels, Text, models_asked, texts_asked}
 use Rattle.gcu_engine.specs.Preparing.{Finds, IsRightBy, Refuses, RefusesAlways}
 use Rattle.gcu_engine.specs.Request as request
 use Rattle.gcu_engine.specs.StoredAsked.{stored_asked}
 use Rattle.gcu_engine.specs.declared.outcomes.Outcome.{Outcome}
-use Rattle.gcu_engine.specs.declared.outcomes.Outcome.TheVariants.{Done}
+use Rattle.gcu_engine.specs.declared.outcomes.Outcome.TheVariants.{CurrentInvalid, Done}
 use Rattle.gcu_engine.proofs.Answering.{refused_says}
 use Rattle.gcu_engine.proofs.Finding.{first_refused, then_found, found_told}
 
@@ -72,3 +77,32 @@ pub check_refused : (o : Option State) (e : Outcome) (old new : Counts) → Refu
     → Finds {X = Unit {0}} o check_of (Err e) check_asked → IfSome o (λ s. Says (check_asked s) s s e (last_line e))
 check_refused None e old new h f = tt
 check_refused (Some s) e old new h f = refused_says (check_asked s) s e old new h f.stands f.gives
+
+-- ---- the first violation
+
+numbered : (r : Rule) → rule_from (rule_number r) ≡ Some r
+numbered KeyShape = refl
+numbered KeyReference = refl
+numbered UnknownField = refl
+numbered WrongKind = refl
+numbered BadValue = refl
+numbered DuplicateItem = refl
+numbered MissingField = refl
+numbered Must = refl
+
+-- a number is that of one rule
+rule_is : (b : Breach) (v : Violation) (rule : Rule) → v ≡ violation_of b → rule_from v.rule ≡ Some rule → rule ≡ b.rule
+rule_is b v rule same is =
+    let two : Some rule ≡ Some b.rule = sym is ∙ ap (λ w. rule_from w.rule) same ∙ numbered b.rule in
+    let one : rule ≡ b.rule = cc in one
+
+-- the first violation is told with its place and its rule
+pub first_told : (models : ModelSet) (config : Config) (v : Violation) (place : List ℕ) (rule : Rule) (h : IsFirstViolation models config v)
+    → IsPlaceOf models config h.breach place → rule_from v.rule ≡ Some rule → IsInvalid models config (CurrentInvalid place rule)
+first_told models config v place rule h at is = record {
+  breach = h.breach;
+  first = record { broken = h.broken; first = h.first };
+  place = place;
+  at = at;
+  told = ap (λ r. CurrentInvalid place r) (rule_is h.breach v rule h.is is);
+}
