@@ -88,7 +88,12 @@ fn said(alloc: Global, outcome: &Outcome) -> Result<String, AllocError>
         }
         Outcome::CurrentInvalid { place, rule } => {
             let place = quoted(alloc, place.as_str())?;
-            worded(alloc, "current invalid ", place.as_str(), rule_name_of(*rule))
+            worded(
+                alloc,
+                "current invalid ",
+                place.as_str(),
+                rule_name_of(*rule),
+            )
         }
         Outcome::BadStored { why } => {
             let why = stored_why_text(alloc, *why)?;

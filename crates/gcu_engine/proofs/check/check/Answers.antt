@@ -2,6 +2,8 @@ use Rattle.gcu_engine.specs.Checking.{check_asked}
 use Rattle.gcu_engine.specs.Lines.{last_line}
 use Rattle.gcu_engine.specs.declared.outcomes.Outcome.TheVariants.{Done}
 use Rattle.gcu_engine.proofs.Answering.{refused_cause, said_to}
+use Rattle.gcu_engine.proofs.Causes.{said_cause}
+use Rattle.gcu_engine.proofs.Completing.{completes}
 use Rattle.gcu_engine.proofs.Elapsing.{asking_leaves_behind}
 use Rattle.gcu_engine.proofs.Checked.{check_refused, check_says}
 use Rattle.gcu_engine.proofs.check.check.Goals as goal
@@ -38,3 +40,10 @@ returns-in-Ok-clause-goes g c =
 pub returns-in-Err-clause-goes : goal.returns-in-Err-clause-goes
 returns-in-Err-clause-goes g c =
     g.met.H.Host.continues c.args.host.now c.judge_stored.new.host c.say-in-Err.new.host c.judge_stored.ensures.goes c.say-in-Err.ensures.goes
+
+pub returns-in-Err-clause-complete : goal.returns-in-Err-clause-complete
+returns-in-Err-clause-complete g c =
+    completes check_asked (g.H.Host.told c.args.host.now) (g.H.Host.told c.say-in-Err.new.host) (g.H.Host.counts c.args.host.now) (g.H.Host.counts c.say-in-Err.new.host) c.say-in-Err.result
+    (said_cause (g.H.Host.counts c.args.host.now) (g.H.Host.counts c.judge_stored.new.host) (g.H.Host.counts c.say-in-Err.new.host) c.judge_stored.ensures.counts c.say-in-Err.ensures.counts
+    c.in-Err.outcome (g.H.Host.told c.judge_stored.new.host) (g.H.Host.told c.say-in-Err.new.host) c.say-in-Err.result c.in-Err.ensures.cause c.say-in-Err.ensures.said)
+    (returns-in-Err-clause-answers g c)
