@@ -50,7 +50,8 @@ RefusesAlways (PrintFault step) = ⊥
 RefusesAlways other = ⊤
 
 -- the same of a relation that tells what is right
-abbrev pub IsRightBy : {X Y : Type 0} → (X → Y) → Result X Outcome → (Result Y Outcome → Type 0) → Type 0
+abbrev pub IsRightBy : {X Y : Type 0} → (X → Y) → Result X Outcome
+    → (Result Y Outcome → Type 0) → Type 0
 IsRightBy view result Tells = IsGiven view result (follows_by Tells)
 
 -- what was found or refused is what is asked, and a fault stands at a call that is made

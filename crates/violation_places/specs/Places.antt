@@ -44,7 +44,8 @@ IsFieldOf models row MissingField n names =
 IsFieldOf models row Must n names = names ≡ []
 
 -- the text is the pointer to where the rule is broken
-pub record IsPlaceOf (models : ModelSet) (config : Config) (b : Breach) (text : List ℕ) : Type 0 where
+pub record IsPlaceOf (models : ModelSet) (config : Config) (b : Breach) (text : List ℕ)
+    : Type 0 where
   pub row : Row
   pub at : row_at models config b.table b.key ≡ Some row
   pub field : List (List ℕ)
