@@ -16,6 +16,7 @@ use Rattle.gcu_engine.specs.declared.outcomes.Outcome.TheVariants.{Done, Memory,
 finishes : (r : Request) → Finishes r Done
 finishes (request.preview c) = refl
 finishes (request.list_checkpoints names) = refl
+finishes request.check = refl
 finishes (request.delete_checkpoint name) = refl
 
 module _ (asking : Asking Request) (s now : State) (old new : Counts) (none : NoneRose old new) where

@@ -15,12 +15,14 @@ use Rattle.conf_doc.specs.declared.errors.ShapeError.TheVariants as shape
 use Rattle.conf_doc.specs.declared.trees.Tree.{Tree}
 use Rattle.patch_core.specs.Operation.{operations}
 use Rattle.patch_core.specs.declared.patches.Patch.{Patch}
-use Rattle.conf_store.specs.Loads.{LoadsTree}
+use Rattle.conf_store.specs.Loads.{Loads, LoadsTree}
 use Rattle.conf_store.specs.declared.errors.LoadError.TheVariants.{Bad}
 use Rattle.conf_store.specs.declared.errors.StoredWhy.{StoredWhy}
-use Rattle.gcu_engine.specs.Asked.{patch_asked, patch_in, patch_limit, stored_asked, stored_answer, target, target_shape}
-use Rattle.gcu_engine.specs.Asking.{Asking, follows, ◌>>>◌}
-use Rattle.gcu_engine.specs.Preparing.{FailsIn, Finds, Found, IsGiven, Refuses, RefusesAlways, StandsIn, refusal}
+use Rattle.conf_store.specs.declared.loaded.Stored.{Stored}
+use Rattle.gcu_engine.specs.Asked.{patch_asked, patch_in, patch_limit, target, target_shape}
+use Rattle.gcu_engine.specs.StoredAsked.{stored_asked, stored_answer}
+use Rattle.gcu_engine.specs.Asking.{Asking, follows, follows_by, ◌>>>◌}
+use Rattle.gcu_engine.specs.Preparing.{FailsIn, Finds, Found, IsGiven, IsRightBy, Refuses, RefusesAlways, StandsIn, refusal}
 use Rattle.gcu_engine.specs.Trees.{document_shape, preview_document, stored_document, target_document, through}
 use Rattle.gcu_engine.specs.declared.outcomes.Outcome.{Outcome}
 use Rattle.gcu_engine.specs.declared.outcomes.Outcome.TheVariants.{BadStored, Done, Memory, Usage, InputFault, DiskFault, PrintFault, TargetShape}
@@ -110,7 +112,28 @@ found_always view r answer asking right gives h = record {
   stands = always_stands r asking h;
 }
 
+-- what a relation tells is found with no call
+pub found_told : {X Y : Type 0} (view : X → Y) (r : Result X Outcome) (Tells : Result Y Outcome → Type 0)
+    → IsRightBy view r Tells → IfErr r RefusesAlways → Found view r (follows_by Tells)
+found_told view r Tells gives h = record { gives = gives; stands = always_stands r (follows_by Tells) h }
+
 -- ---- the stored configuration
+
+-- what was loaded decides the stored configuration
+pub found_config : (o : Option State) (what : Stored) → IfSome o (λ s. Loads s.files (Ok what)) → Finds o (λ c. c) (Ok what.config) stored_asked
+found_config None what loads = tt
+found_config (Some s) what loads = record { gives = ap stored_answer loads.config; stands = tt }
+
+-- so does why nothing was
+pub found_no_config : (o : Option State) (why : StoredWhy) → IfSome o (λ s. Loads s.files (Err (Bad why)))
+    → Finds {X = Config} o (λ c. c) (Err (BadStored why)) stored_asked
+found_no_config None why loads = tt
+found_no_config (Some s) why loads = record { gives = ap stored_answer loads; stands = tt }
+
+-- a disk fault stands where the stored file is read
+pub disk_fault_of_config : (o : Option State) (step : ℕ) → Finds {X = Config} o (λ c. c) (Err (DiskFault step)) stored_asked
+disk_fault_of_config None step = tt
+disk_fault_of_config (Some s) step = record { gives = tt; stands = refl }
 
 -- the tree that was loaded decides the stored configuration
 pub found_stored : (o : Option State) (t : Tree) → IfSome o (λ s. LoadsTree s.files (Ok t)) → Finds o document (Ok t) stored_document

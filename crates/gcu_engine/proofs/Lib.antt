@@ -1,7 +1,8 @@
 pub mod Answering
 pub mod Elapsing
 pub mod Finding
-pub mod Models
+pub mod ModelTexts
+pub mod Checked
 pub mod TreeTexts
 mod Causes
 mod Completing

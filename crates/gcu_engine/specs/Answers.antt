@@ -10,7 +10,7 @@ use Rattle.checkpoints.specs.Changes.{IsDeleted, IsDeletedOrNot}
 use Rattle.gcu_engine.specs.Asked.{asked}
 use Rattle.gcu_engine.specs.Asking.{Asking, an_input, a_file, a_settling}
 use Rattle.gcu_engine.specs.Lines.{last_line, lines}
-use Rattle.gcu_engine.specs.Request.{Request, delete_checkpoint, list_checkpoints, preview}
+use Rattle.gcu_engine.specs.Request.{Request, delete_checkpoint, list_checkpoints, preview, check}
 use Rattle.gcu_engine.specs.declared.outcomes.Outcome.{Outcome}
 use Rattle.gcu_engine.specs.declared.outcomes.Outcome.TheVariants.{Done, Memory, Usage, InputFault, DiskFault, PrintFault}
 
@@ -53,6 +53,7 @@ IsStopped asking before now =
 abbrev pub done_output : Request → List ℕ
 done_output (preview c) = file_text c ++ last_line Done
 done_output (list_checkpoints names) = lines names ++ last_line Done
+done_output check = last_line Done
 done_output (delete_checkpoint name) = last_line Done
 
 -- what is there before the output with that answer, and the whole output; a fault is answered only where a
@@ -141,6 +142,7 @@ TellsUsage other = ⊥
 abbrev pub Finishes : Request → Outcome → Type 0
 Finishes (preview c) result = result ≡ Done
 Finishes (list_checkpoints names) result = result ≡ Done
+Finishes check result = result ≡ Done
 Finishes (delete_checkpoint name) result = result ≡ Done
 
 -- the answers where nothing failed: for want of memory, the refusal, or what the request says

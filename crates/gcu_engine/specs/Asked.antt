@@ -19,28 +19,17 @@ use Rattle.patch_core.specs.declared.errors.ApplyError.{ApplyError}
 use Rattle.patch_core.specs.declared.errors.ApplyError.TheVariants as failed
 use Rattle.patch_core.specs.declared.errors.PatchError.{PatchError}
 use Rattle.patch_core.specs.declared.errors.PatchError.TheVariants as bad
-use Rattle.conf_store.specs.Stored.{stored}
-use Rattle.conf_store.specs.declared.errors.StoredWhy.{StoredWhy}
 use Rattle.checkpoints.specs.Names.{is_good_name}
 use Rattle.checkpoints.specs.Points.{Held, points}
 use Rattle.gcu_engine.specs.Asking.{Asking, an_input, a_file, asks, follows, settles_first, ◌>>>◌}
-use Rattle.gcu_engine.specs.Form.{Form, delete_checkpoint, form, list_checkpoints, preview}
+use Rattle.gcu_engine.specs.Checking.{check_asked}
+use Rattle.gcu_engine.specs.Form.{Form, check, delete_checkpoint, form, list_checkpoints, preview}
 use Rattle.gcu_engine.specs.Request as request
 use Rattle.gcu_engine.specs.Request.{Request}
+use Rattle.gcu_engine.specs.StoredAsked.{stored_asked}
 use Rattle.gcu_engine.specs.declared.outcomes.Outcome.{Outcome}
-use Rattle.gcu_engine.specs.declared.outcomes.Outcome.TheVariants.{Memory, Usage, NoInput, TooBig, BadJson, BadPatch, PatchFailed, TargetShape, NoCheckpoint, BadName, BadStored}
+use Rattle.gcu_engine.specs.declared.outcomes.Outcome.TheVariants.{Memory, Usage, NoInput, TooBig, BadJson, BadPatch, PatchFailed, TargetShape, NoCheckpoint, BadName}
 use Rattle.gcu_engine.specs.declared.outcomes.PointWhy.TheVariants as why
-
--- ---- the stored configuration
-
--- a folder that stands for none is refused
-abbrev pub stored_answer : Result Config StoredWhy → Result Config Outcome
-stored_answer (Ok c) = Ok c
-stored_answer (Err why) = Err (BadStored why)
-
--- the configuration that the folder stands for
-abbrev pub stored_asked : State → Asking Config
-stored_asked s = asks a_file (stored_answer (stored s.files))
 
 -- ---- the patch
 
@@ -131,6 +120,7 @@ delete_asked word s =
 abbrev pub form_asked : Option Form → State → Asking Request
 form_asked None s = follows (Err Usage)
 form_asked (Some (preview path)) s = preview_asked path s
+form_asked (Some check) s = check_asked s
 form_asked (Some list_checkpoints) s = list_asked s
 form_asked (Some (delete_checkpoint name)) s = delete_asked name s
 

@@ -7,6 +7,7 @@ use Rattle.std.specs.List.{starts_with}
 pub data Form : Type 0 where
   -- with the path of the patch
   preview : List ℕ → Form
+  check : Form
   list_checkpoints : Form
   -- with the name of the checkpoint
   delete_checkpoint : List ℕ → Form
@@ -21,7 +22,8 @@ is_word word name = pointwise nat_eq word name
 -- the command that a word is
 abbrev pub form_of_one : List ℕ → Option Form
 form_of_one command =
-    if is_word command (codes "list-checkpoints") then Some list_checkpoints
+    if is_word command (codes "check") then Some check
+    else if is_word command (codes "list-checkpoints") then Some list_checkpoints
     else None
 
 -- the command that two words are

@@ -2,11 +2,12 @@
 use Rattle.std.specs.Prelude.{Option, Some, None}
 use Rattle.gcu_engine.specs.Form as words
 use Rattle.gcu_engine.specs.declared.form.Form.{Form}
-use Rattle.gcu_engine.specs.declared.form.Form.TheVariants.{Unknown, Preview, ListCheckpoints, DeleteCheckpoint}
+use Rattle.gcu_engine.specs.declared.form.Form.TheVariants.{Unknown, Preview, Check, ListCheckpoints, DeleteCheckpoint}
 
 -- the command that it is, or None for words that are no command
 abbrev pub form_view : Form → Option words.Form
 form_view Unknown = None
 form_view (Preview patch) = Some (words.preview patch.now)
+form_view Check = Some words.check
 form_view ListCheckpoints = Some words.list_checkpoints
 form_view (DeleteCheckpoint name) = Some (words.delete_checkpoint name.now)

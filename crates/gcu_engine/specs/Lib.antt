@@ -2,10 +2,12 @@
 pub mod Answers
 pub mod Asked
 pub mod Asking
+pub mod Checking
 pub mod Form
 pub mod Lines
 pub mod ModelFiles
 pub mod Request
+pub mod StoredAsked
 -- what only private clauses cite
 pub mod Commands
 pub mod FormView

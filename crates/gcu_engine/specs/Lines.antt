@@ -8,10 +8,12 @@ use Rattle.patch_core.specs.declared.errors.PatchWhy.{PatchWhy}
 use Rattle.patch_core.specs.declared.errors.PatchWhy.TheVariants.{NotArray, NotObject, NoOp, UnknownOp, NoPath, BadPath, NoValue, BadValue, NoFrom, BadFrom}
 use Rattle.conf_store.specs.declared.errors.StoredWhy.{StoredWhy}
 use Rattle.conf_store.specs.declared.errors.StoredWhy.TheVariants as stored
+use Rattle.conf_check.specs.declared.violations.Rule.{Rule}
+use Rattle.conf_check.specs.declared.violations.Rule.TheVariants as rules
 use Rattle.yang_text.specs.declared.errors.ModelWhy.{ModelWhy}
 use Rattle.yang_text.specs.declared.errors.ModelWhy.TheVariants as models
 use Rattle.gcu_engine.specs.declared.outcomes.Outcome.{Outcome}
-use Rattle.gcu_engine.specs.declared.outcomes.Outcome.TheVariants.{Done, Memory, Usage, InputFault, DiskFault, PrintFault, NoInput, TooBig, BadJson, BadModels, BadPatch, PatchFailed, TargetShape, NoCheckpoint, BadName, BadStored}
+use Rattle.gcu_engine.specs.declared.outcomes.Outcome.TheVariants.{Done, Memory, Usage, InputFault, DiskFault, PrintFault, NoInput, TooBig, BadJson, BadModels, BadPatch, PatchFailed, TargetShape, CurrentInvalid, NoCheckpoint, BadName, BadStored}
 use Rattle.gcu_engine.specs.declared.outcomes.PointWhy.{PointWhy}
 use Rattle.gcu_engine.specs.declared.outcomes.PointWhy.TheVariants as point
 
@@ -32,6 +34,7 @@ number (PatchFailed index why) = 14
 number (TargetShape place) = 15
 number (NoCheckpoint name why) = 22
 number (BadName name) = 24
+number (CurrentInvalid place rule) = 16
 number (BadStored why) = 25
 
 -- what is wrong with an operation
@@ -64,6 +67,17 @@ stored_why stored.BadJson = codes "BadJson"
 stored_why stored.BadKind = codes "BadKind"
 stored_why stored.BadShape = codes "BadShape"
 stored_why (stored.BadStep n) = codes "BadStep " ++ decimal n
+
+-- the name of a rule of validity
+abbrev pub rule_name : Rule → List ℕ
+rule_name rules.KeyShape = codes "KeyShape"
+rule_name rules.KeyReference = codes "KeyReference"
+rule_name rules.UnknownField = codes "UnknownField"
+rule_name rules.WrongKind = codes "WrongKind"
+rule_name rules.BadValue = codes "BadValue"
+rule_name rules.DuplicateItem = codes "DuplicateItem"
+rule_name rules.MissingField = codes "MissingField"
+rule_name rules.Must = codes "Must"
 
 -- what is wrong with models
 abbrev pub model_why : ModelWhy → List ℕ
@@ -117,6 +131,8 @@ said (PatchFailed index why) = codes "patch failed " ++ decimal index ++ space +
 said (TargetShape place) = codes "target shape " ++ quoted place
 said (NoCheckpoint name why) = codes "no checkpoint " ++ quoted name ++ space ++ point_why why
 said (BadName name) = codes "bad name " ++ quoted name
+said (CurrentInvalid place rule) =
+    codes "current invalid " ++ quoted place ++ space ++ rule_name rule
 said (BadStored why) = codes "bad stored " ++ stored_why why
 
 -- each text as a line

@@ -1,15 +1,18 @@
 -- What a command asks of its host for the models: the list of their files, and then each file.
-use Rattle.std.specs.Prelude.{ℕ, List, [], ◌∷◌, ◌++◌, codes, length, All, ◌≤◌, ⊤, Result, Ok, Err}
+use Rattle.std.specs.Prelude.{◌≡◌, ℕ, List, [], ◌∷◌, ◌++◌, map, codes, length, All, ◌≤◌, ⊤, Some, slice_get, Result, Ok, Err}
 use Rattle.host_core.specs.Answers.{◌>>=◌}
 use Rattle.host_core.specs.Inputs.{input_of}
 use Rattle.host_core.specs.State.{State}
 use Rattle.host_core.specs.declared.host_calls.Input.{Input}
 use Rattle.host_core.specs.declared.host_calls.Input.TheVariants.{Absent, TooBig as longer, Bytes}
 use Rattle.model_list.specs.Lists.{paths_of}
-use Rattle.yang_text.specs.Declarations.{Declaration}
+use Rattle.yang_text.specs.Declarations.{Declaration, total_weight}
 use Rattle.yang_text.specs.Reading.{reading}
 use Rattle.yang_text.specs.declared.faults.Fault.{Fault}
-use Rattle.gcu_engine.specs.Asking.{Asking, an_input, asks, follows, ◌>>>◌}
+use Rattle.yang_scope.specs.declared.faults.Fault as models
+use Rattle.yang_model.specs.Answers.{AreModelsOf, IsLeastFaultOf}
+use Rattle.yang_model.specs.ModelSets.{ModelSet}
+use Rattle.gcu_engine.specs.Asking.{Asking, an_input, asks, follows, follows_by, ◌>>>◌}
 use Rattle.gcu_engine.specs.declared.outcomes.Outcome.{Outcome}
 use Rattle.gcu_engine.specs.declared.outcomes.Outcome.TheVariants.{NoInput, TooBig, BadModels}
 
@@ -91,3 +94,30 @@ texts_asked s =
     paths_asked s >>> λ paths.
     files_asked [] paths s >>> λ files.
     follows (texts_in [] files)
+
+-- no text has more statements than a file of models may have bytes
+abbrev pub AreSmall : List Text → Type 0
+AreSmall texts = All (λ t. total_weight t.1 ≤ model_limit) texts
+
+-- ---- the models
+
+-- the statements of some texts
+abbrev pub statements_of : List Text → List (List Declaration)
+statements_of texts = map (λ t. t.1) texts
+
+-- the fault of models, told with the path of its file
+pub record IsModelRefusal (texts : List Text) (e : Outcome) : Type 0 where
+  pub fault : models.Fault
+  pub least : IsLeastFaultOf (statements_of texts) fault
+  pub path : List ℕ
+  pub at : slice_get (map (λ t. t.0) texts) fault.file ≡ Some path
+  pub told : e ≡ BadModels path fault.line fault.why
+
+-- the models of some texts, or the least of their faults
+abbrev pub AreModels : List Text → Result ModelSet Outcome → Type 0
+AreModels texts (Ok models) = AreModelsOf (statements_of texts) models
+AreModels texts (Err e) = IsModelRefusal texts e
+
+-- the models that the list of files names
+abbrev pub models_asked : State → Asking ModelSet
+models_asked s = texts_asked s >>> λ texts. follows_by (AreModels texts)

@@ -2,7 +2,7 @@
 use Rattle.std.specs.Prelude.{◌≡◌, Option, Some, None, Result, Ok, Err, IfErr, IfSome, ⊤}
 use Rattle.host_core.specs.Counts.{Counts, Rose}
 use Rattle.host_core.specs.State.{State}
-use Rattle.gcu_engine.specs.Asking.{Asking, an_input, a_file}
+use Rattle.gcu_engine.specs.Asking.{Asking, an_input, a_file, follows_by}
 use Rattle.gcu_engine.specs.declared.outcomes.Outcome.{Outcome}
 use Rattle.gcu_engine.specs.declared.outcomes.Outcome.TheVariants.{Done, Memory, Usage, InputFault, DiskFault, PrintFault}
 
@@ -48,6 +48,11 @@ RefusesAlways InputFault = ⊥
 RefusesAlways (DiskFault step) = ⊥
 RefusesAlways (PrintFault step) = ⊥
 RefusesAlways other = ⊤
+
+-- the same of a relation that tells what is right
+abbrev pub IsRightBy : {X Y : Type 0} → (X → Y) → Result X Outcome
+    → (Result Y Outcome → Type 0) → Type 0
+IsRightBy view result Tells = IsGiven view result (follows_by Tells)
 
 -- what was found or refused is what is asked, and a fault stands at a call that is made
 pub record Found {X Y : Type 0} (view : X → Y) (result : Result X Outcome) (asking : Asking Y)

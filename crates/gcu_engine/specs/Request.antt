@@ -6,6 +6,8 @@ use Rattle.conf_doc.specs.declared.configuration.Config.{Config}
 pub data Request : Type 0 where
   -- print this configuration
   preview : Config → Request
+  -- nothing but to say that the stored configuration is valid
+  check : Request
   -- print these names of checkpoints
   list_checkpoints : List (List ℕ) → Request
   -- delete the checkpoint of this name

@@ -11,6 +11,8 @@ pub(crate) enum Form<'a> {
     Unknown,
     /// Prints the stored configuration as the patch of this input would leave it.
     Preview { patch: &'a Txt },
+    /// Says whether the stored configuration is valid.
+    Check,
     /// Prints the names of all checkpoints.
     ListCheckpoints,
     /// Deletes the checkpoint of this name.
@@ -32,6 +34,9 @@ pub(crate) fn read_form(words: &[Txt]) -> Form<'_>
 fn form_of_one(command: &Txt) -> Form<'_>
     ensures { form_view result ≡ form_of_one command.now }
 {
+    if command.as_str() == "check" {
+        return Form::Check;
+    }
     if command.as_str() == "list-checkpoints" {
         return Form::ListCheckpoints;
     }

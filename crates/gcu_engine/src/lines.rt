@@ -1,8 +1,9 @@
 //! The last line of each outcome.
 ghost use Rattle.std.specs.Prelude.{◌≡◌, ◌++◌, IfOk, codes, string_bytes, decimal};
-ghost use Rattle.gcu_engine.specs.Lines.{last_line, numbered_line as numbered, refused_line as refused, said as said_text, space, quoted as quoted_text, patch_why, fail_why, point_why, stored_why, model_why};
+ghost use Rattle.gcu_engine.specs.Lines.{last_line, numbered_line as numbered, refused_line as refused, said as said_text, space, quoted as quoted_text, patch_why, fail_why, point_why, stored_why, model_why, rule_name};
 
 use crate::{Outcome, PointWhy};
+use conf_check::Rule;
 use conf_store::StoredWhy;
 use patch_core::{FailWhy, PatchWhy};
 use serde_json::Value;
@@ -85,6 +86,15 @@ fn said(alloc: Global, outcome: &Outcome) -> Result<String, AllocError>
             let name = quoted(alloc, name.as_str())?;
             format!(in alloc; "bad name {name}")
         }
+        Outcome::CurrentInvalid { place, rule } => {
+            let place = quoted(alloc, place.as_str())?;
+            worded(
+                alloc,
+                "current invalid ",
+                place.as_str(),
+                rule_name_of(*rule),
+            )
+        }
         Outcome::BadStored { why } => {
             let why = stored_why_text(alloc, *why)?;
             format!(in alloc; "bad stored {why}")
@@ -98,6 +108,14 @@ fn numbered(alloc: Global, start: &str, index: usize, why: &str) -> Result<Strin
     ensures { IfOk result (λ s. string_bytes s ≡ start.now ++ decimal index ++ space ++ why.now) }
 {
     format!(in alloc; "{start}{index} {why}")
+}
+
+/// A text that ends with a place and a word.
+#[tactic(auto, using(std::proofs::Common::append_assoc))]
+fn worded(alloc: Global, start: &str, place: &str, word: &str) -> Result<String, AllocError>
+    ensures { IfOk result (λ s. string_bytes s ≡ start.now ++ place.now ++ space ++ word.now) }
+{
+    format!(in alloc; "{start}{place} {word}")
 }
 
 /// A text that ends with a place, a number and a word.
@@ -129,6 +147,21 @@ fn quoted(alloc: Global, text: &str) -> Result<String, AllocError>
     ensures { IfOk result (λ s. string_bytes s ≡ quoted_text text.now) }
 {
     Value::String(String::from_str(alloc, text)?).to_string(alloc)
+}
+
+fn rule_name_of(rule: Rule) -> &'static str
+    ensures { result.now ≡ rule_name rule }
+{
+    match rule {
+        Rule::KeyShape => "KeyShape",
+        Rule::KeyReference => "KeyReference",
+        Rule::UnknownField => "UnknownField",
+        Rule::WrongKind => "WrongKind",
+        Rule::BadValue => "BadValue",
+        Rule::DuplicateItem => "DuplicateItem",
+        Rule::MissingField => "MissingField",
+        Rule::Must => "Must",
+    }
 }
 
 fn model_why_name(why: ModelWhy) -> &'static str

@@ -1,11 +1,12 @@
 //! The texts of the models that the list of files names.
-ghost use Rattle.std.specs.Prelude.{◌≡◌, ◌≤◌, List, ℕ, IfErr, IfOk, All, length};
+ghost use Rattle.std.specs.Prelude.{◌≡◌, ◌≤◌, ◌+◌, List, ℕ, IfErr, IfOk, All, length};
 ghost use Rattle.host_core.specs.Answers.{Gives};
 ghost use Rattle.host_core.specs.Counts.{InputMayRise};
 ghost use Rattle.host_core.specs.Crashes.{Elapses, MayLeaveNow};
-ghost use Rattle.model_list.specs.Lists.{paths_of};
+ghost use Rattle.model_list.specs.Lists.{most_files, paths_of};
+ghost use Rattle.yang_text.specs.Declarations.{total_weight};
 ghost use Rattle.yang_text.specs.Reading.{reading};
-ghost use Rattle.gcu_engine.specs.ModelFiles.{paths_asked, files_asked, texts_in, texts_asked, text_answer, list_path, File, AreShort};
+ghost use Rattle.gcu_engine.specs.ModelFiles.{paths_asked, files_asked, texts_in, texts_asked, text_answer, list_path, File, AreShort, AreSmall};
 ghost use Rattle.gcu_engine.specs.Preparing.{Finds, Refuses, RefusesAlways, refusal};
 
 use crate::Outcome;
@@ -30,6 +31,8 @@ pub(crate) type Texts = Sequence<(Txt, Statements)>;
 /// The statements of all files that `models.list` names.
 pub(crate) fn input_texts<H: Host>(alloc: Global, host: &mut H) -> Result<Texts, Outcome>
     ensures answer { Finds (H.told host.old) (λ texts. texts) result texts_asked }
+    ensures small { IfOk result AreSmall }
+    ensures few { IfOk result (λ texts. length texts ≤ most_files) }
     ensures told { H.told host.new ≡ H.told host.old }
     ensures counts { InputMayRise (H.counts host.old) (H.counts host.new) }
     ensures cause { IfErr result (Refuses (H.counts host.old) (H.counts host.new)) }
@@ -44,6 +47,7 @@ pub(crate) fn input_texts<H: Host>(alloc: Global, host: &mut H) -> Result<Texts,
 /// The paths that `models.list` names.
 fn input_paths<H: Host>(alloc: Global, host: &mut H) -> Result<Names, Outcome>
     ensures answer { Finds (H.told host.old) (λ paths. paths) result paths_asked }
+    ensures few { IfOk result (λ paths. length paths ≤ most_files) }
     ensures told { H.told host.new ≡ H.told host.old }
     ensures counts { InputMayRise (H.counts host.old) (H.counts host.new) }
     ensures cause { IfErr result (Refuses (H.counts host.old) (H.counts host.new)) }
@@ -60,6 +64,7 @@ fn paths_in(alloc: Global, path: &Txt, bytes: &[u8]) -> Result<Names, Outcome>
     requires { length bytes.now ≤ 65536 }
     ensures answer { Gives (λ paths. paths) refusal result
         (text_answer path.now (paths_of bytes.now)) }
+    ensures few { IfOk result (λ paths. length paths ≤ most_files) }
     ensures cause { IfErr result RefusesAlways }
 {
     match read_list(alloc, bytes) {
@@ -84,6 +89,7 @@ fn input_files<H: Host>(
     ensures answer { Finds (H.told host.old) (λ files. files) result
         (files_asked found paths.now) }
     ensures short { IfOk result AreShort }
+    ensures many { IfOk result (λ files. length files ≡ length found + length paths.now) }
     ensures told { H.told host.new ≡ H.told host.old }
     ensures counts { InputMayRise (H.counts host.old) (H.counts host.new) }
     ensures cause { IfErr result (Refuses (H.counts host.old) (H.counts host.new)) }
@@ -102,8 +108,11 @@ fn input_files<H: Host>(
 
 /// The statements of some files in turn, behind those that were read before.
 fn texts_of(alloc: Global, mut read: Texts, files: &[(Txt, Sequence<u8>)]) -> Result<Texts, Outcome>
-    requires { AreShort files.now }
+    requires short { AreShort files.now }
+    requires small { AreSmall read }
     ensures answer { Gives (λ texts. texts) refusal result (texts_in read files.now) }
+    ensures small { IfOk result AreSmall }
+    ensures many { IfOk result (λ texts. length texts ≡ length read + length files.now) }
     ensures cause { IfErr result RefusesAlways }
 {
     match files {
@@ -121,6 +130,7 @@ fn statements_of(alloc: Global, path: &Txt, bytes: &[u8]) -> Result<Statements, 
     requires { length bytes.now ≤ 1048576 }
     ensures answer { Gives (λ ds. ds) refusal result
         (text_answer path.now (reading bytes.now)) }
+    ensures small { IfOk result (λ ds. total_weight ds ≤ 1048576) }
     ensures cause { IfErr result RefusesAlways }
 {
     match parse(alloc, bytes) {

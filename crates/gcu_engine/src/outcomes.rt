@@ -2,6 +2,7 @@
 ghost use Rattle.std.specs.Prelude.{◌≡◌};
 ghost use Rattle.gcu_engine.specs.Lines.{number};
 
+use conf_check::Rule;
 use conf_store::StoredWhy;
 use host_core::{Memory, Txt};
 use patch_core::{FailWhy, PatchWhy};
@@ -49,6 +50,8 @@ pub enum Outcome {
     NoCheckpoint { name: Txt, why: PointWhy },
     /// A name of a checkpoint has 1 to 64 ASCII letters, digits, `_` and `-`.
     BadName { name: Txt },
+    /// The stored configuration breaks this rule at this place, an RFC 6901 pointer.
+    CurrentInvalid { place: Txt, rule: Rule },
     /// The folder stands for no configuration.
     BadStored { why: StoredWhy },
 }
@@ -74,6 +77,7 @@ impl Outcome {
             Outcome::TargetShape { .. } => 15,
             Outcome::NoCheckpoint { .. } => 22,
             Outcome::BadName { .. } => 24,
+            Outcome::CurrentInvalid { .. } => 16,
             Outcome::BadStored { .. } => 25,
         }
     }

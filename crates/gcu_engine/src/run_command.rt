@@ -9,6 +9,7 @@ ghost use Rattle.gcu_engine.specs.Form.{form};
 ghost use Rattle.gcu_engine.specs.declared.outcomes.Outcome.TheVariants.{Usage as usage};
 
 use crate::Outcome;
+use crate::check::check;
 use crate::delete_checkpoint::delete_checkpoint;
 use crate::form::{Form, read_form};
 use crate::list_checkpoints::list_checkpoints;
@@ -18,7 +19,7 @@ use host_core::{Host, Txt};
 use std::alloc::Global;
 
 /// Does the command that the words are, and prints its answer. `preview PATCH` prints the stored
-/// configuration as the patch would leave it, `list-checkpoints` the names of all checkpoints, and
+/// configuration as the patch would leave it, `check` says whether it is valid, `list-checkpoints` the names of all checkpoints, and
 /// `delete-checkpoint NAME` deletes one.
 pub fn run<H: Host>(alloc: Global, words: &[Txt], host: &mut H) -> Outcome
     requires { longest_scoped_name ≤ H.longest_name }
@@ -49,6 +50,7 @@ pub fn run<H: Host>(alloc: Global, words: &[Txt], host: &mut H) -> Outcome
             Ok(tree) => show(alloc, &tree, host),
             Err(outcome) => say(alloc, outcome, host),
         },
+        Form::Check => check(alloc, host),
         Form::ListCheckpoints => list_checkpoints(alloc, host),
         Form::DeleteCheckpoint { name } => delete_checkpoint(alloc, name, host),
     }

@@ -4,14 +4,33 @@ ghost use Rattle.host_core.specs.Counts.{DiskMayRise};
 ghost use Rattle.host_core.specs.Crashes.{Elapses, MayLeaveNow};
 ghost use Rattle.host_core.specs.Names.{longest_scoped_name};
 ghost use Rattle.conf_doc.specs.Trees.{document};
+ghost use Rattle.gcu_engine.specs.StoredAsked.{stored_asked};
 ghost use Rattle.gcu_engine.specs.Preparing.{Finds, Refuses};
 ghost use Rattle.gcu_engine.specs.Trees.{stored_document};
 
 use crate::Outcome;
-use conf_doc::Tree;
-use conf_store::{LoadError, load_tree};
+use conf_doc::{Config, Tree};
+use conf_store::{LoadError, Stored, load, load_tree};
 use host_core::Host;
 use std::alloc::Global;
+
+/// Reads the configuration that the folder stands for.
+pub(crate) fn read_config<H: Host>(alloc: Global, host: &mut H) -> Result<Config, Outcome>
+    requires { longest_scoped_name ≤ H.longest_name }
+    ensures answer { Finds (H.told host.old) (λ c. c) result stored_asked }
+    ensures told { H.told host.new ≡ H.told host.old }
+    ensures counts { DiskMayRise (H.counts host.old) (H.counts host.new) }
+    ensures cause { IfErr result (Refuses (H.counts host.old) (H.counts host.new)) }
+    ensures time { Elapses H.moment H.left_since host.old host.new (MayLeaveNow (H.told host.old)) }
+    ensures goes { H.goes_on host.old host.new }
+{
+    match load(alloc, host) {
+        Ok(Stored { config, .. }) => Ok(config),
+        Err(LoadError::Bad(why)) => Err(Outcome::BadStored { why }),
+        Err(LoadError::Disk) => Err(Outcome::DiskFault { step: 0 }),
+        Err(LoadError::Memory) => Err(Outcome::Memory),
+    }
+}
 
 /// Reads the configuration that the folder stands for, as its tree.
 pub(crate) fn read_stored<H: Host>(alloc: Global, host: &mut H) -> Result<Tree, Outcome>

@@ -3,7 +3,7 @@ ghost use Rattle.std.specs.Prelude.{◌≡◌, ◌<◌, ◌≤◌, ◌^◌, [], 
 ghost use Rattle.std.specs.Str.Lines.{lines};
 ghost use Rattle.host_core.specs.Answers.{Gives};
 ghost use Rattle.yang_text.specs.Errors.{text_fault};
-ghost use Rattle.model_list.specs.Lists.{named_from, paths_within, paths_of};
+ghost use Rattle.model_list.specs.Lists.{most_files, named_from, paths_within, paths_of};
 
 use host_core::{Memory, Names, Txt};
 use std::alloc::Global;
@@ -16,8 +16,9 @@ const MOST_FILES: usize = 256;
 /// The paths on some lines.
 fn paths_on(alloc: Global, lines: &[&str]) -> Result<Names, TextError>
     requires few { length lines.now < 2 ^ 32 }
-    ensures { Gives (λ names. names) text_fault result
+    ensures paths { Gives (λ names. names) text_fault result
         (paths_within (named_from 1 (map (λ l. l.now) lines.now))) }
+    ensures few { IfOk result (λ names. length names ≤ most_files) }
 {
     let mut paths = Names::new(alloc);
     for (i, line) in lines.iter().enumerate() {
@@ -49,7 +50,8 @@ fn lines_of<'a>(alloc: Global, text: &'a str) -> Result<Vec<&'a str>, Memory>
 /// A list has at most 65,536 bytes.
 pub fn read_list(alloc: Global, bytes: &[u8]) -> Result<Names, TextError>
     requires { length bytes.now ≤ 65536 }
-    ensures { Gives (λ names. names) text_fault result (paths_of bytes.now) }
+    ensures paths { Gives (λ names. names) text_fault result (paths_of bytes.now) }
+    ensures few { IfOk result (λ names. length names ≤ most_files) }
 {
     match str::from_utf8(bytes) {
         Ok(text) => paths_on(alloc, &lines_of(alloc, text)?),

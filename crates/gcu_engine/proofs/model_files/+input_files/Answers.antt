@@ -2,7 +2,7 @@ use Rattle.std.proofs.Common.{ℕ, List, ◌≡◌, ◌≤◌, ◌-◌, [], ◌�
 use Rattle.std.proofs.lemmas.List.{take_all}
 use Rattle.gcu_engine.specs.ModelFiles.{files_asked}
 use Rattle.gcu_engine.specs.Preparing.{Finds}
-use Rattle.gcu_engine.proofs.Models.{file_read}
+use Rattle.gcu_engine.proofs.ModelTexts.{file_read}
 use Rattle.gcu_engine.proofs.model_files.+input_files.Goals as goal
 
 -- the first path and the others

@@ -1,5 +1,5 @@
 use Rattle.std.proofs.lemmas.Result.{err_from_is_err_and}
-use Rattle.gcu_engine.proofs.Models.{no_list, list_read}
+use Rattle.gcu_engine.proofs.ModelTexts.{no_list, list_read}
 use Rattle.gcu_engine.proofs.model_files.input_paths.Goals as goal
 
 pub returns-in_err-bytes-clause-answer : goal.returns-in_err-bytes-clause-answer

@@ -1,5 +1,5 @@
 use Rattle.std.proofs.lemmas.Result.{err_from_is_err_and}
-use Rattle.gcu_engine.proofs.Models.{no_files, texts_read}
+use Rattle.gcu_engine.proofs.ModelTexts.{no_files, texts_read}
 use Rattle.gcu_engine.proofs.model_files.input_texts.Goals as goal
 
 pub returns-in_err-files-clause-answer : goal.returns-in_err-files-clause-answer

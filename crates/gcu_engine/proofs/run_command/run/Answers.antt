@@ -1,6 +1,6 @@
 use Rattle.std.proofs.Common.{Some, sym, ◌++◌}
 use Rattle.conf_doc.specs.Trees.{document}
-use Rattle.gcu_engine.specs.Form.{list_checkpoints}
+use Rattle.gcu_engine.specs.Form.{check, list_checkpoints}
 use Rattle.gcu_engine.specs.Lines.{last_line}
 use Rattle.gcu_engine.specs.Printing.{text_in_lines}
 use Rattle.gcu_engine.proofs.Completing.{complete_by}
@@ -74,6 +74,20 @@ returns-in-Ok-clause-complete g c =
     c.in-Ok.tree c.show.result (sym c.in-Preview.ensures) c.show.ensures.said c.in-Ok.ensures.counts c.in-Ok.ensures.answer
 
 -- ---- commands in functions of their own
+
+pub returns-in-Check-clause-answers : goal.returns-in-Check-clause-answers
+returns-in-Check-clause-answers g c =
+    answers_by c.args.words.now (Some check) (g.H.Host.told c.args.host.now) (g.H.Host.told c.check.new.host) (g.H.Host.counts c.args.host.now) (g.H.Host.counts c.check.new.host) c.check.result
+    c.in-Check.ensures c.check.ensures.answers
+
+pub returns-in-Check-clause-crash : goal.returns-in-Check-clause-crash
+returns-in-Check-clause-crash g c =
+    leaves_by g.H.Host.moment g.H.Host.left_since c.args.words.now (Some check) c.args.host.now c.check.new.host (g.H.Host.told c.args.host.now) c.in-Check.ensures c.check.ensures.crash
+
+pub returns-in-Check-clause-complete : goal.returns-in-Check-clause-complete
+returns-in-Check-clause-complete g c =
+    complete_by c.args.words.now (Some check) (g.H.Host.told c.args.host.now) (g.H.Host.counts c.args.host.now) (g.H.Host.counts c.check.new.host) c.check.result
+    c.in-Check.ensures c.check.ensures.complete
 
 pub returns-in-ListCheckpoints-clause-answers : goal.returns-in-ListCheckpoints-clause-answers
 returns-in-ListCheckpoints-clause-answers g c =

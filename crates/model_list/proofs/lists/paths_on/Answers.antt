@@ -41,7 +41,7 @@ returns-then-len-eq-MOST_FILES c =
     sym (length-map front (λ (n : Named). n.1)) ∙ ap length (sym c.loop-i.invariant.0) ∙ sym c.len.ensures ∙ c.if-len-eq-MOST_FILES.true in
     let whole = go_on xs (i + 1)
     ∙ ap (λ named. named ++ rest) (with_path xs i c.loop-i-test.true (sym c.is_empty.ensures ∙ c.if-is_empty.false)) in
-    ap paths_within whole ∙ too_many front (i + 1, line) rest full
+    record { paths = ap paths_within whole ∙ too_many front (i + 1, line) rest full; few = tt }
 
 pub loop-i-preserved : goal.loop-i-preserved
 loop-i-preserved c =
@@ -68,5 +68,9 @@ returns c =
     let all = ap (λ ts. named_from 1 (texts ts)) (take_all c.loop-i.i xs c.loop-i-test.false) in
     let few = c.loop-i.invariant.1 in
     let same = c.loop-i.invariant.0 ∙ ap paths all in
-    within (named_from 1 (texts xs)) (subst (λ n. n ≤ 256) (ap length same ∙ length-map (named_from 1 (texts xs)) (λ (n : Named). n.1)) few)
-    ∙ ap Ok (sym same)
+    record {
+      paths =
+          within (named_from 1 (texts xs)) (subst (λ n. n ≤ 256) (ap length same ∙ length-map (named_from 1 (texts xs)) (λ (n : Named). n.1)) few)
+          ∙ ap Ok (sym same);
+      few = few;
+    }

@@ -33,13 +33,21 @@ paths_on-requires c =
 pub returns-in_ok-lines_of-in-Ok : goal.returns-in_ok-lines_of-in-Ok
 returns-in_ok-lines_of-in-Ok c =
     let found = ap (map (λ (l : Bor (List ℕ)). l.now)) c.deref.ensures.value ∙ c.in_ok-lines_of-in-Ok.ensures in
-    subst (λ (r : Result (List (List ℕ)) Fault). Gives (λ names. names) text_fault c.paths_on.result r)
-    (ap (λ ls. paths_within (named_from 1 ls)) (found ∙ ap lines c.in-Ok.ensures.cases.0)
-    ∙ utf8_paths c.args.bytes.now c.in-Ok.ensures.cases.1)
-    c.paths_on.ensures
+    record {
+      paths =
+          subst (λ (r : Result (List (List ℕ)) Fault). Gives (λ names. names) text_fault c.paths_on.result r)
+          (ap (λ ls. paths_within (named_from 1 ls)) (found ∙ ap lines c.in-Ok.ensures.cases.0)
+          ∙ utf8_paths c.args.bytes.now c.in-Ok.ensures.cases.1)
+          c.paths_on.ensures.paths;
+      few = c.paths_on.ensures.few;
+    }
 
 pub returns-in-Err : goal.returns-in-Err
 returns-in-Err c =
     let bs = c.args.bytes.now in
-    ap (λ b. if b then paths_within (named_in bs) else Err (fault_on NotUtf8 1))
-    (not_utf8 bs (is_utf8 bs) refl c.in-Err.ensures.cases.0)
+    record {
+      paths =
+          ap (λ b. if b then paths_within (named_in bs) else Err (fault_on NotUtf8 1))
+          (not_utf8 bs (is_utf8 bs) refl c.in-Err.ensures.cases.0);
+      few = tt;
+    }

@@ -1,0 +1,85 @@
+//! `gcu check`: whether the stored configuration is valid by its models.
+ghost use Rattle.std.specs.Prelude.{◌≡◌, ◌≤◌, IfErr};
+ghost use Rattle.host_core.specs.Counts.{NoneFell};
+ghost use Rattle.host_core.specs.Crashes.{Elapses, LeavesOnly, MayLeaveNow};
+ghost use Rattle.host_core.specs.Names.{longest_scoped_name};
+ghost use Rattle.conf_check.specs.Validity.{IsFirstViolation};
+ghost use Rattle.gcu_engine.specs.Answers.{HasCause};
+ghost use Rattle.gcu_engine.specs.Asking.{follows_by};
+ghost use Rattle.gcu_engine.specs.Checking.{IsJudged, check_asked};
+ghost use Rattle.gcu_engine.specs.Commands.{AnswersTo, CompleteTo, LeftTo};
+ghost use Rattle.gcu_engine.specs.Preparing.{FailsIn, Finds, IsRightBy, Refuses, RefusesAlways, refusal};
+ghost use Rattle.gcu_engine.specs.Request.{check as check_of};
+ghost use Rattle.gcu_engine.specs.declared.outcomes.Outcome.TheVariants.{Usage as usage};
+
+use crate::Outcome;
+use crate::models::input_models;
+use crate::printing::say;
+use crate::stored::read_config;
+use conf_check::{Violation, check as check_config};
+use conf_doc::Config;
+use host_core::Host;
+use std::alloc::Global;
+use violation_places::{place_of, rule_numbered};
+use yang_model::Models;
+
+/// Says whether the stored configuration is valid, or where it isn't.
+pub(crate) fn check<H: Host>(alloc: Global, host: &mut H) -> Outcome
+    requires { longest_scoped_name ≤ H.longest_name }
+    ensures answers { AnswersTo check_asked
+        (H.told host.old) (H.told host.new) (H.counts host.old) (H.counts host.new) result }
+    ensures cause { HasCause (H.counts host.old) (H.counts host.new) result }
+    ensures counts { NoneFell (H.counts host.old) (H.counts host.new) }
+    ensures crash { LeavesOnly H.moment H.left_since host.old host.new
+        (LeftTo check_asked (H.told host.old)) }
+    ensures goes { H.goes_on host.old host.new }
+    ensures form { result ≡ usage → ⊥ }
+    ensures complete { CompleteTo check_asked
+        (H.told host.old) (H.counts host.old) (H.counts host.new) result }
+{
+    match judge_stored(alloc, host) {
+        Ok(()) => say(alloc, Outcome::Done, host),
+        Err(outcome) => say(alloc, outcome, host),
+    }
+}
+
+/// Ok where the stored configuration is valid.
+fn judge_stored<H: Host>(alloc: Global, host: &mut H) -> Result<(), Outcome>
+    requires { longest_scoped_name ≤ H.longest_name }
+    ensures answer { Finds (H.told host.old) (λ _. check_of) result check_asked }
+    ensures told { H.told host.new ≡ H.told host.old }
+    ensures counts { NoneFell (H.counts host.old) (H.counts host.new) }
+    ensures cause { IfErr result (Refuses (H.counts host.old) (H.counts host.new)) }
+    ensures time { Elapses H.moment H.left_since host.old host.new (MayLeaveNow (H.told host.old)) }
+    ensures goes { H.goes_on host.old host.new }
+{
+    let models = input_models(alloc, host)?;
+    let config = read_config(alloc, host)?;
+    judge(alloc, &models, &config)
+}
+
+/// Ok where a configuration is valid.
+fn judge(alloc: Global, models: &Models, config: &Config) -> Result<(), Outcome>
+    ensures answer { IsRightBy (λ _. check_of) result (IsJudged models.now config.now) }
+    ensures cause { IfErr result RefusesAlways }
+{
+    match check_config(models, config) {
+        Ok(()) => Ok(()),
+        Err(violation) => Err(invalid(alloc, models, config, &violation)),
+    }
+}
+
+/// The refusal of a violation.
+fn invalid(alloc: Global, models: &Models, config: &Config, violation: &Violation) -> Outcome
+    requires { IsFirstViolation models.now config.now violation.now }
+    ensures answer { FailsIn (refusal result) (follows_by (IsJudged models.now config.now)) }
+    ensures cause { RefusesAlways result }
+{
+    match (
+        place_of(alloc, models, config, violation),
+        rule_numbered(violation.rule),
+    ) {
+        (Ok(place), Some(rule)) => Outcome::CurrentInvalid { place, rule },
+        _ => Outcome::Memory,
+    }
+}

@@ -1,0 +1,2 @@
+mod FieldNames
+mod RowNames
