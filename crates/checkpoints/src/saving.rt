@@ -45,6 +45,7 @@ pub fn save<H: Host>(
     ensures any_moment { IfSome (H.told host.old)
         (λ s. LeavesOnly H.moment H.left_since host.old host.new
         (AreLeft (IsSavedOrNot name.now config.now) s)) }
+    ensures later { H.moment host.old ≤ H.moment host.new }
     ensures counts { DiskMayRise (H.counts host.old) (H.counts host.new) }
     ensures cause { IsErrOf result disk_failed
         → Rose (H.counts host.old).disk (H.counts host.new).disk }

@@ -1,5 +1,5 @@
 -- The bytes that a configuration is written as hold it.
-use Rattle.std.proofs.Common.{◌≡◌, ℕ, List, Option, Some, None, Result, Ok, Err, ap, ◌∙◌}
+use Rattle.std.proofs.Common.{◌≡◌, ℕ, List, Some, None, Result, Ok, Err, ap, ◌∙◌}
 use Rattle.host_core.specs.Answers.{◌>>=◌}
 use Rattle.conf_doc.specs.Configuration.{tree}
 use Rattle.conf_doc.specs.Document.{Document}

@@ -21,6 +21,7 @@ pub(crate) fn remove_steps<H: Host>(host: &mut H, steps: &[Txt]) -> Result<(), F
     ensures err { OnErr result (Changes KeepsRest (H.told host.old) (H.told host.new)) }
     ensures any_moment { IfSome (H.told host.old)
         (λ s. LeavesOnly H.moment H.left_since host.old host.new (AreLeft KeepsRest s)) }
+    ensures later { H.moment host.old ≤ H.moment host.new }
     ensures counts { DiskMayRise (H.counts host.old) (H.counts host.new) }
     ensures cause { OnErr result (Rose (H.counts host.old).disk (H.counts host.new).disk) }
     ensures goes { H.goes_on host.old host.new }

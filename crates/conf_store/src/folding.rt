@@ -34,6 +34,7 @@ pub fn fold<H: Host>(host: &mut H, bytes: &[u8], stored: &Stored) -> Result<(), 
     // So they do at each moment.
     ensures any_moment { IfSome (H.told host.old)
         (λ s. LeavesOnly H.moment H.left_since host.old host.new (AreLeft KeepsStored s)) }
+    ensures later { H.moment host.old ≤ H.moment host.new }
     ensures counts { DiskMayRise (H.counts host.old) (H.counts host.new) }
     ensures cause { OnErr result (Rose (H.counts host.old).disk (H.counts host.new).disk) }
     ensures goes { H.goes_on host.old host.new }
@@ -54,6 +55,7 @@ fn begin_fold<H: Host>(host: &mut H, bytes: &[u8], stored: &Stored) -> Result<()
     ensures err { OnErr result (Changes KeepsStored (H.told host.old) (H.told host.new)) }
     ensures any_moment { IfSome (H.told host.old)
         (λ s. LeavesOnly H.moment H.left_since host.old host.new (AreLeft KeepsStored s)) }
+    ensures later { H.moment host.old ≤ H.moment host.new }
     ensures counts { DiskMayRise (H.counts host.old) (H.counts host.new) }
     ensures cause { OnErr result (Rose (H.counts host.old).disk (H.counts host.new).disk) }
     ensures goes { H.goes_on host.old host.new }

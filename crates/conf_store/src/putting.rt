@@ -26,6 +26,7 @@ pub fn put_file<H: Host>(host: &mut H, name: &str, bytes: &[u8]) -> Result<(), F
     ensures any_moment { IfSome (H.told host.old)
         (λ s. LeavesOnly H.moment H.left_since host.old host.new
         (AreLeft (IsPutOrNot name.now bytes.now) s)) }
+    ensures later { H.moment host.old ≤ H.moment host.new }
     ensures counts { DiskMayRise (H.counts host.old) (H.counts host.new) }
     ensures cause { OnErr result (Rose (H.counts host.old).disk (H.counts host.new).disk) }
     ensures goes { H.goes_on host.old host.new }

@@ -19,6 +19,7 @@ pub(crate) fn remove_file<H: Host>(host: &mut H, name: &str) -> Result<(), Faile
     ensures any_moment { IfSome (H.told host.old)
         (λ s. LeavesOnly H.moment H.left_since host.old host.new
         (AreLeft (IsDoneOrNot (with_file name.now None)) s)) }
+    ensures later { H.moment host.old ≤ H.moment host.new }
     ensures counts { DiskMayRise (H.counts host.old) (H.counts host.new) }
     ensures cause { OnErr result (Rose (H.counts host.old).disk (H.counts host.new).disk) }
     ensures goes { H.goes_on host.old host.new }
@@ -40,6 +41,7 @@ pub(crate) fn rename_file<H: Host>(host: &mut H, from: &str, to: &str) -> Result
     ensures any_moment { IfSome (H.told host.old)
         (λ s. LeavesOnly H.moment H.left_since host.old host.new
         (AreLeft (IsDoneOrNot (rename from.now to.now)) s)) }
+    ensures later { H.moment host.old ≤ H.moment host.new }
     ensures counts { DiskMayRise (H.counts host.old) (H.counts host.new) }
     ensures cause { OnErr result (Rose (H.counts host.old).disk (H.counts host.new).disk) }
     ensures goes { H.goes_on host.old host.new }

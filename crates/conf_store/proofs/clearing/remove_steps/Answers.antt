@@ -1,4 +1,4 @@
-use Rattle.std.proofs.Common.{◌∷◌, ◌+◌, drop, None, subst}
+use Rattle.std.proofs.Common.{◌∷◌, ◌+◌, arith, drop, None, subst}
 use Rattle.host_core.specs.State.{with_file}
 use Rattle.conf_store.specs.Changes.{Settles}
 use Rattle.conf_store.specs.Clearing.{IsClearing, IsDone, IsDoneOrNot, KeepsRest}
@@ -11,6 +11,7 @@ pub loop-name-init : goal.loop-name-init
 loop-name-init g c = record {
   told = at_first c.args.steps.now (g.H.Host.told c.args.host.now) c.requires.ready c.requires.steps;
   left = begins g.H.Host.moment g.H.Host.left_since KeepsRest rest_itself (g.H.Host.told c.args.host.now) c.requires.ready c.args.host.now (λ left since. g.met.H.Host.only_now c.args.host.now left since);
+  later = omega arith;
   counts = stays (g.H.Host.counts c.args.host.now);
   goes = g.met.H.Host.begins c.args.host.now;
 }
@@ -44,6 +45,7 @@ loop-name-preserved g c =
     record {
       told = settles_behind (IsClearing (c.as_str.result.now ∷ rest)) (IsDone (with_file c.as_str.result.now None)) (IsClearing rest) (g.H.Host.told c.args.host.now) (g.H.Host.told c.loop-name.host) (g.H.Host.told c.remove_file.new.host) (one_less c.as_str.result.now rest (g.H.Host.told c.args.host.now)) ends c.in_ok-remove_file.ensures.ok;
       left = joins g.H.Host.moment g.H.Host.left_since (IsClearing (c.as_str.result.now ∷ rest)) (IsDoneOrNot (with_file c.as_str.result.now None)) KeepsRest (g.H.Host.told c.args.host.now) (g.H.Host.told c.loop-name.host) (rest_meanwhile c.as_str.result.now rest (g.H.Host.told c.args.host.now)) ends c.args.host.now c.loop-name.host c.remove_file.new.host c.loop-name.invariant.left c.remove_file.ensures.any_moment;
+      later = omega (arith, c.loop-name.invariant.later, c.remove_file.ensures.later);
       counts = rises_on (g.H.Host.counts c.args.host.now) (g.H.Host.counts c.loop-name.host) (g.H.Host.counts c.remove_file.new.host) c.loop-name.invariant.counts c.remove_file.ensures.counts;
       goes = g.met.H.Host.continues c.args.host.now c.loop-name.host c.remove_file.new.host c.loop-name.invariant.goes c.remove_file.ensures.goes;
     }
