@@ -1,5 +1,5 @@
 -- Which texts a type accepts can be told.
-use Rattle.std.proofs.Common.{◌≡◌, ◌⊎◌, inl, inr, ℕ, zero, suc, ◌+◌, ◌≤◌, ◌<◌, Bool, true, false, List, [], ◌∷◌, ◌++◌, length, chars, codes, All, get_or, refl, sym, ap, ◌∙◌, subst, arith}
+use Rattle.std.proofs.Common.{◌≡◌, ◌⊎◌, inl, inr, ℕ, zero, suc, ◌+◌, ◌≤◌, Bool, true, false, List, [], ◌∷◌, ◌++◌, length, codes, refl, sym, ap, ◌∙◌, subst, arith}
 use Rattle.std.specs.Prelude.{ℤ, pos, neg_ℤ, ◌≤ℤ◌, slice_index}
 use Rattle.std.specs.Char.{IsAsciiHexdigit, digit_value}
 use Rattle.std.specs.Int.Signed.{le_z}
@@ -14,7 +14,7 @@ use Rattle.yang_types.specs.declared.types.Bounds.{Bounds}
 use Rattle.yang_types.specs.declared.types.Builtin.{Builtin}
 use Rattle.yang_types.specs.declared.types.Builtin.TheVariants.{Ipv4Address, Ipv6Address, IpAddress, Ipv4Prefix, Ipv6Prefix, IpPrefix, MacAddress}
 use Rattle.yang_types.specs.Characters.{plus, minus, dot, colon, slash, double_colon, zero_digit}
-use Rattle.yang_types.specs.Numbers.{IsDecimal, decimal, HasSign, IsNumber, IsWithin, IsWithinAny, IsNumberWithin, IsNumberWithinAny, IsPlainNumber}
+use Rattle.yang_types.specs.Numbers.{IsDecimal, decimal, HasSign, IsNumber, IsWithin, IsWithinAny, IsNumberWithin, IsPlainNumber}
 use Rattle.yang_types.specs.Addresses.{AreJoined, IsOctet, IsGroup, IsPair, IsIpv4Address, IsShortened, IsIpv6Address, IsIpv4Length, IsIpv6Length, IsPrefixOf, IsBuiltin}
 use Rattle.yang_types.specs.Accepts.{Accepts, AcceptsAny, char_count}
 use Rattle.yang_types.specs.DataType.{DataType, text, number, length_within, value_within, matching, one_of, truth, builtin, leafref, union, DataTypes, no_types, type_and}
@@ -120,9 +120,13 @@ module _ (P : List ℕ → Type 0) (told : (s : List ℕ) → Told (P s)) (c : �
       → (x : List ℕ) × (y : List ℕ) × (s ≡ x ++ y) × P x × Behind c (AreJoined P c (suc n)) y
   more_joined n s ([], count, are, e) = absurd (omega (arith, count))
   more_joined n s (x ∷ [], count, are, e) = absurd (omega (arith, count))
-  more_joined n s (x ∷ y ∷ xs, count, are, e) =
-      (x, c ∷ join_with_byte c (y ∷ xs), e, All-head P x (y ∷ xs) are,
-      (refl, (y ∷ xs, omega (arith, count), All-tail P x (y ∷ xs) are, refl)))
+  more_joined n s (x ∷ y ∷ xs, count, are, e) = (
+    x,
+    c ∷ join_with_byte c (y ∷ xs),
+    e,
+    All-head P x (y ∷ xs) are,
+    (refl, (y ∷ xs, omega (arith, count), All-tail P x (y ∷ xs) are, refl)),
+  )
 
   join_more : (n : ℕ) (s x y : List ℕ) → s ≡ x ++ y → P x → Behind c (AreJoined P c (suc n)) y → AreJoined P c (suc (suc n)) s
   join_more n s x y e p h = by (behind_is c (AreJoined P c (suc n)) y h)
@@ -173,7 +177,7 @@ shortened_told : (s : List ℕ) → Told (IsShortened s)
 shortened_told s =
     like (λ (m, below, (n, small, (few, sides))). sides_is m n s few sides)
     (λ (m, n, left, right, few, l, r, same).
-        (m, omega arith, (n, omega arith, (few, (left, double_colon ++ right, same, l, (refl, (refl, r)))))))
+    (m, omega arith, (n, omega arith, (few, (left, double_colon ++ right, same, l, (refl, (refl, r)))))))
     (up_to (Counts s) (counts_told s) 7)
 
 ipv6_told : (s : List ℕ) → Told (IsIpv6Address s)
