@@ -17,3 +17,5 @@ pub mod TokenLetters
 pub mod Nothing
 pub mod Merging
 pub mod Scanning
+pub mod Decisions
+pub mod Deciding

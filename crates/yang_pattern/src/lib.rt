@@ -7,6 +7,7 @@ mod errors;
 mod faults;
 mod fragments;
 mod frames;
+mod laws;
 mod letters;
 mod parts;
 mod patterns;
@@ -17,4 +18,5 @@ mod tokens;
 mod walks;
 
 pub use errors::PatternError;
+pub use laws::{matches_are_decided, patterns_are_decided};
 pub use patterns::Pattern;

@@ -4,3 +4,4 @@ pub mod PartLemmas
 pub mod Unions
 pub mod Prefixes
 pub mod Shortened
+pub mod Accepting

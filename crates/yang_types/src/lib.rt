@@ -3,8 +3,10 @@
 
 mod accepts;
 mod addresses;
+mod laws;
 mod numbers;
 mod types;
 
 pub use accepts::accepts_plain;
+pub use laws::texts_are_decided;
 pub use types::{Bounds, Builtin, Target, Ty, TyBox, Types};

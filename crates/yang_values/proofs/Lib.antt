@@ -11,3 +11,5 @@ pub mod Alike
 pub mod Taken
 pub mod Visits
 pub mod Without
+pub mod Ways
+pub mod Nested
