@@ -37,7 +37,7 @@ module _ (models : ModelSet) (config : Config) (t k : ℕ) (table : List ℕ × 
       (sym (at_table at ∙ ap (λ o. cond (is_some (table_named table.0 models)) (option_map (made_of table) o) None) (slice_get_past table.1 k past)) ∙ e)
 
   module _ (entry : List ℕ × Entry) (at : slice_get config t ≡ Some table) (at_key : slice_get table.1 k ≡ Some entry) where
-    at_entry : row_at models config t k ≡ row_if (is_some (table_named table.0 models)) (made_of table entry)
+    pub at_entry : row_at models config t k ≡ row_if (is_some (table_named table.0 models)) (made_of table entry)
     at_entry = at_table at ∙ ap (λ o. cond (is_some (table_named table.0 models)) (option_map (made_of table) o) None) at_key
 
     only : (b : Bool) (row r : Row) → row_if b row ≡ Some r → row ≡ r

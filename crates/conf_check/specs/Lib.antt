@@ -3,6 +3,7 @@ pub mod Acceptance
 pub mod Belongings
 pub mod ConfigTree
 pub mod FirstWants
+pub mod MustReads
 pub mod Rows
 pub mod Validity
 pub mod WantRuns
