@@ -118,7 +118,8 @@ fn next_taste<'a>(
     requires closed { AreClosed names.now (map place_of known.now) }
     ensures { IfOk result (λ taste. (is_pattern : List ℕ → Bool) → DecidesPatterns is_pattern
         → (most : ℕ) → AreRight is_pattern names.now text.now most (map known_of known.now)
-        → HasTaste text.now (type_within is_pattern names.now (most + 1) (placed place.entry)) taste) }
+        → HasTaste text.now
+        (type_within is_pattern names.now (most + 1) (placed place.entry)) taste) }
 {
     let places = next(alloc, names, place)?;
     let types = stand_ins(alloc, known, places.as_slice())?;
@@ -220,7 +221,8 @@ fn endless_taste<'a>(
     place: Place<'a>,
 ) -> Result<Taste, Memory>
     ensures { IfOk result (λ taste. (is_pattern : List ℕ → Bool) → DecidesPatterns is_pattern
-        → HasTaste text.now (type_within is_pattern names.now most_steps (placed place.entry)) taste) }
+        → HasTaste text.now
+        (type_within is_pattern names.now most_steps (placed place.entry)) taste) }
 {
     let places = reached(alloc, names, place)?;
     let known = begin(alloc, place, places.as_slice())?;
