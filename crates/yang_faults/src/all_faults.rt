@@ -75,8 +75,7 @@ fn count_all(files: &[(Txt, Statements)]) -> u64 {
     count
 }
 
-/// What is wrong with the modules and all that stands in them. Where types go round in a circle, the
-/// answer is Memory.
+/// What is wrong with the modules and all that stands in them.
 pub fn note_module_faults(
     alloc: Global,
     least: &mut Option<Fault>,

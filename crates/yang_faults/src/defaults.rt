@@ -14,9 +14,9 @@ use host_core::Memory;
 use std::alloc::Global;
 use yang_scope::Fault;
 use yang_text::Statement;
-use yang_values::{does_end, note_bad_default, type_value};
+use yang_values::note_default;
 
-/// A default, by the type statement beside it. Where that leads to a circle, the answer is Memory.
+/// A default, by the type statement beside it.
 fn note_default_of(
     alloc: Global,
     least: &mut Option<Fault>,
@@ -29,11 +29,16 @@ fn note_default_of(
         (Some (declaration default.now))
         (Some (declaration ty.now)))) }
 {
-    if !does_end(alloc, scope.names, scope.most, scope.number, ty)? {
-        return Err(Memory);
-    }
-    let value = type_value(alloc, scope.names, scope.number, ty)?;
-    note_bad_default(least, &value, scope.file, default);
+    note_default(
+        alloc,
+        least,
+        scope.names,
+        scope.most,
+        scope.file,
+        scope.number,
+        ty,
+        default,
+    )?;
     Ok(())
 }
 

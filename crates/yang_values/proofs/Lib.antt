@@ -13,3 +13,4 @@ pub mod Visits
 pub mod Without
 pub mod Ways
 pub mod Nested
+pub mod Tastes

@@ -10,5 +10,6 @@ pub mod TypeValues
 pub mod Values
 -- What only private clauses cite.
 pub mod Endings
+pub mod Endless
 pub mod Sameness
 pub mod Walks

@@ -15,7 +15,7 @@ use yang_scope::{Base, Fault, Names, note};
 use yang_text::{ModelWhy, Statement};
 
 /// Whether two type statements are one.
-fn is_same(one: &Place, other: &Place) -> bool
+pub(crate) fn is_same(one: &Place, other: &Place) -> bool
     ensures { IsTrue result ↔ (placed one.now ≡ placed other.now) }
 {
     one.number == other.number && same_declaration(one.statement, other.statement)
@@ -56,7 +56,11 @@ fn push_new<'a>(places: &mut Vec<Place<'a>>, others: &[Place<'a>]) -> Result<(),
 }
 
 /// All that a type statement leads to.
-fn reached<'a>(alloc: Global, names: &Names<'a>, place: Place<'a>) -> Result<Vec<Place<'a>>, Memory>
+pub(crate) fn reached<'a>(
+    alloc: Global,
+    names: &Names<'a>,
+    place: Place<'a>,
+) -> Result<Vec<Place<'a>>, Memory>
     ensures { IfOk result
         (λ places. AreReached names.now (placed place.entry) (map placed places.items)) }
 {

@@ -12,7 +12,7 @@ use yang_types::{Ty, Types, accepts_plain};
 
 /// Whether a type is a leafref or holds one.
 #[cycle(holding)]
-fn has_leafref(ty: &Ty) -> bool
+pub(crate) fn has_leafref(ty: &Ty) -> bool
     ensures { result ≡ has_leafref (data_type ty.now) }
 {
     match ty {
@@ -62,7 +62,7 @@ fn note_bad_text(least: &mut Option<Fault>, ty: &Ty, file: u32, statement: &Stat
 
 /// A default that its type doesn't take: one that it refuses, or any where it holds a leafref. It takes
 /// no memory.
-pub fn note_bad_default(least: &mut Option<Fault>, ty: &Ty, file: u32, statement: &Statement)
+pub(crate) fn note_bad_default(least: &mut Option<Fault>, ty: &Ty, file: u32, statement: &Statement)
     ensures { (accepts : DataType → List ℕ → Bool) → DecidesTexts accepts
         → least.new ≡ least_of least.old
         (bad_default accepts file (data_type ty.now) (declaration statement.now)) }

@@ -52,7 +52,7 @@ fn leads_on(base: Option<Base>) -> bool
 
 /// Whether it is found that a type statement leads to no circle, where no way on from it is as long as
 /// `most` steps. True always where the typedefs end at a text, a number or the like.
-pub fn does_end<'a>(
+pub(crate) fn does_end<'a>(
     alloc: Global,
     names: &Names<'a>,
     most: u64,

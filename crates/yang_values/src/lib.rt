@@ -6,6 +6,7 @@ mod bound_faults;
 mod circles;
 mod defaults;
 mod endings;
+mod endless;
 mod laws;
 mod named_types;
 mod numbers;
@@ -19,7 +20,7 @@ mod values;
 mod walks;
 
 pub use bound_faults::note_bad_bounds;
-pub use defaults::note_bad_default;
-pub use endings::{does_end, note_if_circle};
+pub use endings::note_if_circle;
+pub use endless::note_default;
 pub use laws::circles_are_decided;
 pub use type_values::type_value;
