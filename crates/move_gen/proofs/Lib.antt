@@ -1,0 +1,9 @@
+pub mod Appended
+pub mod FieldMoves
+pub mod KeyMoves
+pub mod Named
+pub mod OfKinds
+pub mod Owned
+pub mod Parted
+pub mod TableMoves
+pub mod Walks

@@ -1,0 +1,5 @@
+-- what only private clauses cite
+pub mod Adding
+pub mod EntryLaws
+pub mod Given
+pub mod Giving
