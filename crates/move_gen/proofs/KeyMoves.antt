@@ -1,16 +1,14 @@
 -- What is given for the entries of one configuration and of the other is what the second generator gives.
-use Rattle.std.proofs.Common.{◌≡◌, ◌↔◌, ◌⊎◌, ℕ, Bool, true, false, List, [], ◌∷◌, length, inl, inr, refl, sym, ap, ◌∙◌, subst, arith, cond}
-use Rattle.std.specs.Prelude.{Some, None, option_map, is_some, IsSome}
+use Rattle.std.proofs.Common.{◌≡◌, ◌↔◌, ◌⊎◌, ℕ, Bool, true, false, [], ◌∷◌, inl, inr, refl, sym, ap, ◌∙◌, subst, arith, cond}
+use Rattle.std.specs.Prelude.{is_some, IsSome}
 use Rattle.conf_doc.specs.Pairs.{find}
 use Rattle.conf_doc.specs.declared.configuration.Config.{Config}
-use Rattle.conf_doc.specs.declared.configuration.Entry.{Entry}
 use Rattle.conf_doc.specs.declared.parts.Part.TheVariants as part
 use Rattle.move_core.specs.Generated.{AddsEntry, IsForItsPlace, IsFromKeys, IsKeyRemove, IsWhole, SaysOfEntry, added_entry, key_class}
-use Rattle.move_core.specs.Moves.{Lacks}
 use Rattle.move_core.specs.declared.moves.Generated.{Generated}
 use Rattle.move_core.specs.declared.moves.Move.{Move}
 use Rattle.move_core.specs.declared.moves.Move.TheVariants.{Add, Remove, Replace}
-use Rattle.move_gen.specs.Given.{IsAddedEntry, IsOfTable, IsRemovedEntry, for, own}
+use Rattle.move_gen.specs.Given.{IsAddedEntry, IsOfTable, IsRemovedEntry, own}
 use Rattle.move_gen.specs.Giving.{IsOfSome}
 use Rattle.move_gen.proofs.Owned.{apart_add, of_its_place, owned}
 use Rattle.move_gen.proofs.Parted.{entry_there, some_there, there_entry}
@@ -34,21 +32,20 @@ module _ (IsAs : SaysOfEntry) (class : ℕ) (cur goal : Config) where
       }
 
   adds_back : (g : Generated) → IsOfSome (IsOfTable (IsAddedEntry IsAs class cur)) goal g → AddsEntry IsAs cur goal g × (g.class ≡ class)
-  adds_back g h =
-      (
-        record {
-          table = h.name;
-          key = h.is.name;
-          entry = h.is.part;
-          new = h.is.is.new;
-          lacks = h.is.is.lacks;
-          there = there_entry goal h.name h.is.name h.is.part (record { table = h.part; there = h.there; is = h.is.there });
-          alike = h.is.is.alike;
-          move = ap (λ (x : Generated). x.mv) h.is.is.is;
-          for = ap (λ (x : Generated). x.place) h.is.is.is;
-        },
-        ap (λ (x : Generated). x.class) h.is.is.is,
-      )
+  adds_back g h = (
+    record {
+      table = h.name;
+      key = h.is.name;
+      entry = h.is.part;
+      new = h.is.is.new;
+      lacks = h.is.is.lacks;
+      there = there_entry goal h.name h.is.name h.is.part (record { table = h.part; there = h.there; is = h.is.there });
+      alike = h.is.is.alike;
+      move = ap (λ (x : Generated). x.mv) h.is.is.is;
+      for = ap (λ (x : Generated). x.place) h.is.is.is;
+    },
+    ap (λ (x : Generated). x.class) h.is.is.is,
+  )
 
   pub adds_entries : (g : Generated) → (AddsEntry IsAs cur goal g × (g.class ≡ class)) ↔ IsOfSome (IsOfTable (IsAddedEntry IsAs class cur)) goal g
   adds_entries g = (λ h. adds_forth g h.0 h.1, adds_back g)

@@ -1,5 +1,5 @@
 -- Moves for their own place, and what options of parts say.
-use Rattle.std.proofs.Common.{◌≡◌, ℕ, List, Bool, true, false, refl, sym, ap, ◌∙◌, subst, true≢false}
+use Rattle.std.proofs.Common.{◌≡◌, ℕ, Bool, true, false, refl, sym, ap, ◌∙◌, subst, true≢false}
 use Rattle.std.specs.Prelude.{Option, Some, None, option_map, IsSome}
 use Rattle.conf_doc.specs.declared.parts.Part.{Part}
 use Rattle.move_core.specs.Generated.{IsForItsPlace}
