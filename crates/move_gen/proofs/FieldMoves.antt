@@ -1,13 +1,13 @@
 -- What is given for the fields of the entries that both have is what the third generator gives.
-use Rattle.std.proofs.Common.{◌≡◌, ◌≢◌, ◌↔◌, ℕ, List, [], ◌∷◌, inl, inr, refl, sym, ap, ◌∙◌, subst, arith}
-use Rattle.std.specs.Prelude.{Some, IsSome}
+use Rattle.std.proofs.Common.{◌≡◌, ◌≢◌, ◌↔◌, ◌⊎◌, ℕ, List, [], ◌∷◌, length, inl, inr, refl, sym, ap, ◌∙◌, subst, arith}
+use Rattle.std.specs.Prelude.{Some, None, option_map, IsSome}
 use Rattle.conf_doc.specs.Changes.{part_at, HasPlace}
 use Rattle.conf_doc.specs.Pairs.{find}
 use Rattle.conf_doc.specs.declared.configuration.Config.{Config}
 use Rattle.conf_doc.specs.declared.configuration.Entry.{Entry}
 use Rattle.conf_doc.specs.declared.configuration.Value.{Value}
 use Rattle.conf_doc.specs.declared.parts.Part.TheVariants as part
-use Rattle.move_core.specs.Generated.{IsFieldMove, IsFromFields, field_class}
+use Rattle.move_core.specs.Generated.{IsFieldMove, IsForItsPlace, IsFromFields, field_class}
 use Rattle.move_core.specs.declared.moves.Generated.{Generated}
 use Rattle.move_core.specs.declared.moves.Move.{Move}
 use Rattle.move_core.specs.declared.moves.Move.TheVariants.{Add, Remove, Replace}
@@ -23,7 +23,6 @@ fields_apart t k old new g h s = by s.is
   where
     gone : g.mv ≡ Remove (t ∷ k ∷ h.name ∷ [])
     gone = ap (λ (x : Generated). x.mv) h.is.1
-
     by : IsSetField t k old s.name s.part g → ⊥
     by (inl is) = apart_add _ _ _ (sym gone ∙ ap (λ (x : Generated). x.mv) is.1)
     by (inr is) = apart_replace _ _ _ (sym gone ∙ ap (λ (x : Generated). x.mv) is.2.1)
@@ -100,12 +99,9 @@ module _ (cur goal : Config) where
       owned (IsFieldMove cur goal) (Add (t ∷ k ∷ f ∷ []) (part.Value v)) field_class g is.1
       (refl, some_part cur t k old before, lacks_value cur t k f old before is.0, there_value goal t k f new v after there)
   set_back t k old new f v g before after there (inr is) =
-      owned (IsFieldMove cur goal) (Replace (t ∷ k ∷ f ∷ []) (part.Value v)) field_class g is.2.1 (
-        refl,
-        some_field cur t k f old is.0 before is.1,
-        there_value goal t k f new v after there,
-        λ same. is.2.0 (same_value is.0 v (sym (there_value cur t k f old is.0 before is.1) ∙ same)),
-      )
+      owned (IsFieldMove cur goal) (Replace (t ∷ k ∷ f ∷ []) (part.Value v)) field_class g is.2.1
+      (refl, some_field cur t k f old is.0 before is.1, there_value goal t k f new v after there,
+      λ same. is.2.0 (same_value is.0 v (sym (there_value cur t k f old is.0 before is.1) ∙ same)))
 
   fields_back : (t k : List ℕ) (old new : Entry) (g : Generated) → IsEntryAt cur t k old → IsEntryAt goal t k new → IsOfFields t k old new g → IsFromFields cur goal g
   fields_back t k old new g before after (inl h) =

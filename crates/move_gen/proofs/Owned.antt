@@ -1,5 +1,5 @@
 -- Moves for their own place, and what options of parts say.
-use Rattle.std.proofs.Common.{◌≡◌, ℕ, Bool, true, false, refl, sym, ap, ◌∙◌, subst, true≢false}
+use Rattle.std.proofs.Common.{◌≡◌, ◌↔◌, IsTrue, ℕ, List, Bool, true, false, refl, sym, ap, ◌∙◌, subst, true≢false}
 use Rattle.std.specs.Prelude.{Option, Some, None, option_map, IsSome}
 use Rattle.conf_doc.specs.declared.parts.Part.{Part}
 use Rattle.move_core.specs.Generated.{IsForItsPlace}
@@ -53,3 +53,8 @@ module _ {A B : Type 0} (f : A → B) where
     where
       same_Some : {C : Type 0} (x y : C) → Some x ≡ Some y → x ≡ y
       same_Some x y e = cc
+
+-- nothing is there
+pub lacking : {A : Type 0} (o : Option A) (b : Bool) → b ≡ false → IsTrue b ↔ IsSome o → o ≡ None
+lacking None b isnt says = refl
+lacking (Some a) b isnt says = absurd (true≢false (sym (says.1 refl) ∙ isnt))

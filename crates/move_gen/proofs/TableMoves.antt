@@ -1,9 +1,11 @@
 -- What is given for the tables of one configuration and of the other is what the first generator gives.
-use Rattle.std.proofs.Common.{◌≡◌, ◌↔◌, ◌⊎◌, [], ◌∷◌, inl, inr, refl, sym, ap, ◌∙◌, arith}
-use Rattle.std.specs.Prelude.{option_map}
+use Rattle.std.proofs.Common.{◌≡◌, ◌↔◌, ◌⊎◌, ℕ, List, [], ◌∷◌, length, inl, inr, refl, sym, ap, ◌∙◌, subst, arith}
+use Rattle.std.specs.Prelude.{Some, None, option_map}
 use Rattle.conf_doc.specs.declared.configuration.Config.{Config}
+use Rattle.conf_doc.specs.declared.configuration.Table.{Table}
 use Rattle.conf_doc.specs.declared.parts.Part.TheVariants as part
 use Rattle.move_core.specs.Generated.{IsFromTables, IsTableMove, table_class}
+use Rattle.move_core.specs.Moves.{Lacks}
 use Rattle.move_core.specs.declared.moves.Generated.{Generated}
 use Rattle.move_core.specs.declared.moves.Move.{Move}
 use Rattle.move_core.specs.declared.moves.Move.TheVariants.{Add, Remove, Replace}

@@ -1,8 +1,10 @@
 -- Walks over pairs whose names rise, that give for each pair what is as P says.
-use Rattle.std.proofs.Common.{◌≡◌, ◌↔◌, ◌⊎◌, ℕ, zero, suc, ◌+◌, ◌<◌, ◌≤◌, List, [], ◌∷◌, true, false, cond, map, length, slice_get, Option, Some, Result, Ordering, Less, Equal, Greater, is_eq, not, ◌==◌, inl, inr, refl, sym, ap, ◌∙◌, subst, arith}
+use Rattle.std.proofs.Common.{◌≡◌, ◌↔◌, ◌⊎◌, ℕ, zero, suc, ◌+◌, ◌<◌, ◌≤◌, List, [], ◌∷◌, true, false, cond, map, length, slice_get, Option, Some, Result, Ok, Err, Ordering, Less, Equal, Greater, is_eq, not, ◌==◌, inl, inr, refl, sym, ap, ◌∙◌, subst, arith}
+use Rattle.std.specs.Cmp.Lexicographic.{nat_list_cmp_total}
 use Rattle.std.specs.Ordering.{eq_by_cmp}
 use Rattle.std.specs.Result.{IsErr}
 use Rattle.std.proofs.lemmas.Bool.{and_parts, cases_lt}
+use Rattle.std.proofs.lemmas.Cmp.{tied_itself}
 use Rattle.host_core.specs.Names.{name_cmp}
 use Rattle.move_core.specs.Appends.{Appends, AppendsSome}
 use Rattle.conf_doc.specs.Pairs.{AreNamed, IsRising, find}
@@ -18,6 +20,13 @@ ordered_equal Less e = cc
 ordered_equal Equal e = refl
 ordered_equal Greater e = cc
 
+-- names that compare equal are one
+pub same_by : (a b : List ℕ) → eq_by_cmp name_cmp a b ≡ true → a ≡ b
+same_by a b e = same_name a b (ordered_equal (name_cmp a b) e)
+
+pub itself : (a b : List ℕ) → a ≡ b → eq_by_cmp name_cmp a b ≡ true
+itself a b e = ap (eq_by_cmp name_cmp a) (sym e) ∙ ap is_eq (tied_itself nat_list_cmp_total a)
+
 -- a pair that is found stands somewhere
 place_of : {A : Type 0} (ps : List (List ℕ × A)) (name : List ℕ) (a : A) → find name ps ≡ Some a
     → (i : ℕ) × (i < length ps) × (slice_get (map (λ p. p.0) ps) i ≡ Some name) × (slice_get (map (λ p. p.1) ps) i ≡ Some a)
@@ -25,7 +34,7 @@ place_of [] name a there = cc
 place_of {A} (p ∷ ps) name a there =
     elim (eq_by_cmp name_cmp name p.0) as (λ b. eq_by_cmp name_cmp name p.0 ≡ b → cond b (Some p.1) (find name ps) ≡ Some a
     → (i : ℕ) × (i < length (p ∷ ps)) × (slice_get (map (λ (q : List ℕ × A). q.0) (p ∷ ps)) i ≡ Some name) × (slice_get (map (λ (q : List ℕ × A). q.1) (p ∷ ps)) i ≡ Some a)) [
-      | true ↦ λ e is. (0, omega arith, ap Some (sym (same_name name p.0 (ordered_equal (name_cmp name p.0) e))), is)
+      | true ↦ λ e is. (0, omega arith, ap Some (sym (same_by name p.0 e)), is)
       | false ↦ λ e is. let rest = place_of ps name a is in (suc rest.0, omega (arith, rest.1), rest.2, rest.3)
     ] refl there
 
@@ -50,7 +59,6 @@ module _ {A B : Type 0} (P : Giver A B) (ps : List (List ℕ × A)) where
                 let part : h.part ≡ a = same_Some _ _ (sym h.there ∙ ap (slice_get (map (λ p. p.1) ps)) at ∙ there) in
                 inr (subst (λ m. P m a b) name (subst (λ x. P h.name x b) part h.is))
           ]
-
       back : IsOfFirst P ps i b ⊎ P n a b → IsOfFirst P ps (i + 1) b
       back (inl h) = let below = h.before in record { index = h.index; before = omega (arith, below); name = h.name; named = h.named; part = h.part; there = h.there; is = h.is }
       back (inr p) = record { index = i; before = omega arith; name = n; named = named; part = a; there = there; is = p }

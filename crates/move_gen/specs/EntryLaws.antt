@@ -1,6 +1,6 @@
 -- What is given for an entry is for a place of its table and its key.
 use Rattle.std.proofs.Common.{ap, inl, inr}
-use Rattle.std.specs.Prelude.{◌≡◌, ℕ, List, slice_get, Some}
+use Rattle.std.specs.Prelude.{◌≡◌, ◌⊎◌, ℕ, List, slice_get, Some}
 use Rattle.conf_doc.specs.declared.configuration.Config.{Config}
 use Rattle.conf_doc.specs.declared.configuration.Entry.{Entry}
 use Rattle.move_core.specs.Generated.{SaysOfEntry}

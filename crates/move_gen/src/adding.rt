@@ -7,32 +7,36 @@ ghost use Rattle.move_gen.specs.Given.{IsAddedEntry};
 ghost use Rattle.move_gen.specs.Giving.{Gives};
 
 use crate::entries::EntryMoves;
-use crate::giving::{KEY_CLASS, give};
+use crate::giving::{KEY_CLASS, SEED_CLASS, give};
 use crate::places::has_entry;
+use crate::seeds::seed_of;
 use conf_doc::{Config, Entry, Part, Path, Table};
 use host_core::Memory;
-use move_core::{Generated, Move};
+use move_core::{Ctx, Generated, Move};
 use std::alloc::Global;
 
 /// Which fields of goal's entry an added one has.
 #[derive(Drop)]
-pub(crate) enum Fields {
+pub(crate) enum Fields<'a> {
     All,
+    /// Those without a want in goal.
+    Seed { ctx: &'a Ctx, goal: &'a Config },
 }
 
-impl Fields {
+impl<'a> Fields<'a> {
     /// The entry with those fields.
     fn choose(
         &self,
         alloc: Global,
-        _table: &str,
-        _key: &str,
+        table: &str,
+        key: &str,
         entry: &Entry,
     ) -> Result<Entry, Memory>
-        ensures { IfOk result (IsAs self.now _table.now _key.now entry.now) }
+        ensures { IfOk result (IsAs self.now table.now key.now entry.now) }
     {
         match self {
             Fields::All => entry.copy(alloc),
+            Fields::Seed { ctx, goal } => seed_of(alloc, ctx, goal, table, key, entry),
         }
     }
 
@@ -42,6 +46,7 @@ impl Fields {
     {
         match self {
             Fields::All => KEY_CLASS,
+            Fields::Seed { .. } => SEED_CLASS,
         }
     }
 }
@@ -50,7 +55,7 @@ impl Fields {
 #[derive(Drop)]
 pub(crate) struct AddedEntries<'a> {
     pub(crate) cur: &'a Config,
-    pub(crate) fields: Fields,
+    pub(crate) fields: Fields<'a>,
 }
 
 impl<'a> EntryMoves for AddedEntries<'a> {

@@ -21,7 +21,12 @@ pub(crate) const FIELD_CLASS: u8 = 2;
 pub(crate) const SEED_CLASS: u8 = 3;
 
 /// Puts a move for a place.
-pub(crate) fn give(mv: Move, place: Path, class: u8, out: &mut Vec<Generated>) -> Result<(), Memory>
+pub(crate) fn give(
+    mv: Move,
+    place: Path,
+    class: u8,
+    out: &mut Vec<Generated>,
+) -> Result<(), Memory>
     ensures { Gives (λ g. g ≡ for mv place class) result out.old.items out.new.items }
 {
     out.push(Generated { mv, place, class })?;
