@@ -1,5 +1,5 @@
 -- A seed is made field by field, and there is one; so there is one entry that is added.
-use Rattle.std.proofs.Common.{◌≡◌, ◌↔◌, ◌≢◌, ◌⊎◌, ◌≤◌, ℕ, ◌+◌, List, [], ◌∷◌, length, map, slice_get, true, false, cond, Some, inl, inr, refl, sym, ap, ◌∙◌, subst}
+use Rattle.std.proofs.Common.{◌≡◌, ◌↔◌, ◌⊎◌, ◌≤◌, ℕ, ◌+◌, List, [], ◌∷◌, length, map, slice_get, true, false, cond, Some, inl, inr, refl, sym, ap, ◌∙◌, subst}
 use Rattle.std.specs.FinMap.Entries.{find-put}
 use Rattle.std.specs.Ordering.{eq_by_cmp}
 use Rattle.std.specs.Cmp.Lexicographic.{nat_list_cmp_total}
@@ -79,8 +79,10 @@ seed_ends book goal t k e rising i end seed h = record { rising = h.rising; fiel
   where
     all : (f : List ℕ) (v : Value) → IsOfFirst IsPair e i (f, v) ↔ IsOfSome IsPair e (f, v)
     all f v = first_all IsPair e i rising end (f, v)
+
     field_of : (f : List ℕ) (v : Value) → IsOfSome IsPair e (f, v) → find f e ≡ Some v
     field_of f v h = ap (λ (q : List ℕ × Value). find q.0 e) h.is ∙ h.there ∙ ap (λ (q : List ℕ × Value). Some q.1) (sym h.is)
+
     of_field : (f : List ℕ) (v : Value) → find f e ≡ Some v → IsOfSome IsPair e (f, v)
     of_field f v is = record { name = f; part = v; there = is; is = refl }
 

@@ -1,17 +1,17 @@
 -- What is given for the fields of the entries that both have is what the third generator gives.
-use Rattle.std.proofs.Common.{◌≡◌, ◌≢◌, ◌↔◌, ◌⊎◌, ℕ, List, [], ◌∷◌, length, inl, inr, refl, sym, ap, ◌∙◌, subst, arith}
-use Rattle.std.specs.Prelude.{Some, None, option_map, IsSome}
+use Rattle.std.proofs.Common.{◌≡◌, ◌≢◌, ◌↔◌, ℕ, List, [], ◌∷◌, inl, inr, refl, sym, ap, ◌∙◌, subst, arith}
+use Rattle.std.specs.Prelude.{Some, IsSome}
 use Rattle.conf_doc.specs.Changes.{part_at, HasPlace}
 use Rattle.conf_doc.specs.Pairs.{find}
 use Rattle.conf_doc.specs.declared.configuration.Config.{Config}
 use Rattle.conf_doc.specs.declared.configuration.Entry.{Entry}
 use Rattle.conf_doc.specs.declared.configuration.Value.{Value}
 use Rattle.conf_doc.specs.declared.parts.Part.TheVariants as part
-use Rattle.move_core.specs.Generated.{IsFieldMove, IsForItsPlace, IsFromFields, field_class}
+use Rattle.move_core.specs.Generated.{IsFieldMove, IsFromFields, field_class}
 use Rattle.move_core.specs.declared.moves.Generated.{Generated}
 use Rattle.move_core.specs.declared.moves.Move.{Move}
 use Rattle.move_core.specs.declared.moves.Move.TheVariants.{Add, Remove, Replace}
-use Rattle.move_gen.specs.Given.{IsChangedEntry, IsOfFields, IsOfTable, IsRemovedField, IsSetField, own}
+use Rattle.move_gen.specs.Given.{IsChangedEntry, IsOfFields, IsOfTable, IsRemovedField, IsSetField, own_move}
 use Rattle.move_gen.specs.Giving.{IsOfSome}
 use Rattle.move_gen.proofs.Owned.{apart_add, apart_replace, of_its_place, owned}
 use Rattle.move_gen.proofs.Parted.{IsEntryAt, entry_there, lacks_value, no_value, some_there, some_value, there_entry, there_value, value_there}
@@ -23,6 +23,7 @@ fields_apart t k old new g h s = by s.is
   where
     gone : g.mv ≡ Remove (t ∷ k ∷ h.name ∷ [])
     gone = ap (λ (x : Generated). x.mv) h.is.1
+
     by : IsSetField t k old s.name s.part g → ⊥
     by (inl is) = apart_add _ _ _ (sym gone ∙ ap (λ (x : Generated). x.mv) is.1)
     by (inr is) = apart_replace _ _ _ (sym gone ∙ ap (λ (x : Generated). x.mv) is.2.1)
@@ -46,7 +47,7 @@ module _ (cur goal : Config) where
     is = record { name = k; part = new; there = after.is; is = record { old = old; there = there_entry cur t k old before; is = is } };
   }
 
-  forth : (m : Move) (g : Generated) → g ≡ own m field_class → IsFieldMove cur goal m → IsOfSome (IsOfTable (IsChangedEntry cur)) goal g
+  forth : (m : Move) (g : Generated) → g ≡ own_move m field_class → IsFieldMove cur goal m → IsOfSome (IsOfTable (IsChangedEntry cur)) goal g
   forth (Remove []) g e is = let long = is.0 in absurd (omega (arith, long))
   forth (Remove (t ∷ [])) g e is = let long = is.0 in absurd (omega (arith, long))
   forth (Remove (t ∷ k ∷ [])) g e is = let long = is.0 in absurd (omega (arith, long))
@@ -66,7 +67,7 @@ module _ (cur goal : Config) where
         name = f;
         part = new.0;
         there = new.2.is;
-        is = inl (no_value cur t k f old.0 old.1 is.2, e ∙ ap (λ y. own (Add (t ∷ k ∷ f ∷ []) y) field_class) new.1);
+        is = inl (no_value cur t k f old.0 old.1 is.2, e ∙ ap (λ y. own_move (Add (t ∷ k ∷ f ∷ []) y) field_class) new.1);
       }))
   forth (Add (t ∷ k ∷ f ∷ n ∷ ns) x) g e is = let long = is.0 in absurd (omega (arith, long))
   forth (Replace [] x) g e is = let long = is.0 in absurd (omega (arith, long))
@@ -81,7 +82,7 @@ module _ (cur goal : Config) where
         name = f;
         part = new.0;
         there = new.2.is;
-        is = inr (old.0, old.1.is, (other, e ∙ ap (λ y. own (Replace (t ∷ k ∷ f ∷ []) y) field_class) new.1));
+        is = inr (old.0, old.1.is, (other, e ∙ ap (λ y. own_move (Replace (t ∷ k ∷ f ∷ []) y) field_class) new.1));
       }))
   forth (Replace (t ∷ k ∷ f ∷ n ∷ ns) x) g e is = let long = is.0 in absurd (omega (arith, long))
 
@@ -99,9 +100,12 @@ module _ (cur goal : Config) where
       owned (IsFieldMove cur goal) (Add (t ∷ k ∷ f ∷ []) (part.Value v)) field_class g is.1
       (refl, some_part cur t k old before, lacks_value cur t k f old before is.0, there_value goal t k f new v after there)
   set_back t k old new f v g before after there (inr is) =
-      owned (IsFieldMove cur goal) (Replace (t ∷ k ∷ f ∷ []) (part.Value v)) field_class g is.2.1
-      (refl, some_field cur t k f old is.0 before is.1, there_value goal t k f new v after there,
-      λ same. is.2.0 (same_value is.0 v (sym (there_value cur t k f old is.0 before is.1) ∙ same)))
+      owned (IsFieldMove cur goal) (Replace (t ∷ k ∷ f ∷ []) (part.Value v)) field_class g is.2.1 (
+        refl,
+        some_field cur t k f old is.0 before is.1,
+        there_value goal t k f new v after there,
+        λ same. is.2.0 (same_value is.0 v (sym (there_value cur t k f old is.0 before is.1) ∙ same)),
+      )
 
   fields_back : (t k : List ℕ) (old new : Entry) (g : Generated) → IsEntryAt cur t k old → IsEntryAt goal t k new → IsOfFields t k old new g → IsFromFields cur goal g
   fields_back t k old new g before after (inl h) =

@@ -1,6 +1,6 @@
 -- What is given for the entries of one configuration and of the other is what the second generator gives.
-use Rattle.std.proofs.Common.{◌≡◌, ◌↔◌, ◌⊎◌, ℕ, Bool, true, false, List, [], ◌∷◌, length, inl, inr, refl, sym, ap, ◌∙◌, subst, arith, cond}
-use Rattle.std.specs.Prelude.{Some, None, option_map, is_some, IsSome}
+use Rattle.std.proofs.Common.{◌≡◌, ◌↔◌, ◌⊎◌, ℕ, Bool, true, false, List, [], ◌∷◌, inl, inr, refl, sym, ap, ◌∙◌, subst, arith, cond}
+use Rattle.std.specs.Prelude.{is_some, IsSome}
 use Rattle.conf_doc.specs.Pairs.{find}
 use Rattle.conf_doc.specs.declared.configuration.Config.{Config}
 use Rattle.conf_doc.specs.declared.configuration.Entry.{Entry}
@@ -10,7 +10,7 @@ use Rattle.move_core.specs.Moves.{Lacks, Place}
 use Rattle.move_core.specs.declared.moves.Generated.{Generated}
 use Rattle.move_core.specs.declared.moves.Move.{Move}
 use Rattle.move_core.specs.declared.moves.Move.TheVariants.{Add, Remove, Replace}
-use Rattle.move_gen.specs.Given.{IsAddedEntry, IsOfTable, IsRemovedEntry, for, own}
+use Rattle.move_gen.specs.Given.{IsAddedEntry, IsOfTable, IsRemovedEntry, move_for, own_move}
 use Rattle.move_gen.specs.Giving.{IsOfSome}
 use Rattle.move_gen.proofs.Owned.{apart_add, of_its_place, owned}
 use Rattle.move_gen.proofs.Parted.{entry_there, some_there, there_entry}
@@ -34,21 +34,20 @@ module _ (IsAs : SaysOfEntry) (class : ℕ) (cur goal : Config) where
       }
 
   adds_back : (g : Generated) → IsOfSome (IsOfTable (IsAddedEntry IsAs class cur)) goal g → AddsEntry IsAs cur goal g × (g.class ≡ class)
-  adds_back g h =
-      (
-        record {
-          table = h.name;
-          key = h.is.name;
-          entry = h.is.part;
-          new = h.is.is.new;
-          lacks = h.is.is.lacks;
-          there = there_entry goal h.name h.is.name h.is.part (record { table = h.part; there = h.there; is = h.is.there });
-          alike = h.is.is.alike;
-          move = ap (λ (x : Generated). x.mv) h.is.is.is;
-          for = ap (λ (x : Generated). x.place) h.is.is.is;
-        },
-        ap (λ (x : Generated). x.class) h.is.is.is,
-      )
+  adds_back g h = (
+    record {
+      table = h.name;
+      key = h.is.name;
+      entry = h.is.part;
+      new = h.is.is.new;
+      lacks = h.is.is.lacks;
+      there = there_entry goal h.name h.is.name h.is.part (record { table = h.part; there = h.there; is = h.is.there });
+      alike = h.is.is.alike;
+      move = ap (λ (x : Generated). x.mv) h.is.is.is;
+      for = ap (λ (x : Generated). x.place) h.is.is.is;
+    },
+    ap (λ (x : Generated). x.class) h.is.is.is,
+  )
 
   pub adds_entries : (g : Generated) → (AddsEntry IsAs cur goal g × (g.class ≡ class)) ↔ IsOfSome (IsOfTable (IsAddedEntry IsAs class cur)) goal g
   adds_entries g = (λ h. adds_forth g h.0 h.1, adds_back g)
@@ -56,17 +55,17 @@ module _ (IsAs : SaysOfEntry) (class : ℕ) (cur goal : Config) where
 -- one is given for an entry that cur lacks
 pub added_once : (IsAs : SaysOfEntry) (class : ℕ) (cur : Config) (t k : List ℕ) (e new : Entry) (m : Move) (p : Place) (of : ℕ) → ((x y : Entry) → IsAs t k e x → IsAs t k e y → x ≡ y)
     → IsAs t k e new → Lacks cur (t ∷ k ∷ []) → m ≡ added_entry cur t k new → p ≡ t ∷ k ∷ [] → of ≡ class
-    → (g : Generated) → (g ≡ for m p of) ↔ IsAddedEntry IsAs class cur t k e g
+    → (g : Generated) → (g ≡ move_for m p of) ↔ IsAddedEntry IsAs class cur t k e g
 added_once IsAs class cur t k e new m p of only alike lacks moves at kind g =
-    (λ is. record { new = new; lacks = lacks; alike = alike; is = is ∙ said }, λ h. h.is ∙ ap (λ x. for (added_entry cur t k x) (t ∷ k ∷ []) class) (only h.new new h.alike alike) ∙ sym said)
+    (λ is. record { new = new; lacks = lacks; alike = alike; is = is ∙ said }, λ h. h.is ∙ ap (λ x. move_for (added_entry cur t k x) (t ∷ k ∷ []) class) (only h.new new h.alike alike) ∙ sym said)
   where
-    said : for m p of ≡ for (added_entry cur t k new) (t ∷ k ∷ []) class
-    said i = for (moves i) (at i) (kind i)
+    said : move_for m p of ≡ move_for (added_entry cur t k new) (t ∷ k ∷ []) class
+    said i = move_for (moves i) (at i) (kind i)
 
 -- ---- both
 
 module _ (cur goal : Config) where
-  removes_forth : (m : Move) (g : Generated) → g ≡ own m key_class → IsKeyRemove cur goal m → IsOfSome (IsOfTable (IsRemovedEntry goal)) cur g
+  removes_forth : (m : Move) (g : Generated) → g ≡ own_move m key_class → IsKeyRemove cur goal m → IsOfSome (IsOfTable (IsRemovedEntry goal)) cur g
   removes_forth (Remove []) g e is = let long = is.0 in absurd (omega (arith, long))
   removes_forth (Remove (t ∷ [])) g e is = let long = is.0 in absurd (omega (arith, long))
   removes_forth (Remove (t ∷ k ∷ [])) g e is =

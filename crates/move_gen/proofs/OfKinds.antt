@@ -1,5 +1,5 @@
 -- What each generator puts, as the kinds say it.
-use Rattle.std.proofs.Common.{◌↔◌, ◌⊎◌, ◌≡◌, ℕ, List, Result, Ok, Err, inl, inr, refl, arith}
+use Rattle.std.proofs.Common.{◌↔◌, List, Result, Ok, Err, inl, inr, refl, arith}
 use Rattle.std.specs.Prelude.{OnOk, OnErr}
 use Rattle.conf_doc.specs.declared.configuration.Config.{Config}
 use Rattle.move_core.specs.Appends.{Appends, AppendsSome}

@@ -1,5 +1,5 @@
 -- Moves for their own place, and what options of parts say.
-use Rattle.std.proofs.Common.{◌≡◌, ◌↔◌, IsTrue, ℕ, List, Bool, true, false, refl, sym, ap, ◌∙◌, subst, true≢false}
+use Rattle.std.proofs.Common.{◌≡◌, ◌↔◌, IsTrue, ℕ, Bool, true, false, refl, sym, ap, ◌∙◌, subst, true≢false}
 use Rattle.std.specs.Prelude.{Option, Some, None, option_map, IsSome}
 use Rattle.conf_doc.specs.declared.parts.Part.{Part}
 use Rattle.move_core.specs.Generated.{IsForItsPlace}
@@ -7,14 +7,14 @@ use Rattle.move_core.specs.Moves.{Place, place}
 use Rattle.move_core.specs.declared.moves.Generated.{Generated}
 use Rattle.move_core.specs.declared.moves.Move.{Move}
 use Rattle.move_core.specs.declared.moves.Move.TheVariants.{Add, Remove, Replace}
-use Rattle.move_gen.specs.Given.{own}
+use Rattle.move_gen.specs.Given.{own_move}
 
 -- a move for its own place is told by the move and the class
-pub of_its_place : (g : Generated) (class : ℕ) → IsForItsPlace g → g.class ≡ class → g ≡ own g.mv class
+pub of_its_place : (g : Generated) (class : ℕ) → IsForItsPlace g → g.class ≡ class → g ≡ own_move g.mv class
 of_its_place g class its is i = record { mv = g.mv; place = its i; class = is i }
 
 -- and the other way round, with what is said of the move
-pub owned : (Is : Move → Type 0) (m : Move) (class : ℕ) (g : Generated) → g ≡ own m class → Is m → Is g.mv × IsForItsPlace g × (g.class ≡ class)
+pub owned : (Is : Move → Type 0) (m : Move) (class : ℕ) (g : Generated) → g ≡ own_move m class → Is m → Is g.mv × IsForItsPlace g × (g.class ≡ class)
 owned Is m class g e is = (
   subst Is (sym (ap (λ (x : Generated). x.mv) e)) is,
   ap (λ (x : Generated). x.place) e ∙ sym (ap (λ (x : Generated). place x.mv) e),

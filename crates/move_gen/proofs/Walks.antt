@@ -1,5 +1,5 @@
 -- Walks over pairs whose names rise, that give for each pair what is as P says.
-use Rattle.std.proofs.Common.{◌≡◌, ◌↔◌, ◌⊎◌, ℕ, zero, suc, ◌+◌, ◌<◌, ◌≤◌, List, [], ◌∷◌, true, false, cond, map, length, slice_get, Option, Some, Result, Ok, Err, Ordering, Less, Equal, Greater, is_eq, not, ◌==◌, inl, inr, refl, sym, ap, ◌∙◌, subst, arith}
+use Rattle.std.proofs.Common.{◌≡◌, ◌↔◌, ◌⊎◌, ℕ, zero, suc, ◌+◌, ◌<◌, ◌≤◌, List, [], ◌∷◌, true, false, cond, map, length, slice_get, Option, Some, Result, Ordering, Less, Equal, Greater, is_eq, not, ◌==◌, inl, inr, refl, sym, ap, ◌∙◌, subst, arith}
 use Rattle.std.specs.Cmp.Lexicographic.{nat_list_cmp_total}
 use Rattle.std.specs.Ordering.{eq_by_cmp}
 use Rattle.std.specs.Result.{IsErr}
@@ -59,6 +59,7 @@ module _ {A B : Type 0} (P : Giver A B) (ps : List (List ℕ × A)) where
                 let part : h.part ≡ a = same_Some _ _ (sym h.there ∙ ap (slice_get (map (λ p. p.1) ps)) at ∙ there) in
                 inr (subst (λ m. P m a b) name (subst (λ x. P h.name x b) part h.is))
           ]
+
       back : IsOfFirst P ps i b ⊎ P n a b → IsOfFirst P ps (i + 1) b
       back (inl h) = let below = h.before in record { index = h.index; before = omega (arith, below); name = h.name; named = h.named; part = h.part; there = h.there; is = h.is }
       back (inr p) = record { index = i; before = omega arith; name = n; named = named; part = a; there = there; is = p }

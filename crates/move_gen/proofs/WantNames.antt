@@ -49,8 +49,7 @@ module _ (c : Config) (t k f : List ℕ) (p : WantPlace) where
       let said : t ∷ k ∷ f ∷ [] ≡ u ∷ e.0 ∷ names.0 = names.2 in
       let first : u ≡ t = cc in
       let second : e.0 ≡ k = cc in
-      let third : names.0 ≡ f ∷ [] = cc in
-      (
+      let third : names.0 ≡ f ∷ [] = cc in (
         record { entries = table; at = at ∙ (λ i. Some (first i, table)); fields = e.1; at_key = at_key ∙ (λ i. Some (second i, e.1)) },
         field_one e.1 p.field f (names.1 ∙ ap Some third),
       )
@@ -120,6 +119,7 @@ module _ (models : ModelSet) (c : Config) (t k f : List ℕ) (s s' : WantIter) (
       by p w (inl same) =
           inl (λ names. true≢false (sym (says.1 (misses c t k f gives.place at place_named here (subst (λ q. names_of c q ≡ Some (t ∷ k ∷ f ∷ [])) same.0 names))) ∙ isnt))
       by p w (inr ahead) = inr ahead
+
       go : (p : WantPlace) (w : Want) → (names_of c p ≢ Some (t ∷ k ∷ f ∷ [])) ⊎ IsWantAhead s p w → (names_of c p ≢ Some (t ∷ k ∷ f ∷ [])) ⊎ IsWantAhead s' p w
       go p w (inl other) = inl other
       go p w (inr ahead) = by p w (gives.others p w ahead)

@@ -13,7 +13,8 @@ abbrev pub IsPair : {A : Type 0} → Giver A (List ℕ × A)
 IsPair name a p = p ≡ (name, a)
 
 -- a seed of the fields before an index
-pub record IsSeedOfFirst (book : Rulebook) (goal : Config) (t k : List ℕ) (e : Entry) (n : ℕ) (new : Entry) : Type 0 where
+pub record IsSeedOfFirst (book : Rulebook) (goal : Config) (t k : List ℕ) (e : Entry) (n : ℕ)
+    (new : Entry) : Type 0 where
   pub rising : IsRising new
   pub fields :
       (f : List ℕ) (v : Value)

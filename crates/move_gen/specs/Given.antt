@@ -15,23 +15,23 @@ use Rattle.move_core.specs.declared.moves.Move.TheVariants.{Add, Remove, Replace
 use Rattle.move_gen.specs.Giving.{Giver, IsOfSome}
 
 -- a move for a place, of a class
-abbrev pub for : Move → Place → ℕ → Generated
-for m p class = record { mv = m; place = p; class = class }
+abbrev pub move_for : Move → Place → ℕ → Generated
+move_for m p class = record { mv = m; place = p; class = class }
 
 -- a move for its own place
-abbrev pub own : Move → ℕ → Generated
-own m class = for m (place m) class
+abbrev pub own_move : Move → ℕ → Generated
+own_move m class = move_for m (place m) class
 
 -- ---- tables
 
 -- the remove of a table that goal lacks
 abbrev pub IsRemovedTable : Config → Giver Table Generated
-IsRemovedTable goal t table g = Lacks goal (t ∷ []) × (g ≡ own (Remove (t ∷ [])) table_class)
+IsRemovedTable goal t table g = Lacks goal (t ∷ []) × (g ≡ own_move (Remove (t ∷ [])) table_class)
 
 -- the add of a table that cur lacks
 abbrev pub IsAddedTable : Config → Giver Table Generated
 IsAddedTable cur t table g =
-    Lacks cur (t ∷ []) × (g ≡ own (Add (t ∷ []) (part.Table table)) table_class)
+    Lacks cur (t ∷ []) × (g ≡ own_move (Add (t ∷ []) (part.Table table)) table_class)
 
 -- ---- entries
 
@@ -39,11 +39,13 @@ IsAddedTable cur t table g =
 abbrev pub EntryGiver : Type 1
 EntryGiver = List ℕ → Giver Entry Generated
 
--- each move is for a place that begins with the table and the key
+-- the move is for a place that begins with the table and the key
+abbrev pub IsForEntry : List ℕ → List ℕ → Generated → Type 0
+IsForEntry t k g = (slice_get g.place 0 ≡ Some t) × (slice_get g.place 1 ≡ Some k)
+
+-- each move is
 abbrev pub AreForEntries : EntryGiver → Type 0
-AreForEntries Is =
-    (t k : List ℕ) (e : Entry) (g : Generated) → Is t k e g
-    → (slice_get g.place 0 ≡ Some t) × (slice_get g.place 1 ≡ Some k)
+AreForEntries Is = (t k : List ℕ) (e : Entry) (g : Generated) → Is t k e g → IsForEntry t k g
 
 -- what is given for the entries of a table
 abbrev pub IsOfTable : EntryGiver → Giver Table Generated
@@ -52,7 +54,7 @@ IsOfTable Is t table g = IsOfSome (Is t) table g
 -- the remove of an entry that goal lacks
 abbrev pub IsRemovedEntry : Config → EntryGiver
 IsRemovedEntry goal t k e g =
-    Lacks goal (t ∷ k ∷ []) × (g ≡ own (Remove (t ∷ k ∷ [])) key_class)
+    Lacks goal (t ∷ k ∷ []) × (g ≡ own_move (Remove (t ∷ k ∷ [])) key_class)
 
 -- the add of an entry that cur lacks, as IsAs says of its table, its key and goal's entry
 pub record IsAddedEntry
@@ -61,24 +63,24 @@ pub record IsAddedEntry
   pub new : Entry
   pub lacks : Lacks cur (t ∷ k ∷ [])
   pub alike : IsAs t k e new
-  pub is : g ≡ for (added_entry cur t k new) (t ∷ k ∷ []) class
+  pub is : g ≡ move_for (added_entry cur t k new) (t ∷ k ∷ []) class
 
 -- ---- fields
 
 -- the remove of a field that goal's entry lacks
 abbrev pub IsRemovedField : List ℕ → List ℕ → Entry → Giver Value Generated
 IsRemovedField t k new f v g =
-    (find f new ≡ None) × (g ≡ own (Remove (t ∷ k ∷ f ∷ [])) field_class)
+    (find f new ≡ None) × (g ≡ own_move (Remove (t ∷ k ∷ f ∷ [])) field_class)
 
 -- the add of a field that cur's entry lacks
 abbrev pub IsAddedField : List ℕ → List ℕ → Entry → Giver Value Generated
 IsAddedField t k old f v g =
-    (find f old ≡ None) × (g ≡ own (Add (t ∷ k ∷ f ∷ []) (part.Value v)) field_class)
+    (find f old ≡ None) × (g ≡ own_move (Add (t ∷ k ∷ f ∷ []) (part.Value v)) field_class)
 
 -- the replace of another value
 abbrev pub IsReplace : List ℕ → List ℕ → Value → Giver Value Generated
 IsReplace t k u f v g =
-    (u ≢ v) × (g ≡ own (Replace (t ∷ k ∷ f ∷ []) (part.Value v)) field_class)
+    (u ≢ v) × (g ≡ own_move (Replace (t ∷ k ∷ f ∷ []) (part.Value v)) field_class)
 
 -- so of cur's entry
 abbrev pub IsReplacedField : List ℕ → List ℕ → Entry → Giver Value Generated

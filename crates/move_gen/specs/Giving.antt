@@ -20,7 +20,8 @@ pub record IsOfSome {A B : Type 0} (Is : Giver A B) (ps : List (List ℕ × A)) 
   pub is : Is name part b
 
 -- an item for some pair before an index
-pub record IsOfFirst {A B : Type 0} (Is : Giver A B) (ps : List (List ℕ × A)) (n : ℕ) (b : B) : Type 0 where
+pub record IsOfFirst {A B : Type 0} (Is : Giver A B) (ps : List (List ℕ × A)) (n : ℕ)
+    (b : B) : Type 0 where
   pub index : ℕ
   pub before : index < n
   pub name : List ℕ

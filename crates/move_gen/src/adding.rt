@@ -25,13 +25,7 @@ pub(crate) enum Fields<'a> {
 
 impl<'a> Fields<'a> {
     /// The entry with those fields.
-    fn choose(
-        &self,
-        alloc: Global,
-        table: &str,
-        key: &str,
-        entry: &Entry,
-    ) -> Result<Entry, Memory>
+    fn choose(&self, alloc: Global, table: &str, key: &str, entry: &Entry) -> Result<Entry, Memory>
         ensures { IfOk result (IsAs self.now table.now key.now entry.now) }
     {
         match self {

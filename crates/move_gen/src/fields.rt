@@ -161,15 +161,7 @@ fn remove_fields(
         Gives Is result out.old.items out.new.items }
 {
     for i in 0..old.len() {
-        remove_field(
-            alloc,
-            table,
-            key,
-            old.name_at(i),
-            old.part_at(i),
-            new,
-            out,
-        )?;
+        remove_field(alloc, table, key, old.name_at(i), old.part_at(i), new, out)?;
     }
     Ok(())
 }
@@ -189,15 +181,7 @@ fn set_fields(
         Gives Is result out.old.items out.new.items }
 {
     for i in 0..new.len() {
-        set_field(
-            alloc,
-            table,
-            key,
-            new.name_at(i),
-            new.part_at(i),
-            old,
-            out,
-        )?;
+        set_field(alloc, table, key, new.name_at(i), new.part_at(i), old, out)?;
     }
     Ok(())
 }

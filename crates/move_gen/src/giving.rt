@@ -1,6 +1,6 @@
 //! Moves put at the end of those that were generated.
 ghost use Rattle.std.specs.Prelude.{◌≡◌};
-ghost use Rattle.move_gen.specs.Given.{for, own};
+ghost use Rattle.move_gen.specs.Given.{move_for, own_move};
 ghost use Rattle.move_gen.specs.Giving.{Gives};
 
 use conf_doc::Path;
@@ -21,13 +21,8 @@ pub(crate) const FIELD_CLASS: u8 = 2;
 pub(crate) const SEED_CLASS: u8 = 3;
 
 /// Puts a move for a place.
-pub(crate) fn give(
-    mv: Move,
-    place: Path,
-    class: u8,
-    out: &mut Vec<Generated>,
-) -> Result<(), Memory>
-    ensures { Gives (λ g. g ≡ for mv place class) result out.old.items out.new.items }
+pub(crate) fn give(mv: Move, place: Path, class: u8, out: &mut Vec<Generated>) -> Result<(), Memory>
+    ensures { Gives (λ g. g ≡ move_for mv place class) result out.old.items out.new.items }
 {
     out.push(Generated { mv, place, class })?;
     Ok(())
@@ -40,7 +35,7 @@ pub(crate) fn give_own(
     class: u8,
     out: &mut Vec<Generated>,
 ) -> Result<(), Memory>
-    ensures { Gives (λ g. g ≡ own mv class) result out.old.items out.new.items }
+    ensures { Gives (λ g. g ≡ own_move mv class) result out.old.items out.new.items }
 {
     let place = mv.place().copy(alloc)?;
     give(mv, place, class, out)

@@ -7,17 +7,16 @@ use Rattle.move_gen.proofs.field_wants.has_no_want.Goals as goal
 
 pub loop-at-init : goal.loop-at-init
 loop-at-init c =
-    let e = c.entry_wants-at-items.ensures in
-    (
+    let e = c.entry_wants-at-items.ensures in (
       tt,
       tt,
       subst (AreElsewhere c.args.ctx.now.models c.args.goal.now c.args.table.now c.args.key.now c.args.field.now) (sym c.into_iter-at-iterator.ensures.into_iter_gives)
-      (record {
-        models = e.models;
-        config = e.config;
-        rest = λ p w entry want. inr ((e.ahead p w).1 (entry, want));
-        within = λ p w ahead. ((e.ahead p w).0 ahead).0;
-      }),
+          (record {
+            models = e.models;
+            config = e.config;
+            rest = λ p w entry want. inr ((e.ahead p w).1 (entry, want));
+            within = λ p w ahead. ((e.ahead p w).0 ahead).0;
+          }),
     )
 
 pub returns-then-is_at_field : goal.returns-then-is_at_field
