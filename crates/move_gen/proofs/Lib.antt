@@ -1,0 +1,12 @@
+pub mod Appended
+pub mod Chosen
+pub mod FieldMoves
+pub mod KeyMoves
+pub mod Named
+pub mod OfKinds
+pub mod Owned
+pub mod Parted
+pub mod SamePairs
+pub mod TableMoves
+pub mod Walks
+pub mod WantNames

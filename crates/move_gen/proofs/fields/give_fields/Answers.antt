@@ -1,0 +1,12 @@
+use Rattle.move_gen.specs.Given.{IsOfFields, IsRemovedField, IsSetField}
+use Rattle.move_gen.specs.Giving.{IsOfSome}
+use Rattle.move_gen.proofs.Appended.{gives_both}
+use Rattle.move_gen.proofs.FieldMoves.{fields_apart}
+use Rattle.move_gen.proofs.fields.give_fields.Goals as goal
+
+pub returns : goal.returns
+returns c =
+    let t = c.args.table.now in let k = c.args.key.now in let old = c.args.old.now in let new = c.args.new.now in
+    gives_both (IsOfSome (IsRemovedField t k new) old) (IsOfSome (IsSetField t k old) new) (IsOfFields t k old new)
+    c.args.out.now.items c.remove_fields.new.out.items c.set_fields.new.out.items (fields_apart t k old new)
+    c.set_fields.result (λ g. (λ is. is, λ is. is)) c.in_ok-remove_fields.ensures c.set_fields.ensures

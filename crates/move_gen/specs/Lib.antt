@@ -1,0 +1,7 @@
+-- what only private clauses cite
+pub mod Adding
+pub mod Choosing
+pub mod EntryLaws
+pub mod FieldWants
+pub mod Given
+pub mod Giving

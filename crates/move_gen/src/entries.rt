@@ -1,0 +1,68 @@
+//! The walk over the entries of a configuration, with moves for each.
+ghost use Rattle.std.specs.Prelude.{◌<◌, length};
+ghost use Rattle.move_gen.specs.Given.{IsOfTable};
+ghost use Rattle.move_gen.specs.Giving.{Gives, IsOfSome};
+
+use conf_doc::{Config, Entry, Table};
+use host_core::Memory;
+use move_core::Generated;
+use std::alloc::Global;
+
+/// The moves that are given for an entry.
+pub(crate) trait EntryMoves {
+    ghost use Rattle.move_gen.specs.Given.{AreForEntries, EntryGiver};
+
+    /// What is given for a table, a key and the entry there.
+    ghost is_given: { Self → EntryGiver };
+
+    /// Puts those moves.
+    fn give(
+        &self,
+        alloc: Global,
+        table: &str,
+        key: &str,
+        entry: &Entry,
+        out: &mut Vec<Generated>,
+    ) -> Result<(), Memory>
+        requires table { 0 < length table.now }
+        requires key { 0 < length key.now }
+        ensures { let Is = is_given self.now table.now key.now entry.now in
+            Gives Is result out.old.items out.new.items };
+
+    /// They are for places of that entry.
+    ghost for_entries: { (s : Self) → AreForEntries (is_given s) };
+}
+
+/// Puts the moves for the entries of a table.
+fn give_in_table<M: EntryMoves>(
+    alloc: Global,
+    name: &str,
+    table: &Table,
+    moves: &M,
+    out: &mut Vec<Generated>,
+) -> Result<(), Memory>
+    requires { 0 < length name.now }
+    ensures { let Is = IsOfTable (M.is_given moves.now) name.now table.now in
+        Gives Is result out.old.items out.new.items }
+{
+    for i in 0..table.len() {
+        moves.give(alloc, name, table.name_at(i), table.part_at(i), out)?;
+    }
+    Ok(())
+}
+
+/// Puts the moves for the entries of a configuration.
+pub(crate) fn give_entries<M: EntryMoves>(
+    alloc: Global,
+    config: &Config,
+    moves: &M,
+    out: &mut Vec<Generated>,
+) -> Result<(), Memory>
+    ensures { let Is = IsOfSome (IsOfTable (M.is_given moves.now)) config.now in
+        Gives Is result out.old.items out.new.items }
+{
+    for i in 0..config.len() {
+        give_in_table(alloc, config.name_at(i), config.part_at(i), moves, out)?;
+    }
+    Ok(())
+}

@@ -1,0 +1,17 @@
+//! The generators of moves, each a box of its kind.
+#![tactic(auto)]
+
+mod adding;
+mod entries;
+mod field_wants;
+mod fields;
+mod giving;
+mod keys;
+mod places;
+mod seeds;
+mod tables;
+
+pub use fields::FieldGen;
+pub use keys::KeyGen;
+pub use seeds::SeedGen;
+pub use tables::TableGen;
