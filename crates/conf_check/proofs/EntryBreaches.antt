@@ -1,9 +1,9 @@
 -- The first breach of one entry.
-use Rattle.std.proofs.Common.{◌≡◌, ℕ, true, List, Option, Some, None, is_some, refl, sym, ◌∙◌, subst, inl, inr, arith}
+use Rattle.std.proofs.Common.{◌≡◌, ℕ, true, List, Some, None, is_some, refl, sym, ◌∙◌, subst, inl, inr, arith}
 use Rattle.conf_doc.specs.declared.configuration.Config.{Config}
 use Rattle.conf_doc.specs.declared.configuration.Table.{Table}
 use Rattle.yang_model.specs.ModelSets.{ModelSet, table_named}
-use Rattle.conf_check.specs.Faults.{IsFirstFault, breach_at}
+use Rattle.conf_check.specs.Faults.{IsFirstHere, breach_at}
 use Rattle.conf_check.specs.Rows.{Row, row_at, IsEntryAt, IsPlaceOfEntry}
 use Rattle.conf_check.specs.Validity.{Breach, Breaks, IsBreachAt, IsBreachBefore, IsFirstViolationAt, IsValidAt, violation_of}
 use Rattle.conf_check.specs.declared.faults.Fault.{Fault}
@@ -12,14 +12,6 @@ use Rattle.conf_check.proofs.ShapedEntries.{row_from, row_here, stands}
 
 some_same : {A : Type 0} (x y : A) → Some x ≡ Some y → x ≡ y
 some_same x y e = cc
-
--- the first that the entry at a place breaks
-abbrev pub IsFirstHere : ModelSet → Config → ℕ → ℕ → Option Fault → Type 0
-IsFirstHere models config t k o = (row : Row) → row_at models config t k ≡ Some row → IsFirstFault (Breaks models config t k row) o
-
-pub first_as : (m n : ModelSet) (c d : Config) (t k : ℕ) (o : Option Fault) → m ≡ n → c ≡ d → IsFirstHere m c t k o → IsFirstHere n d t k o
-first_as m n c d t k o models configs first =
-    subst (λ z. IsFirstHere n z t k o) configs (subst (λ z. IsFirstHere z c t k o) models first)
 
 module _ (models : ModelSet) (config : Config) (table key : List ℕ) where
   -- an entry that isn't there breaks nothing

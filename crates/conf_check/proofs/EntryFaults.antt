@@ -1,9 +1,9 @@
 -- What is first among what an entry breaks, from what is first of each stage.
-use Rattle.std.proofs.Common.{◌≡◌, ◌⊎◌, ◌<◌, ◌≤◌, ℕ, Option, Some, None, slice_get, IsSomeAnd, refl, subst, inl, inr, arith}
+use Rattle.std.proofs.Common.{◌≡◌, ◌⊎◌, ◌<◌, ◌≤◌, ℕ, [], Option, Some, None, slice_get, IsSomeAnd, refl, sym, subst, inl, inr, arith}
 use Rattle.conf_doc.specs.declared.configuration.Config.{Config}
 use Rattle.yang_model.specs.ModelSets.{ModelSet}
 use Rattle.yang_model.specs.declared.shapes.Shape.{Shape}
-use Rattle.conf_check.specs.Faults.{IsFirst, IsFirstFault, IsRefusedPart, IsMissingAt, FieldsBreak}
+use Rattle.conf_check.specs.Faults.{IsFirst, IsFirstBesideMusts, IsFirstFault, IsRefusedPart, IsMissingAt, FieldsBreak}
 use Rattle.conf_check.specs.Rows.{Row, HasShape, HasNoShape}
 use Rattle.conf_check.specs.Validity.{Breaks, no_shape, of_shape, BreaksShape, IsFalse, IsRuleBefore, stage, rule_number}
 use Rattle.conf_check.specs.declared.faults.Fault.{Fault}
@@ -132,32 +132,55 @@ module _ (models : ModelSet) (config : Config) (t k : ℕ) (row : Row) where
     abbrev IsFalseAt : ℕ → Type 0
     IsFalseAt i = IsSomeAnd (slice_get shape.musts i) (IsFalse models config t k)
 
-    -- where nothing is missing, a false must is
-    pub must_is_first : (i : ℕ) → IsFirst (IsRefusedPart models config shape row.key) None
+    abbrev NonePlain : Type 0
+    NonePlain = (r : Rule) (n : ℕ) → stage r < 4 → ¬ P r n
+
+    -- where nothing is missing, nothing is broken but musts
+    pub none_plain : IsFirst (IsRefusedPart models config shape row.key) None
         → IsFirstFault (FieldsBreak models config shape row.fields) None
-        → IsFirst (IsMissingAt shape row.fields) None → IsFirst IsFalseAt (Some i)
+        → IsFirst (IsMissingAt shape row.fields) None → NonePlain
+    none_plain parts none missing KeyShape n lt b = b
+    none_plain parts none missing KeyReference n lt b = parts n b
+    none_plain parts none missing UnknownField n lt b = none UnknownField n b
+    none_plain parts none missing WrongKind n lt b = none WrongKind n b
+    none_plain parts none missing BadValue n lt b = none BadValue n b
+    none_plain parts none missing DuplicateItem n lt b = none DuplicateItem n b
+    none_plain parts none missing MissingField n lt b = missing n b
+    none_plain parts none missing Must n lt b = omega arith
+
+    -- then a false must is first
+    pub must_is_first : (i : ℕ) → NonePlain → IsFirst IsFalseAt (Some i)
         → IsFirstFault P (Some (record { rule = Must; field = i }))
-    must_is_first i parts none missing first = (first.0, before)
+    must_is_first i plain first = (first.0, before)
       where
         before : (r : Rule) (n : ℕ) → IsRuleBefore r n Must i → ¬ P r n
         before KeyShape n e b = b
-        before KeyReference n e b = parts n b
-        before UnknownField n e b = none UnknownField n b
-        before WrongKind n e b = none WrongKind n b
-        before BadValue n e b = none BadValue n b
-        before DuplicateItem n e b = none DuplicateItem n b
-        before MissingField n e b = missing n b
+        before KeyReference n e b = plain KeyReference n (omega arith) b
+        before UnknownField n e b = plain UnknownField n (omega arith) b
+        before WrongKind n e b = plain WrongKind n (omega arith) b
+        before BadValue n e b = plain BadValue n (omega arith) b
+        before DuplicateItem n e b = plain DuplicateItem n (omega arith) b
+        before MissingField n e b = plain MissingField n (omega arith) b
         before Must n e b = first.1 n (lesser_number 8 n i (same_stage 4 _ e)) b
 
     -- and else nothing is broken
-    pub nothing_first : IsFirst (IsRefusedPart models config shape row.key) None
-        → IsFirstFault (FieldsBreak models config shape row.fields) None
-        → IsFirst (IsMissingAt shape row.fields) None → IsFirst IsFalseAt None → IsFirstFault P None
-    nothing_first parts none missing musts KeyShape n b = b
-    nothing_first parts none missing musts KeyReference n b = parts n b
-    nothing_first parts none missing musts UnknownField n b = none UnknownField n b
-    nothing_first parts none missing musts WrongKind n b = none WrongKind n b
-    nothing_first parts none missing musts BadValue n b = none BadValue n b
-    nothing_first parts none missing musts DuplicateItem n b = none DuplicateItem n b
-    nothing_first parts none missing musts MissingField n b = missing n b
-    nothing_first parts none missing musts Must n b = musts n b
+    pub nothing_first : NonePlain → IsFirst IsFalseAt None → IsFirstFault P None
+    nothing_first plain musts KeyShape n b = b
+    nothing_first plain musts KeyReference n b = plain KeyReference n (omega arith) b
+    nothing_first plain musts UnknownField n b = plain UnknownField n (omega arith) b
+    nothing_first plain musts WrongKind n b = plain WrongKind n (omega arith) b
+    nothing_first plain musts BadValue n b = plain BadValue n (omega arith) b
+    nothing_first plain musts DuplicateItem n b = plain DuplicateItem n (omega arith) b
+    nothing_first plain musts MissingField n b = plain MissingField n (omega arith) b
+    nothing_first plain musts Must n b = musts n b
+
+    -- with no musts what is broken is not one
+    pub without_musts : (o : Option Fault) → shape.musts ≡ [] → IsFirstBesideMusts P o → IsFirstFault P o
+    without_musts None none plain = nothing_first plain (λ i. subst (λ ms. ¬ IsSomeAnd (slice_get ms i) (IsFalse models config t k)) (sym none) (λ h. h))
+    without_musts (Some f) none first = first
+
+-- what an entry of a shape breaks, as the models and the configuration stand
+pub broken_as : (m n : ModelSet) (c d : Config) (t k : ℕ) (row : Row) (shape : Shape) (o : Option Fault) → m ≡ n → c ≡ d
+    → IsFirstFault (BreaksShape m c t k row shape) o → IsFirstFault (BreaksShape n d t k row shape) o
+broken_as m n c d t k row shape o models configs first =
+    subst (λ z. IsFirstFault (BreaksShape n z t k row shape) o) configs (subst (λ z. IsFirstFault (BreaksShape z c t k row shape) o) models first)

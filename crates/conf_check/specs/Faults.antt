@@ -1,13 +1,13 @@
 -- What is first among what an entry breaks.
-use Rattle.std.specs.Prelude.{◌≡◌, ◌<◌, ℕ, Bool, List, Option, None, MatchOption, option_map, slice_get, IsSomeAnd, Any}
+use Rattle.std.specs.Prelude.{◌≡◌, ◌<◌, ℕ, Bool, List, Option, Some, None, MatchOption, option_map, slice_get, IsSomeAnd, Any}
 use Rattle.conf_doc.specs.declared.configuration.Config.{Config}
 use Rattle.conf_doc.specs.declared.configuration.Entry.{Entry}
 use Rattle.conf_doc.specs.declared.configuration.Value.{Value}
 use Rattle.yang_model.specs.ModelSets.{ModelSet}
 use Rattle.yang_model.specs.declared.shapes.Shape.{Shape}
 use Rattle.yang_types.specs.DataType.{DataType}
-use Rattle.conf_check.specs.Rows.{typed_part, texts_by_kind}
-use Rattle.conf_check.specs.Validity.{IsRefused, IsUnknownField, IsOfWrongKind, HasBadItem, HasEqualItems, AreSomeEqual, IsMissing, IsFalse, IsRuleBefore, IsBreachBefore, IsBreach, Breach, violation_of, rule_number}
+use Rattle.conf_check.specs.Rows.{Row, row_at, typed_part, texts_by_kind}
+use Rattle.conf_check.specs.Validity.{IsRefused, IsUnknownField, IsOfWrongKind, HasBadItem, HasEqualItems, AreSomeEqual, IsMissing, IsFalse, IsRuleBefore, IsBreachBefore, IsBreach, Breach, Breaks, stage, violation_of, rule_number}
 use Rattle.conf_check.specs.declared.violations.Rule.{Rule}
 use Rattle.conf_check.specs.declared.violations.Rule.TheVariants.{KeyShape, KeyReference, UnknownField, WrongKind, BadValue, DuplicateItem, MissingField, Must}
 use Rattle.conf_check.specs.declared.violations.Violation.{Violation}
@@ -29,6 +29,13 @@ abbrev pub IsFirstFault : (Rule → ℕ → Type 0) → Option Fault → Type 0
 IsFirstFault P answer =
     MatchOption answer ((r : Rule) (n : ℕ) → ¬ P r n)
     (λ f. P f.rule f.field × ((r : Rule) (n : ℕ) → IsRuleBefore r n f.rule f.field → ¬ P r n))
+
+-- the answer is what comes before all else that is broken, or None where nothing but musts is
+abbrev pub IsFirstBesideMusts : (Rule → ℕ → Type 0) → Option Fault → Type 0
+IsFirstBesideMusts P answer =
+    MatchOption answer
+    ((r : Rule) (n : ℕ) → stage r < stage Must → ¬ P r n)
+    (λ f. IsFirstFault P (Some f))
 
 -- a part of the key that its leaf refuses
 abbrev pub IsRefusedPart : ModelSet → Config → Shape → List ℕ → ℕ → Type 0
@@ -109,3 +116,9 @@ IsFirstOfTable models config table answer =
 -- what an entry breaks, with its place
 abbrev pub breach_at : ℕ → ℕ → Fault → Breach
 breach_at table key f = record { table = table; key = key; rule = f.rule; field = f.field }
+
+-- the answer is what the entry at a place breaks first, or None where it breaks nothing
+abbrev pub IsFirstHere : ModelSet → Config → ℕ → ℕ → Option Fault → Type 0
+IsFirstHere models config table key answer =
+    (row : Row) → row_at models config table key ≡ Some row
+    → IsFirstFault (Breaks models config table key row) answer

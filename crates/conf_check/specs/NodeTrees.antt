@@ -51,12 +51,11 @@ pub record IsShapedAt (models : ModelSet) (config : Config) (table key : ℕ)
   pub shaped : HasShape models (row_of_entry e) e.shape.now
 
 -- the answer is the entry at a place with its shape, or None where there is none of a shape
-abbrev pub IsEntryAt : ConfigNodes → ℕ → ℕ → Option ShapedEntry → Type 0
-IsEntryAt s table key answer =
+abbrev pub FindsShaped : ModelSet → Config → ℕ → ℕ → Option ShapedEntry → Type 0
+FindsShaped models config table key answer =
     MatchOption answer
-    ((row : Row) → row_at s.models.now s.config.now table key ≡ Some row
-    → HasNoShape s.models.now row)
-    (IsShapedAt s.models.now s.config.now table key)
+    ((row : Row) → row_at models config table key ≡ Some row → HasNoShape models row)
+    (IsShapedAt models config table key)
 
 -- what is held without the borrows
 abbrev pub held_of : HeldText → Held

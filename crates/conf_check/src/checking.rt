@@ -1,6 +1,6 @@
 //! Whether a configuration is valid by its models (RFC 7950, section 8.1).
 ghost use Rattle.std.specs.Prelude.{◌≡◌, ◌<◌, length, true, is_some, slice_get, Some, MatchResult};
-ghost use Rattle.conf_check.specs.Faults.{IsFirstFault, IsFirstOfTable, breach_at};
+ghost use Rattle.conf_check.specs.Faults.{IsFirstBesideMusts, IsFirstFault, IsFirstHere, IsFirstOfTable, breach_at};
 ghost use Rattle.conf_check.specs.NodeTrees.{HasModule, row_of_entry};
 ghost use Rattle.conf_check.specs.Rows.{Row, row_at, IsModelledAt};
 ghost use Rattle.conf_check.specs.Validity.{Breaks, BreaksShape, IsFirstViolation, IsFirstViolationAt, IsValid, IsValidAt, violation_of};
@@ -14,6 +14,31 @@ use crate::violations::{Rule, Violation};
 use conf_doc::Config;
 use yang_model::Models;
 
+/// What an entry with a shape breaks first beside its musts.
+fn first_beside_musts(models: &Models, config: &Config, entry: &ShapedEntry) -> Option<Fault>
+    ensures { (table key : _) → let row = row_of_entry entry.now in
+        let Broken = BreaksShape models.now config.now table key row entry.now.shape.now in
+        IsFirstBesideMusts Broken result }
+{
+    let part = first_refused_part(models, config, entry.shape, entry.key);
+    if let Some(field) = part {
+        return Some(Fault {
+            rule: Rule::KeyReference,
+            field,
+        });
+    }
+    if let Some(fault) = first_of_fields(models, config, entry.shape, entry.fields) {
+        return Some(fault);
+    }
+    match first_missing(entry.shape, entry.fields) {
+        Some(field) => Some(Fault {
+            rule: Rule::MissingField,
+            field,
+        }),
+        None => None,
+    }
+}
+
 /// What an entry with a shape breaks first.
 fn first_of_shape(
     nodes: &ConfigNodes,
@@ -26,21 +51,8 @@ fn first_of_shape(
         let Broken = BreaksShape nodes.now.models.now nodes.now.config.now table key row in
         IsFirstFault (Broken entry.now.shape.now) result }
 {
-    let part = first_refused_part(nodes.models, nodes.config, entry.shape, entry.key);
-    if let Some(field) = part {
-        return Some(Fault {
-            rule: Rule::KeyReference,
-            field,
-        });
-    }
-    if let Some(fault) = first_of_fields(nodes.models, nodes.config, entry.shape, entry.fields) {
+    if let Some(fault) = first_beside_musts(nodes.models, nodes.config, entry) {
         return Some(fault);
-    }
-    if let Some(field) = first_missing(entry.shape, entry.fields) {
-        return Some(Fault {
-            rule: Rule::MissingField,
-            field,
-        });
     }
     match first_false_must(nodes, entry.shape, table, key) {
         Some(field) => Some(Fault {
@@ -53,11 +65,30 @@ fn first_of_shape(
 
 /// What the entry at a place breaks first.
 fn first_of_entry(nodes: &ConfigNodes, table: usize, key: usize) -> Option<Fault>
-    ensures { (row : Row) → row_at nodes.now.models.now nodes.now.config.now table key ≡ Some row
-        → IsFirstFault (Breaks nodes.now.models.now nodes.now.config.now table key row) result }
+    ensures { IsFirstHere nodes.now.models.now nodes.now.config.now table key result }
 {
-    match shaped_entry(nodes, table, key) {
+    match shaped_entry(nodes.models, nodes.config, table, key) {
         Some(entry) => first_of_shape(nodes, table, key, &entry),
+        None => Some(Fault {
+            rule: Rule::KeyShape,
+            field: 0,
+        }),
+    }
+}
+
+/// The same, where the configuration isn't known as nodes. They are made for musts alone, since for them
+/// the shape of each entry is asked.
+fn first_at(models: &Models, config: &Config, table: usize, key: usize) -> Option<Fault>
+    ensures { IsFirstHere models.now config.now table key result }
+{
+    match shaped_entry(models, config, table, key) {
+        Some(entry) => {
+            if entry.shape.musts.is_empty() {
+                first_beside_musts(models, config, &entry)
+            } else {
+                first_of_shape(&nodes_of(models, config), table, key, &entry)
+            }
+        }
         None => Some(Fault {
             rule: Rule::KeyShape,
             field: 0,
@@ -139,7 +170,7 @@ pub fn check_entry(
     if !models.modelled(table) {
         return Ok(());
     }
-    match first_of_entry(&nodes_of(models, config), at_table, at_key) {
+    match first_at(models, config, at_table, at_key) {
         Some(fault) => Err(violation_at(at_table, at_key, fault)),
         None => Ok(()),
     }

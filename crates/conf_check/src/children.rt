@@ -67,7 +67,7 @@ fn count_keys(nodes: &ConfigNodes, table: usize) -> usize
 fn is_named_at(nodes: &ConfigNodes, table: usize, key: usize, name: &str) -> bool
     ensures { result ≡ is_named_at nodes.now table key name.now }
 {
-    match shaped_entry(nodes, table, key) {
+    match shaped_entry(nodes.models, nodes.config, table, key) {
         Some(entry) => name == entry.shape.name.as_str(),
         None => false,
     }
@@ -121,7 +121,7 @@ fn leaf_named<'a>(
     ensures { option_map_or (leaf_nodes table key) result []
         ≡ leaves_of nodes.now table key name.now }
 {
-    let entry = shaped_entry(nodes, table, key)?;
+    let entry = shaped_entry(nodes.models, nodes.config, table, key)?;
     let leaf = place_of_leaf(name, entry.shape)?;
     Some(HeldLeaf {
         leaf,

@@ -4,14 +4,13 @@ ghost use Rattle.std.specs.Option.{option_map_or};
 ghost use Rattle.conf_doc.specs.Pairs.{find};
 ghost use Rattle.key_split.specs.Key.{key_parts};
 ghost use Rattle.conf_check.specs.ConfigTree.{absent, held_at, held_default, held_field};
-ghost use Rattle.conf_check.specs.NodeTrees.{IsEntryAt, field_held, held_of, row_of_entry};
+ghost use Rattle.conf_check.specs.NodeTrees.{FindsShaped, field_held, held_of, row_of_entry};
 
-use crate::config_nodes::ConfigNodes;
 use crate::rows::shape_of;
-use conf_doc::{Entry, Value};
+use conf_doc::{Config, Entry, Value};
 use host_core::Names;
 use key_split::KeyView;
-use yang_model::{FieldRule, Shape};
+use yang_model::{FieldRule, Models, Shape};
 
 /// An entry with its shape.
 #[derive(Clone, Copy, Drop)]
@@ -31,18 +30,23 @@ pub(crate) enum HeldText<'a> {
 }
 
 /// The entry at a place of a table, with its shape.
-fn entry_in_table<'a>(nodes: &ConfigNodes<'a>, table: usize, key: usize) -> Option<ShapedEntry<'a>>
-    requires { table < length nodes.now.config.now }
-    ensures { IsEntryAt nodes.now table key result }
+fn entry_in_table<'a>(
+    models: &'a Models,
+    config: &'a Config,
+    table: usize,
+    key: usize,
+) -> Option<ShapedEntry<'a>>
+    requires { table < length config.now }
+    ensures { FindsShaped models.now config.now table key result }
 {
-    let entries = nodes.config.part_at(table);
+    let entries = config.part_at(table);
     if key >= entries.len() {
         return None;
     }
-    let table = nodes.config.name_at(table);
+    let table = config.name_at(table);
     let fields = entries.part_at(key);
     let key = entries.name_at(key);
-    match shape_of(nodes.models, table, key) {
+    match shape_of(models, table, key) {
         Some(shape) => Some(ShapedEntry {
             table,
             key,
@@ -55,14 +59,15 @@ fn entry_in_table<'a>(nodes: &ConfigNodes<'a>, table: usize, key: usize) -> Opti
 
 /// The entry at a place, with its shape, where there is one that belongs to a shape.
 pub(crate) fn shaped_entry<'a>(
-    nodes: &ConfigNodes<'a>,
+    models: &'a Models,
+    config: &'a Config,
     table: usize,
     key: usize,
 ) -> Option<ShapedEntry<'a>>
-    ensures { IsEntryAt nodes.now table key result }
+    ensures { FindsShaped models.now config.now table key result }
 {
-    if table < nodes.config.len() {
-        entry_in_table(nodes, table, key)
+    if table < config.len() {
+        entry_in_table(models, config, table, key)
     } else {
         None
     }

@@ -125,7 +125,7 @@ fn held_text<'a>(held: HeldText<'a>, item: usize) -> &'a str
 fn text_of<'a>(nodes: &ConfigNodes<'a>, at: Node) -> &'a str
     ensures { result.now ≡ (tree_of nodes.now).text at }
 {
-    match shaped_entry(nodes, at.table, at.key) {
+    match shaped_entry(nodes.models, nodes.config, at.table, at.key) {
         Some(entry) => held_text(held_at(&entry, at.leaf), at.item),
         None => "",
     }
