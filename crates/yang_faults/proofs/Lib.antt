@@ -5,3 +5,4 @@ pub mod FileSteps
 pub mod Given
 pub mod ModuleSteps
 pub mod Steps
+pub mod FaultFiles
