@@ -1,0 +1,10 @@
+pub mod AtKeys
+pub mod Finding
+pub mod Kept
+pub mod KeptKeys
+pub mod Kinds
+pub mod Names
+pub mod Places
+pub mod Referrers
+pub mod Requireds
+pub mod Wanted

@@ -1,0 +1,5 @@
+-- what only private clauses cite
+pub mod Entries
+pub mod Found
+pub mod Referrers
+pub mod Requireds
