@@ -21,11 +21,11 @@ pub key_found : {A : Type 0} (k : List ℕ) (ps : List (List ℕ × A)) → Cont
 key_found k [] has = absurd (omega (arith, has.1))
 key_found k (p ∷ ps) (zero, below, is) =
     subst (λ b. IsSome (cond b (Some p.1) (find k ps))) (sym (ap (eq_by_cmp name_cmp k) is ∙ tied k)) refl
-key_found k (p ∷ ps) (suc i, below, is) = by (eq_by_cmp name_cmp k p.0)
+key_found k (p ∷ ps) (suc i, below, is) = by (eq_by_cmp name_cmp k p.0) (key_found k ps (i, omega arith, is))
   where
-    by : (b : Bool) → IsSome (cond b (Some p.1) (find k ps))
-    by true = refl
-    by false = key_found k ps (i, omega arith, is)
+    by : (b : Bool) → IsSome (find k ps) → IsSome (cond b (Some p.1) (find k ps))
+    by true rest = refl
+    by false rest = rest
 
 -- what is found has its key among the pairs
 pub found_key : {A : Type 0} (k : List ℕ) (ps : List (List ℕ × A)) → IsSome (find k ps) → Contains (map (λ e. e.0) ps) k

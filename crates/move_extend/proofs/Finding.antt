@@ -48,15 +48,15 @@ module _ {A : Type 0} where
   -- the same is found
   pub finds_as : (P Q : A → Type 0) (xs ys : List A) → ((a : A) → P a ↔ Q a) → Finds P xs ys → Finds Q xs ys
   finds_as P Q xs ys same finds = record {
-    each = λ a h. as (same a) (finds.each a h);
+    each = λ a h. turn (same a) (finds.each a h);
     kept = finds.kept;
     all = λ a q. finds.all a ((same a).1 q);
     once = finds.once;
   }
     where
-      as : {a : A} {p q : Type 0} → p ↔ q → Contains xs a ⊎ p → Contains xs a ⊎ q
-      as e (inl h) = inl h
-      as e (inr p) = inr (e.0 p)
+      turn : {a : A} {p q : Type 0} → p ↔ q → Contains xs a ⊎ p → Contains xs a ⊎ q
+      turn e (inl h) = inl h
+      turn e (inr p) = inr (e.0 p)
 
   -- one after the other
   pub finds_both : (P Q R : A → Type 0) (xs ys zs : List A) → ((a : A) → R a ↔ (P a ⊎ Q a)) → Finds P xs ys → Finds Q ys zs → Finds R xs zs

@@ -14,7 +14,7 @@ use Rattle.move_core.specs.Moves.{place, step}
 use Rattle.move_core.specs.Services.{table_of}
 use Rattle.move_core.specs.declared.moves.Move.{Move}
 use Rattle.move_extend.specs.Entries.{entry_of}
-use Rattle.move_extend.specs.Referrers.{HasKeys, KeepsKey, KeepsKeys}
+use Rattle.move_extend.specs.KeptKeys.{HasKeys, KeepsKey, KeepsKeys}
 use Rattle.move_extend.proofs.AtKeys.{by_key, found_key, key_found, same_entry, second_name}
 
 -- ---- keys and entries

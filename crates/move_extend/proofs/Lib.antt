@@ -2,9 +2,10 @@ pub mod AtKeys
 pub mod Finding
 pub mod Kept
 pub mod KeptKeys
-pub mod Kinds
+pub mod ByKind
+pub mod Named
 pub mod Names
-pub mod Places
 pub mod Referrers
 pub mod Requireds
+pub mod Slots
 pub mod Wanted

@@ -1,20 +1,23 @@
--- The names of a place that is given by positions.
-use Rattle.std.proofs.Common.{◌≡◌, ◌<◌, ◌≤◌, ℕ, zero, suc, List, [], ◌∷◌, map, length, Option, Some, None, option_map, option_and_then, slice_get, IsSome, refl, sym, ap, ◌∙◌, subst, arith}
-use Rattle.std.proofs.lemmas.Option.{none-some, slice_get_within}
-use Rattle.conf_doc.specs.Pairs.{AreNamed}
+-- The names of the place of a want.
+use Rattle.std.proofs.Common.{◌≡◌, ◌<◌, ℕ, List, [], ◌∷◌, length, Option, Some, None, option_map, option_and_then, slice_get, Bor, refl, sym, ap, ◌∙◌, subst, arith}
+use Rattle.std.specs.Option.{option_to_list}
+use Rattle.conf_doc.specs.Paths.{HaveLetters, IsPath}
+use Rattle.conf_doc.specs.WellFormed.{IsConfig, IsEntry, IsTable}
 use Rattle.conf_doc.specs.declared.configuration.Config.{Config}
 use Rattle.conf_doc.specs.declared.configuration.Entry.{Entry}
 use Rattle.conf_doc.specs.declared.configuration.Table.{Table}
+use Rattle.conf_check.specs.Wants.{IsNamed, field_name}
+use Rattle.conf_check.specs.declared.want_iter.WantAt.{WantAt}
 use Rattle.conf_check.specs.declared.want_iter.WantPlace.{WantPlace}
 use Rattle.move_core.specs.Contexts.{field_names, names_of}
 use Rattle.move_core.specs.Moves.{Place}
+use Rattle.move_extend.specs.Referrers.{place_of}
+use Rattle.move_extend.proofs.Named.{name_at, part_at}
 
--- a pair by its two parts
-pub pair_at : {A B : Type 0} (xs : List (A × B)) (i : ℕ) (a : A) (b : B) → slice_get (map (λ p. p.0) xs) i ≡ Some a
-    → slice_get (map (λ p. p.1) xs) i ≡ Some b → slice_get xs i ≡ Some (a, b)
-pair_at [] i a b h k = absurd (none-some a h)
-pair_at (x ∷ xs) zero a b h k = let e : x.0 ≡ a = cc in let f : x.1 ≡ b = cc in λ j. Some (e j, f j)
-pair_at (x ∷ xs) (suc i) a b h k = pair_at xs i a b h k
+same_Some : {A : Type 0} (x y : A) → Some x ≡ Some y → x ≡ y
+same_Some x y e = cc
+
+-- ---- from positions to names
 
 abbrev entry_names : Option ℕ → List ℕ → List ℕ × Entry → Option Place
 entry_names f t e = option_map (λ n. t ∷ e.0 ∷ n) (field_names e.1 f)
@@ -22,65 +25,38 @@ entry_names f t e = option_map (λ n. t ∷ e.0 ∷ n) (field_names e.1 f)
 abbrev table_names : ℕ → Option ℕ → List ℕ × Table → Option Place
 table_names k f t = option_and_then (entry_names f t.0) (slice_get t.1 k)
 
--- what stands at the positions, and its names
-pub names_at : (c : Config) (at : WantPlace) (t k : List ℕ) (entries : Table) (fields : Entry) (ns : Place) → slice_get c at.table ≡ Some (t, entries)
-    → slice_get entries at.key ≡ Some (k, fields) → field_names fields at.field ≡ Some ns → names_of c at ≡ Some (t ∷ k ∷ ns)
-names_at c at t k entries fields ns table key field =
-    ap (option_and_then (table_names at.key at.field)) table
-    ∙ ap (option_and_then (entry_names at.field t)) key
-    ∙ ap (option_map (λ n. t ∷ k ∷ n)) field
-
--- ---- the positions are within
-
-table_there : (o : Option (List ℕ × Table)) (k : ℕ) (f : Option ℕ) → IsSome (option_and_then (table_names k f) o) → IsSome o
-table_there None k f h = h
-table_there (Some t) k f h = refl
-
-entry_there : (o : Option (List ℕ × Entry)) (t : List ℕ) (f : Option ℕ) → IsSome (option_and_then (entry_names f t) o) → IsSome o
-entry_there None t f h = h
-entry_there (Some e) t f h = refl
-
-field_there : (o : Option Place) (t k : List ℕ) → IsSome (option_map (λ n. t ∷ k ∷ n) o) → IsSome o
-field_there None t k h = h
-field_there (Some n) t k h = refl
-
-pub within : {A : Type 0} (xs : List A) (i : ℕ) → IsSome (slice_get xs i) → i < length xs
-within [] i h = absurd cc
-within (x ∷ xs) zero h = omega arith
-within (x ∷ xs) (suc i) h = let rest = within xs i h in omega arith
-
-module _ (c : Config) (at : WantPlace) (some : IsSome (names_of c at)) where
-  pub table_within : at.table < length c
-  table_within = within c at.table (table_there (slice_get c at.table) at.key at.field some)
-
-  module _ (t : List ℕ) (entries : Table) (table : slice_get c at.table ≡ Some (t, entries)) where
-    in_table : IsSome (option_and_then (entry_names at.field t) (slice_get entries at.key))
-    in_table = subst (λ o. IsSome (option_and_then (table_names at.key at.field) o)) table some
-
-    pub key_within : at.key < length entries
-    key_within = within entries at.key (entry_there (slice_get entries at.key) t at.field in_table)
-
-    module _ (k : List ℕ) (fields : Entry) (key : slice_get entries at.key ≡ Some (k, fields)) where
-      in_entry : IsSome (field_names fields at.field)
-      in_entry =
-          field_there (field_names fields at.field) t k (subst (λ o. IsSome (option_and_then (entry_names at.field t) o)) key in_table)
-
-      pub field_within : (f : ℕ) → at.field ≡ Some f → f < length fields
-      field_within f is = within fields f (mapped (slice_get fields f) (subst (λ o. IsSome (field_names fields o)) is in_entry))
-        where
-          mapped : {A B : Type 0} {g : A → B} (o : Option A) → IsSome (option_map g o) → IsSome o
-          mapped None h = h
-          mapped (Some a) h = refl
-
--- ---- names of fields, and names that aren't empty
-
-pub no_field : (fields : Entry) (o : Option ℕ) → o ≡ None → field_names fields o ≡ Some []
-no_field fields o is = ap (field_names fields) is
-
-pub one_field : (fields : Entry) (o : Option ℕ) (f : ℕ) (n : List ℕ) → o ≡ Some f → slice_get (map (λ p. p.0) fields) f ≡ Some n → field_names fields o ≡ Some (n ∷ [])
-one_field fields o f n is at = ap (field_names fields) is ∙ by fields f at
+fields_named : (fields : Entry) (f : Option ℕ) (o : Option (List ℕ)) → field_name fields f ≡ Some o → field_names fields f ≡ Some (option_to_list o)
+fields_named fields None o is = ap (λ n. Some (option_to_list n)) (same_Some None o is)
+fields_named fields (Some i) o is = by (slice_get fields i) is
   where
-    by : {A : Type 0} (ps : List (List ℕ × A)) (i : ℕ) → slice_get (map (λ p. p.0) ps) i ≡ Some n → option_map (λ p. p.0 ∷ []) (slice_get ps i) ≡ Some (n ∷ [])
-    by [] i e = absurd (none-some n e)
-    by (p ∷ ps) zero e = let same : p.0 ≡ n = cc in ap (λ m. Some (m ∷ [])) same
-    by (p ∷ ps) (suc i) e = by ps i e
+    by : {A : Type 0} (p : Option (List ℕ × A)) → option_map (λ q. Some q.0) p ≡ Some o → option_map (λ q. q.0 ∷ []) p ≡ Some (option_to_list o)
+    by None e = cc
+    by (Some q) e = ap (λ n. Some (option_to_list n)) (same_Some (Some q.0) o e)
+
+pub names_named : (c : Config) (p : WantPlace) (a : WantAt) → IsNamed c p a → names_of c p ≡ Some (place_of a)
+names_named c p a named =
+    ap (option_and_then (table_names p.key p.field)) named.entry.at
+    ∙ ap (option_and_then (entry_names p.field a.table.now)) named.entry.at_key
+    ∙ ap (option_map (λ n. a.table.now ∷ a.key.now ∷ n)) (fields_named named.entry.fields p.field (option_map (λ f. f.now) a.field) named.field)
+
+-- ---- none of them is empty
+
+field_letters : (fields : Entry) (f : Option ℕ) (o : Option (List ℕ)) → IsEntry fields → field_name fields f ≡ Some o → HaveLetters (option_to_list o)
+field_letters fields None o well is = subst (λ n. HaveLetters (option_to_list n)) (same_Some None o is) tt
+field_letters fields (Some i) o well is = by (slice_get fields i) refl is
+  where
+    by : (p : Option _) → slice_get fields i ≡ p → option_map (λ q. Some q.0) p ≡ Some o → HaveLetters (option_to_list o)
+    by None at e = cc
+    by (Some q) at e = subst (λ n. HaveLetters (option_to_list n)) (same_Some (Some q.0) o e) (name_at fields i q well.shaped.named at, tt)
+
+few : (t k : List ℕ) (o : Option (List ℕ)) → 0 < length t → 0 < length k → HaveLetters (option_to_list o) → IsPath (t ∷ k ∷ option_to_list o)
+few t k None table key field = record { some = omega arith; few = omega arith; named = (table, (key, tt)) }
+few t k (Some f) table key field = record { some = omega arith; few = omega arith; named = (table, (key, field)) }
+
+pub names_are_path : (c : Config) (p : WantPlace) (a : WantAt) → IsConfig c → IsNamed c p a → IsPath (place_of a)
+names_are_path c p a well named =
+    let entries : IsTable named.entry.entries = part_at IsTable c p.table _ well.parts named.entry.at in
+    let fields : IsEntry named.entry.fields = part_at IsEntry named.entry.entries p.key _ entries.parts named.entry.at_key in
+    few a.table.now a.key.now (option_map (λ f. f.now) a.field) (name_at c p.table _ well.shaped.named named.entry.at)
+    (name_at named.entry.entries p.key _ entries.shaped.named named.entry.at_key)
+    (field_letters named.entry.fields p.field (option_map (λ f. f.now) a.field) fields named.field)

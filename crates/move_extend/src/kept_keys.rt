@@ -3,7 +3,7 @@ ghost use Rattle.std.specs.Prelude.{◌↔◌, map, IsTrue};
 ghost use Rattle.move_core.specs.Contexts.{IsResult};
 ghost use Rattle.move_core.specs.Moves.{place};
 ghost use Rattle.move_core.specs.Services.{table_of};
-ghost use Rattle.move_extend.specs.Referrers.{HasKeys, KeepsKey, KeepsKeys};
+ghost use Rattle.move_extend.specs.KeptKeys.{HasKeys, KeepsKey, KeepsKeys};
 
 use crate::entries::{has_entry, table_of};
 use conf_doc::{Config, Table};

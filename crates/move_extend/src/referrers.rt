@@ -1,17 +1,17 @@
 //! The extender of referrers.
-ghost use Rattle.std.specs.Prelude.{◌≡◌, ◌↔◌, [], IfOk, IsSome, IsTrue, OnOk};
-ghost use Rattle.conf_check.specs.FirstWants.{want_of};
+ghost use Rattle.std.specs.Prelude.{◌≡◌, ◌↔◌, [], IfOk, IsTrue, OnOk};
+ghost use Rattle.conf_check.specs.Wants.{want_of};
+ghost use Rattle.conf_doc.specs.Paths.{IsPath};
 ghost use Rattle.move_core.specs.Appends.{Appends};
-ghost use Rattle.move_core.specs.Contexts.{names_of, rulebook};
+ghost use Rattle.move_core.specs.Contexts.{rulebook};
 ghost use Rattle.move_core.specs.Extensions.{IsReferrer};
 ghost use Rattle.move_core.specs.Moves.{IsDefined};
-ghost use Rattle.move_extend.specs.Found.{Finds};
-ghost use Rattle.move_extend.specs.Referrers.{GivesRemoval, GivesRemovals, IsBroken};
+ghost use Rattle.move_extend.specs.Referrers.{AddsRemoval, GivesRemovals, IsBroken, place_of};
 
 use crate::entries::table_of;
-use crate::found::{add_move, append_moves};
+use crate::found::{add_unless_last, append_moves};
 use crate::kept_keys::keeps_keys;
-use conf_check::{Want, WantPlace, is_satisfied, wants};
+use conf_check::{Want, WantAt, is_satisfied, wants};
 use conf_doc::{Config, Path};
 use host_core::Memory;
 use move_core::{Ctx, Move, MoveExt, Moves, step};
@@ -53,46 +53,41 @@ impl MoveExt for ReferrersExt {
     }
 }
 
-/// The path of the entry or the field where a text stands.
-fn path_of(alloc: Global, config: &Config, at: WantPlace) -> Result<Path, Memory>
-    requires { IsSome (names_of config.now at) }
-    ensures { IfOk result (λ p. names_of config.now at ≡ Some p) }
+/// The path of the entry or the field where a want stands.
+fn path_of(alloc: Global, at: &WantAt) -> Result<Path, Memory>
+    requires { IsPath (place_of at.now) }
+    ensures { IfOk result (λ p. p ≡ place_of at.now) }
 {
-    let entries = config.part_at(at.table);
-    let fields = entries.part_at(at.key);
-    let table = config.name_at(at.table);
-    let key = entries.name_at(at.key);
     match at.field {
-        Some(field) => Path::new(alloc, &[table, key, fields.name_at(field)]),
-        None => Path::new(alloc, &[table, key]),
+        Some(field) => Path::new(alloc, &[at.table, at.key, field]),
+        None => Path::new(alloc, &[at.table, at.key]),
     }
 }
 
-/// Whether a configuration lacks what is wanted in a table.
-fn is_broken(models: &Models, next: &Config, table: &str, want: Want) -> bool
-    ensures { IsTrue result ↔ IsBroken models.now next.now table.now (want_of want) }
+/// Whether a key of a table is wanted that a configuration lacks.
+fn is_broken(models: &Models, next: &Config, table: &str, want: &Want) -> bool
+    ensures { IsTrue result ↔ IsBroken models.now next.now table.now (want_of want.now) }
 {
-    want.target.table.as_str() == table && !is_satisfied(models, next, want.target, want.text)
+    want.table == table && !is_satisfied(models, next, want)
 }
 
-/// Adds the removal of the place of a want that the next configuration doesn't satisfy.
+/// Adds the removal of the place of such a want. The wants of one place stand together, so only the last
+/// removal may be the same.
 fn add_removal(
     alloc: Global,
     models: &Models,
-    cur: &Config,
     next: &Config,
     table: &str,
-    at: WantPlace,
-    want: Want,
+    at: &WantAt,
     found: &mut Moves,
 ) -> Result<(), Memory>
-    requires { IsSome (names_of cur.now at) }
-    ensures { let Gives = GivesRemoval models.now cur.now next.now table.now at (want_of want) in
-        OnOk result (Finds Gives found.old found.new) }
+    requires { IsPath (place_of at.now) }
+    ensures { let Adds = AddsRemoval models.now next.now table.now at.now in
+        OnOk result (Adds found.old found.new) }
 {
-    if is_broken(models, next, table, want) {
-        let path = path_of(alloc, cur, at)?;
-        add_move(found, Move::Remove(path))
+    if is_broken(models, next, table, &at.want) {
+        let path = path_of(alloc, at)?;
+        add_unless_last(found, Move::Remove(path))
     } else {
         Ok(())
     }
@@ -109,9 +104,10 @@ fn broken_wants(
     ensures { let Gives = GivesRemovals models.now cur.now next.now table.now in
         IfOk result (Appends Gives []) }
 {
+    let _tables = cur.len();
     let mut found = Moves::new(alloc);
-    for (at, want) in wants(models, cur) {
-        add_removal(alloc, models, cur, next, table, at, want, &mut found)?;
+    for at in wants(models, cur) {
+        add_removal(alloc, models, next, table, &at, &mut found)?;
     }
     Ok(found)
 }

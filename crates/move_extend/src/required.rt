@@ -56,13 +56,13 @@ impl MoveExt for RequiredExt {
 /// Adds the move that gives a rule's field its required value at a key, where it has another there.
 fn add_value(
     alloc: Global,
-    change: Change,
+    change: &Change,
     rule: &Required,
     key: &str,
     found: &mut Moves,
 ) -> Result<(), Memory>
     requires { HasRequiredNames rule.now }
-    ensures { let Gives = GivesValue change rule.now key.now in
+    ensures { let Gives = GivesValue change.now rule.now key.now in
         OnOk result (Finds Gives found.old found.new) }
 {
     if lacks_value(change, rule, key) {
@@ -75,14 +75,14 @@ fn add_value(
 /// The same for the entry that a key names, where the requiring place at this key changes.
 fn add_at(
     alloc: Global,
-    change: Change,
+    change: &Change,
     rule: &Required,
     requiring: &Requiring,
     key: &str,
     found: &mut Moves,
 ) -> Result<(), Memory>
     requires { HasRequiredNames rule.now }
-    ensures { let Gives = GivesAt change rule.now key.now requiring.now in
+    ensures { let Gives = GivesAt change.now rule.now key.now requiring.now in
         OnOk result (Finds Gives found.old found.new) }
 {
     if !differs(change, requiring, key) {
@@ -97,7 +97,7 @@ fn add_at(
 /// The same where the requiring place is in a table.
 fn add_in(
     alloc: Global,
-    change: Change,
+    change: &Change,
     table: &str,
     rule: &Required,
     requiring: &Requiring,
@@ -105,7 +105,7 @@ fn add_in(
     found: &mut Moves,
 ) -> Result<(), Memory>
     requires { HasRequiredNames rule.now }
-    ensures { let Gives = GivesIn change table.now rule.now key.now requiring.now in
+    ensures { let Gives = GivesIn change.now table.now rule.now key.now requiring.now in
         OnOk result (Finds Gives found.old found.new) }
 {
     if requiring.table.as_str() == table {
@@ -118,7 +118,7 @@ fn add_in(
 /// The same of each of some requiring places of a rule.
 fn add_each(
     alloc: Global,
-    change: Change,
+    change: &Change,
     table: &str,
     rule: &Required,
     places: &[Requiring],
@@ -126,7 +126,7 @@ fn add_each(
     found: &mut Moves,
 ) -> Result<(), Memory>
     requires { HasRequiredNames rule.now }
-    ensures { let Gives = GivenByOne (GivesIn change table.now rule.now key.now) places.now in
+    ensures { let Gives = GivenByOne (GivesIn change.now table.now rule.now key.now) places.now in
         OnOk result (Finds Gives found.old found.new) }
 {
     for requiring in places {
@@ -138,14 +138,14 @@ fn add_each(
 /// The same of the requiring places of each rule.
 fn add_rules(
     alloc: Global,
-    change: Change,
+    change: &Change,
     rules: &[Required],
     table: &str,
     key: &str,
     found: &mut Moves,
 ) -> Result<(), Memory>
     requires { All HasRequiredNames rules.now }
-    ensures { let Gives = RulesGive change rules.now table.now key.now in
+    ensures { let Gives = RulesGive change.now rules.now table.now key.now in
         OnOk result (Finds Gives found.old found.new) }
 {
     for rule in rules {
@@ -157,14 +157,14 @@ fn add_rules(
 /// The same at each key of a table.
 fn add_keys(
     alloc: Global,
-    change: Change,
+    change: &Change,
     rules: &[Required],
     table: &str,
     entries: &Table,
     found: &mut Moves,
 ) -> Result<(), Memory>
     requires { All HasRequiredNames rules.now }
-    ensures { let Gives = TableGives change rules.now table.now (Some entries.now) in
+    ensures { let Gives = TableGives change.now rules.now table.now (Some entries.now) in
         OnOk result (Finds Gives found.old found.new) }
 {
     for i in 0..entries.len() {
@@ -176,14 +176,14 @@ fn add_keys(
 /// The same at each key of a table of one of the two configurations.
 fn add_table(
     alloc: Global,
-    change: Change,
+    change: &Change,
     rules: &[Required],
     table: &str,
     of: &Config,
     found: &mut Moves,
 ) -> Result<(), Memory>
     requires { All HasRequiredNames rules.now }
-    ensures { let Gives = TableGives change rules.now table.now (find table.now of.now) in
+    ensures { let Gives = TableGives change.now rules.now table.now (find table.now of.now) in
         OnOk result (Finds Gives found.old found.new) }
 {
     match of.table(table) {
@@ -210,10 +210,10 @@ fn values_of(alloc: Global, ctx: &Ctx, cur: &Config, mv: &Move) -> Result<Moves,
     let table = table_of(mv);
     let mut found = Moves::new(alloc);
     if place.len() > 1 {
-        add_rules(alloc, change, rules, table, place.name_at(1), &mut found)?;
+        add_rules(alloc, &change, rules, table, place.name_at(1), &mut found)?;
     } else {
-        add_table(alloc, change, rules, table, cur, &mut found)?;
-        add_table(alloc, change, rules, table, &next, &mut found)?;
+        add_table(alloc, &change, rules, table, cur, &mut found)?;
+        add_table(alloc, &change, rules, table, &next, &mut found)?;
     }
     Ok(found)
 }

@@ -1,6 +1,8 @@
 //! Required values: what has them, what requires them, and the move that gives one.
-ghost use Rattle.std.specs.Prelude.{◌≡◌, ◌↔◌, ◌<◌, length, IfOk, IsTrue};
-ghost use Rattle.move_core.specs.Extensions.{HasRequired, put_value, required_part, rule_field};
+ghost use Rattle.std.specs.Prelude.{◌≡◌, ◌↔◌, IfOk, IsTrue};
+ghost use Rattle.conf_doc.specs.Changes.{HasPlace};
+ghost use Rattle.move_core.specs.Extensions.{HasRequired, put_value, required_part, rule_entry, rule_field};
+ghost use Rattle.move_core.specs.Named.{HasRequiredNames};
 ghost use Rattle.move_extend.specs.Requireds.{Differs, LacksValue};
 
 use crate::changes::Change;
@@ -22,8 +24,8 @@ fn has_required(rule: &Required, key: &str, config: &Config) -> bool
 }
 
 /// Whether a requiring place at a key changes.
-pub(crate) fn differs(change: Change, requiring: &Requiring, key: &str) -> bool
-    ensures { IsTrue result ↔ Differs change requiring.now key.now }
+pub(crate) fn differs(change: &Change, requiring: &Requiring, key: &str) -> bool
+    ensures { IsTrue result ↔ Differs change.now requiring.now key.now }
 {
     let table = requiring.table.as_str();
     match &requiring.field {
@@ -33,8 +35,8 @@ pub(crate) fn differs(change: Change, requiring: &Requiring, key: &str) -> bool
 }
 
 /// Whether a rule's field is to get its required value at a key, where what requires it changes.
-pub(crate) fn lacks_value(change: Change, rule: &Required, key: &str) -> bool
-    ensures { IsTrue result ↔ LacksValue change rule.now key.now }
+pub(crate) fn lacks_value(change: &Change, rule: &Required, key: &str) -> bool
+    ensures { IsTrue result ↔ LacksValue change.now rule.now key.now }
 {
     let table = rule.table.as_str();
     change.models.modelled(table)
@@ -50,12 +52,12 @@ pub(crate) fn put_value(
     key: &str,
     cur: &Config,
 ) -> Result<Move, Memory>
-    requires table { 0 < length rule.now.table }
-    requires field { 0 < length rule.now.field }
-    requires key { 0 < length key.now }
+    requires named { HasRequiredNames rule.now }
+    requires entry { HasPlace cur.now (rule_entry rule.now key.now) }
     ensures { let at = rule_field rule.now key.now in
         IfOk result (λ m. m ≡ put_value cur.now at (required_part rule.now)) }
 {
+    let _tables = cur.len();
     let table = rule.table.as_str();
     let field = rule.field.as_str();
     let path = Path::new(alloc, &[table, key, field])?;
