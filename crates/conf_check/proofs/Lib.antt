@@ -1,6 +1,8 @@
 mod Belonged
 mod Breaches
 mod Coming
+mod Entries
+mod EntryBreaches
 mod EntryFaults
 mod EntryNodes
 mod FalseMusts
@@ -17,6 +19,9 @@ mod Searches
 mod Shaped
 mod ShapedEntries
 mod TreeNodes
+mod WantOrder
 mod WantPlaces
 mod WantSlots
 mod WantSteps
+mod WantsAhead
+mod WantsOnce

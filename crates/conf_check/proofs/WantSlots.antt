@@ -2,18 +2,19 @@
 use Rattle.std.proofs.Common.{◌≡◌, ◌<◌, ◌≤◌, ◌+◌, ℕ, List, Option, Some, None, length, slice_get, option_map, refl, sym, ap, subst, inl, inr, arith}
 use Rattle.std.proofs.lemmas.Bool.{cases_lt}
 use Rattle.std.proofs.lemmas.Option.{slice_get_past}
+use denote.Ref.{Bor}
 use Rattle.conf_doc.specs.declared.configuration.Config.{Config}
 use Rattle.conf_doc.specs.declared.configuration.Entry.{Entry}
 use Rattle.conf_doc.specs.declared.configuration.Value.{Value}
 use Rattle.yang_model.specs.ModelSets.{ModelSet}
 use Rattle.yang_model.specs.declared.shapes.Shape.{Shape}
 use Rattle.yang_types.specs.DataType.{DataType}
-use Rattle.conf_check.specs.FirstWants.{want_of, IsFirstFrom, IsWantedItemOf, IsWantedPart, IsWantedSlot, IsSlotFrom, IsSlotBefore, IsFirstInFields, IsTextBefore, IsFirstText, IsWantedIn, item_of}
+use Rattle.conf_check.specs.FirstWants.{IsFirstFrom, IsWantedItemOf, IsWantedPart, IsWantedSlot, IsSlotFrom, IsSlotBefore, IsFirstInFields, IsTextBefore, IsFirstText, IsWantedIn, item_of}
 use Rattle.conf_check.specs.Rows.{Row, typed_item}
-use Rattle.conf_check.specs.Wants.{Want, IsWantedText}
-use Rattle.conf_check.specs.declared.want_iter.FieldWant.{FieldWant}
-use Rattle.conf_check.specs.declared.want_iter.ItemWant.{ItemWant}
-use Rattle.conf_check.specs.declared.want_iter.SlotWant.{SlotWant}
+use Rattle.conf_check.specs.Wants.{Want, want_of, IsWantedText}
+use Rattle.conf_check.specs.declared.first_wants.FieldWant.{FieldWant}
+use Rattle.conf_check.specs.declared.first_wants.ItemWant.{ItemWant}
+use Rattle.conf_check.specs.declared.first_wants.SlotWant.{SlotWant}
 
 module _ (models : ModelSet) (config : Config) (shape : Shape) (fields : Entry) (from item : ℕ) where
   abbrev pub NoneBefore : ℕ → Type 0
@@ -53,10 +54,10 @@ module _ (models : ModelSet) (config : Config) (shape : Shape) (fields : Entry) 
   pub begin_next : (f : ℕ) → from ≤ f → BeginsWith (f + 1) 0
   begin_next f ge = record { to = λ j h. omega arith; back = λ j h. inl (omega arith) }
 
-  pub fields_here : (f first : ℕ) (field : List ℕ × Value) (a : ItemWant) → slice_get fields f ≡ Some field → NoneBefore f → BeginsWith f first
+  pub fields_here : (f first : ℕ) (field : List ℕ × Value) (name : Bor (List ℕ)) (a : ItemWant) → slice_get fields f ≡ Some field → NoneBefore f → BeginsWith f first
       → IsFirstFrom (IsWantedItemOf models config shape field.0 field.1) first (Some a)
-      → IsFirstInFields models config shape fields from item (Some (record { field = f; item = a.item; want = a.want }))
-  fields_here f first field a at none begins found = (
+      → IsFirstInFields models config shape fields from item (Some (record { field = f; name = name; item = a.item; want = a.want }))
+  fields_here f first field name a at none begins found = (
     begins.back a.item found.0,
     to_slot f field a.item (want_of a.want) at found.1,
     λ g i w h before wanted.
@@ -136,7 +137,7 @@ module _ (models : ModelSet) (config : Config) (shape : Shape) (row : Row) where
 
   -- from a field on
   pub from_field_some : (f item : ℕ) (a : FieldWant) → IsFirstInFields models config shape row.fields f item (Some a)
-      → IsFirstText W (Some f) item (Some (record { field = Some a.field; item = a.item; want = a.want }))
+      → IsFirstText W (Some f) item (Some (record { field = Some a.field; name = Some a.name; item = a.item; want = a.want }))
   from_field_some f item a first = (
     to_text a.field a.item f item first.0,
     first.1,
@@ -153,7 +154,7 @@ module _ (models : ModelSet) (config : Config) (shape : Shape) (row : Row) where
 
   -- a part of the key
   pub from_part : (item : ℕ) (a : ItemWant) → IsFirstFrom (IsWantedPart models config shape row.key) item (Some a)
-      → IsFirstText W None item (Some (record { field = None; item = a.item; want = a.want }))
+      → IsFirstText W None item (Some (record { field = None; name = None; item = a.item; want = a.want }))
   from_part item a first = (part_from, first.1, λ g i w. before g i w)
     where
       part_from : ¬ IsTextBefore None a.item None item

@@ -9,11 +9,11 @@ use Rattle.yang_model.specs.declared.shapes.FieldRule.{FieldRule}
 use Rattle.yang_model.specs.declared.shapes.Shape.{Shape}
 use Rattle.yang_types.specs.DataType.{DataType}
 use Rattle.yang_types.specs.DataTypes.{data_type}
-use Rattle.conf_check.specs.FirstWants.{want_of, IsWantOf, IsFirstFrom, IsWantedItem, item_of}
+use Rattle.conf_check.specs.FirstWants.{IsWantOf, IsFirstFrom, IsWantedItem, item_of}
 use Rattle.conf_check.specs.Rows.{rule_of, texts_by_kind, typed_texts}
-use Rattle.conf_check.specs.Wants.{Want, IsWantedText}
+use Rattle.conf_check.specs.Wants.{Want, want_of, IsWantedText}
 use Rattle.conf_check.specs.declared.want_iter.Want.{Want as LentWant}
-use Rattle.conf_check.specs.declared.want_iter.ItemWant.{ItemWant}
+use Rattle.conf_check.specs.declared.first_wants.ItemWant.{ItemWant}
 
 module _ (W : ℕ → Want → Type 0) (from : ℕ) where
   abbrev pub NoneBefore : ℕ → Type 0

@@ -105,3 +105,7 @@ IsFirstOfTable models config table answer =
     MatchOption answer
     ((b : Breach) → b.table ≡ table → ¬ IsBreach models config b)
     (IsFirstInTable models config table)
+
+-- what an entry breaks, with its place
+abbrev pub breach_at : ℕ → ℕ → Fault → Breach
+breach_at table key f = record { table = table; key = key; rule = f.rule; field = f.field }

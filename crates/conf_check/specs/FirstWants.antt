@@ -1,5 +1,5 @@
 -- What is first among wants, from a place on.
-use Rattle.std.specs.Prelude.{◌≡◌, ◌⊎◌, ◌<◌, ◌≤◌, ℕ, List, Option, Some, MatchOption, option_map, option_and_then, slice_get}
+use Rattle.std.specs.Prelude.{◌≡◌, ◌⊎◌, ◌<◌, ◌≤◌, ℕ, List, Option, Some, None, MatchOption, option_map, option_and_then, slice_get}
 use denote.Ref.{Bor}
 use Rattle.conf_doc.specs.declared.configuration.Config.{Config}
 use Rattle.conf_doc.specs.declared.configuration.Entry.{Entry}
@@ -8,16 +8,13 @@ use Rattle.yang_model.specs.ModelSets.{ModelSet}
 use Rattle.yang_model.specs.declared.shapes.Shape.{Shape}
 use Rattle.yang_types.specs.DataType.{DataType}
 use Rattle.conf_check.specs.Rows.{Row, HasShape, typed_part, typed_item, typed_text, texts_of}
-use Rattle.conf_check.specs.Wants.{Want, IsWantedText, IsWantAt, IsFieldBefore, IsPlaceBefore}
+use Rattle.conf_check.specs.Wants.{Want, want_of, field_name, IsWantedText, IsWantAt, IsFieldBefore, IsPlaceBefore}
 use Rattle.conf_check.specs.declared.want_iter.Want.{Want as LentWant}
-use Rattle.conf_check.specs.declared.want_iter.FieldWant.{FieldWant}
-use Rattle.conf_check.specs.declared.want_iter.ItemWant.{ItemWant}
-use Rattle.conf_check.specs.declared.want_iter.SlotWant.{SlotWant}
+use Rattle.conf_check.specs.declared.first_wants.FieldWant.{FieldWant}
+use Rattle.conf_check.specs.declared.first_wants.ItemWant.{ItemWant}
+use Rattle.conf_check.specs.declared.first_wants.SlotWant.{SlotWant}
+use Rattle.conf_check.specs.declared.want_iter.WantAt.{WantAt}
 use Rattle.conf_check.specs.declared.want_iter.WantPlace.{WantPlace}
-
--- a want without its borrows
-abbrev pub want_of : LentWant → Want
-want_of w = record { target = w.target.now; text = w.text.now }
 
 -- the answer is the want of a text by its type, or None where it has none
 abbrev pub IsWantOf : ModelSet → Config → Option (DataType × List ℕ) → Option LentWant → Type 0
@@ -111,11 +108,34 @@ pub record IsWantedAt (models : ModelSet) (config : Config) (row : Row) (field :
   pub shaped : HasShape models row shape
   pub wanted : IsWantedIn models config shape row field i w
 
+-- the place where an entry begins
+abbrev pub start_of : ℕ → ℕ → WantPlace
+start_of table key = record { table = table; key = key; field = None; item = 0 }
+
 -- the answer is the first want of a configuration from a place on
-abbrev pub IsFirstWant : ModelSet → Config → WantPlace → Option (WantPlace × LentWant) → Type 0
+abbrev pub IsFirstWant : ModelSet → Config → WantPlace → Option (WantPlace × WantAt) → Type 0
 IsFirstWant models config from answer =
     MatchOption answer
     ((p : WantPlace) (w : Want) → ¬ IsPlaceBefore p from → ¬ IsWantAt models config p w)
-    (λ a. (¬ IsPlaceBefore a.0 from) × IsWantAt models config a.0 (want_of a.1)
+    (λ a. (¬ IsPlaceBefore a.0 from) × IsWantAt models config a.0 (want_of a.1.want)
     × ((p : WantPlace) (w : Want) → ¬ IsPlaceBefore p from → IsPlaceBefore p a.0
     → ¬ IsWantAt models config p w))
+
+-- two places of one entry
+abbrev pub AreOfOneEntry : WantPlace → WantPlace → Type 0
+AreOfOneEntry a b = (a.table ≡ b.table) × (a.key ≡ b.key)
+
+-- the answer is the first want of the entry at a place, from that place on
+abbrev pub IsFirstOfEntry : ModelSet → Config → WantPlace → Option (WantPlace × WantAt) → Type 0
+IsFirstOfEntry models config from answer =
+    MatchOption answer
+    ((p : WantPlace) (w : Want) → AreOfOneEntry p from → ¬ IsPlaceBefore p from
+    → ¬ IsWantAt models config p w)
+    (λ a. AreOfOneEntry a.0 from × (¬ IsPlaceBefore a.0 from)
+    × IsWantAt models config a.0 (want_of a.1.want)
+    × ((p : WantPlace) (w : Want) → AreOfOneEntry p from → ¬ IsPlaceBefore p from
+    → IsPlaceBefore p a.0 → ¬ IsWantAt models config p w))
+
+-- the field of an entry has that position and that name
+abbrev pub IsFieldNamed : Entry → Option ℕ → Option (Bor (List ℕ)) → Type 0
+IsFieldNamed fields field name = field_name fields field ≡ Some (option_map (λ s. s.now) name)

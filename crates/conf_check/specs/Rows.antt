@@ -1,5 +1,5 @@
 -- The entries of tables that have models: their shapes, and the texts that they hold.
-use Rattle.std.specs.Prelude.{◌≡◌, ℕ, Bool, true, false, List, [], ◌∷◌, Option, Some, None, option_map, option_and_then, slice_get, is_some, IsSomeAnd, if◌then◌else◌}
+use Rattle.std.specs.Prelude.{◌≡◌, ◌↔◌, ℕ, Bool, true, false, List, [], ◌∷◌, Option, Some, None, option_map, option_and_then, slice_get, is_some, IsSomeAnd, MatchOption, if◌then◌else◌}
 use Rattle.std.specs.List.{find, list_any}
 use Rattle.std.specs.Str.{bytes_eq}
 use Rattle.conf_doc.specs.declared.configuration.Config.{Config}
@@ -35,6 +35,20 @@ row_at models config table key =
     option_and_then
     (λ t. option_map (λ e. record { table = t.0; key = e.0; fields = e.1 }) (slice_get t.1 key))
     (option_and_then (if_modelled models) (slice_get config table))
+
+-- the entry of that key of the table of that name stands at those positions
+pub record IsEntryAt (config : Config) (table key : List ℕ) (t k : ℕ) : Type 0 where
+  pub entries : Table
+  pub at : slice_get config t ≡ Some (table, entries)
+  pub fields : Entry
+  pub at_key : slice_get entries k ≡ Some (key, fields)
+
+-- the answer is where that entry stands, None where it isn't there
+abbrev pub IsPlaceOfEntry : Config → List ℕ → List ℕ → Option (ℕ × ℕ) → Type 0
+IsPlaceOfEntry config table key answer =
+    MatchOption answer
+    ((t k : ℕ) → ¬ IsEntryAt config table key t k)
+    (λ at. (t k : ℕ) → IsEntryAt config table key t k ↔ (t ≡ at.0) × (k ≡ at.1))
 
 -- the table at a place has a model
 abbrev pub IsModelledAt : ModelSet → Config → ℕ → Type 0

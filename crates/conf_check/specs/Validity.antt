@@ -17,7 +17,7 @@ use Rattle.yang_types.specs.DataType.{DataType}
 use Rattle.conf_check.specs.Acceptance.{AcceptsIn}
 use Rattle.conf_check.specs.Belongings.{Belongings, AreBelongings}
 use Rattle.conf_check.specs.ConfigTree.{node_tree, entry_node}
-use Rattle.conf_check.specs.Rows.{Row, row_at, HasNoShape, HasShape, rule_of, texts_by_kind, typed_part, texts_of}
+use Rattle.conf_check.specs.Rows.{Row, row_at, HasNoShape, HasShape, IsEntryAt, rule_of, texts_by_kind, typed_part, texts_of}
 use Rattle.conf_check.specs.declared.violations.Rule.{Rule}
 use Rattle.conf_check.specs.declared.violations.Rule.TheVariants.{KeyShape, KeyReference, UnknownField, WrongKind, BadValue, DuplicateItem, MissingField, Must}
 use Rattle.conf_check.specs.declared.violations.Violation.{Violation}
@@ -168,3 +168,21 @@ pub record IsFirstViolation (models : ModelSet) (config : Config) (v : Violation
   pub is : v ≡ violation_of breach
   pub broken : IsBreach models config breach
   pub first : (a : Breach) → IsBreachBefore a breach → ¬ IsBreach models config a
+
+-- the entry of that key of the table of that name breaks the rule
+pub record IsBreachAt (models : ModelSet) (config : Config) (table key : List ℕ)
+    (b : Breach) : Type 0 where
+  pub entry : IsEntryAt config table key b.table b.key
+  pub broken : IsBreach models config b
+
+-- an entry with no violation
+abbrev pub IsValidAt : ModelSet → Config → List ℕ → List ℕ → Type 0
+IsValidAt models config table key = (b : Breach) → ¬ IsBreachAt models config table key b
+
+-- the first violation of an entry
+pub record IsFirstViolationAt (models : ModelSet) (config : Config) (table key : List ℕ)
+    (v : Violation) : Type 0 where
+  pub breach : Breach
+  pub is : v ≡ violation_of breach
+  pub broken : IsBreachAt models config table key breach
+  pub first : (a : Breach) → IsBreachBefore a breach → ¬ IsBreachAt models config table key a

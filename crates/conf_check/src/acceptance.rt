@@ -2,11 +2,13 @@
 ghost use Rattle.std.specs.Prelude.{◌≡◌, ◌↔◌, IsTrue, Some};
 ghost use Rattle.conf_check.specs.Acceptance.{IsSatisfied};
 ghost use Rattle.conf_check.specs.Verdicts.{IsVerdict, IsVerdictOfAny, HasPart, IsMet};
+ghost use Rattle.conf_check.specs.Wants.{want_of};
 ghost use Rattle.yang_model.specs.Belongs.{Belongs};
 ghost use Rattle.yang_model.specs.ModelSets.{shapes_of};
 ghost use Rattle.yang_types.specs.DataType.{types_of};
 ghost use Rattle.yang_types.specs.DataTypes.{data_type};
 
+use crate::want_iter::Want;
 use conf_doc::{Config, Table};
 use key_split::KeyView;
 use yang_model::Models;
@@ -24,49 +26,52 @@ pub(crate) enum Verdict<'a> {
 
 /// Whether an entry of the wanted shape has a text as the wanted part of its key. It takes no memory. Where
 /// the part is the first of its key only the keys are looked at that begin with the text.
-pub fn is_satisfied(models: &Models, config: &Config, target: &Target, text: &str) -> bool
-    ensures { IsTrue result ↔ IsSatisfied models.now config.now target.now text.now }
+pub fn is_satisfied(models: &Models, config: &Config, want: &Want) -> bool
+    ensures { let wanted = want_of want.now in
+        IsTrue result ↔ IsSatisfied models.now config.now wanted.target wanted.text }
 {
-    match config.table(target.table.as_str()) {
+    match config.table(want.table) {
         None => false,
         Some(table) => {
-            if target.part == 0 {
-                has_first_part(models, table, target, text)
+            if want.part == 0 {
+                has_first_part(models, table, want)
             } else {
-                has_part(models, table, target, text)
+                has_part(models, table, want)
             }
         }
     }
 }
 
 /// Whether a key belongs to the wanted shape.
-fn is_of_shape(models: &Models, target: &Target, key: &KeyView) -> bool
-    ensures { let shapes = shapes_of target.now.table models.now in
-        IsTrue result ↔ Belongs shapes key.now (Some target.now.shape) }
+fn is_of_shape(models: &Models, want: &Want, key: &KeyView) -> bool
+    ensures { let shapes = shapes_of want.now.table.now models.now in
+        IsTrue result ↔ Belongs shapes key.now (Some want.now.shape) }
 {
-    match models.list_of(target.table.as_str(), key) {
-        Some(shape) => shape == target.shape,
+    match models.list_of(want.table, key) {
+        Some(shape) => shape == want.shape,
         None => false,
     }
 }
 
 /// Whether a key has the text as the wanted part and belongs to the wanted shape.
-fn is_met(models: &Models, target: &Target, text: &str, key: &str) -> bool
-    ensures { IsTrue result ↔ IsMet models.now target.now text.now key.now }
+fn is_met(models: &Models, want: &Want, key: &str) -> bool
+    ensures { let wanted = want_of want.now in
+        IsTrue result ↔ IsMet models.now wanted.target wanted.text key.now }
 {
     let view = KeyView::new(key);
-    match view.part(target.part as usize) {
-        Some(part) => part == text && is_of_shape(models, target, &view),
+    match view.part(want.part as usize) {
+        Some(part) => part == want.text && is_of_shape(models, want, &view),
         None => false,
     }
 }
 
 /// Whether a key of a table has the text as the wanted part and belongs to the wanted shape.
-fn has_part(models: &Models, table: &Table, target: &Target, text: &str) -> bool
-    ensures { IsTrue result ↔ HasPart models.now table.now target.now text.now }
+fn has_part(models: &Models, table: &Table, want: &Want) -> bool
+    ensures { let wanted = want_of want.now in
+        IsTrue result ↔ HasPart models.now table.now wanted.target wanted.text }
 {
     for i in 0..table.len() {
-        if is_met(models, target, text, table.name_at(i)) {
+        if is_met(models, want, table.name_at(i)) {
             return true;
         }
     }
@@ -74,16 +79,17 @@ fn has_part(models: &Models, table: &Table, target: &Target, text: &str) -> bool
 }
 
 /// The same for the first part of the key.
-fn has_first_part(models: &Models, table: &Table, target: &Target, text: &str) -> bool
-    requires { target.now.part ≡ 0 }
-    ensures { IsTrue result ↔ HasPart models.now table.now target.now text.now }
+fn has_first_part(models: &Models, table: &Table, want: &Want) -> bool
+    requires { want.now.part ≡ 0 }
+    ensures { let wanted = want_of want.now in
+        IsTrue result ↔ HasPart models.now table.now wanted.target wanted.text }
 {
-    for i in table.first_from(text)..table.len() {
+    for i in table.first_from(want.text)..table.len() {
         let key = table.name_at(i);
-        if !key.starts_with(text) {
+        if !key.starts_with(want.text) {
             return false;
         }
-        if is_met(models, target, text, key) {
+        if is_met(models, want, key) {
             return true;
         }
     }
@@ -97,7 +103,8 @@ pub(crate) fn judge<'a>(models: &Models, config: &Config, ty: &'a Ty, text: &str
 {
     match ty {
         Ty::Ref(target, inner) => {
-            if accepts_plain(inner.ty(), text) && is_satisfied(models, config, target, text) {
+            let want = Want::new(target, text);
+            if accepts_plain(inner.ty(), text) && is_satisfied(models, config, &want) {
                 Verdict::Wanted(target)
             } else {
                 Verdict::Refused

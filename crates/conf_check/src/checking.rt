@@ -1,14 +1,15 @@
 //! Whether a configuration is valid by its models (RFC 7950, section 8.1).
 ghost use Rattle.std.specs.Prelude.{◌≡◌, ◌<◌, length, true, is_some, slice_get, Some, MatchResult};
-ghost use Rattle.conf_check.specs.Faults.{IsFirstFault, IsFirstOfTable};
+ghost use Rattle.conf_check.specs.Faults.{IsFirstFault, IsFirstOfTable, breach_at};
 ghost use Rattle.conf_check.specs.NodeTrees.{HasModule, row_of_entry};
 ghost use Rattle.conf_check.specs.Rows.{Row, row_at, IsModelledAt};
-ghost use Rattle.conf_check.specs.Validity.{Breaks, BreaksShape, IsFirstViolation, IsValid};
+ghost use Rattle.conf_check.specs.Validity.{Breaks, BreaksShape, IsFirstViolation, IsFirstViolationAt, IsValid, IsValidAt, violation_of};
 
 use crate::config_nodes::{ConfigNodes, nodes_of};
 use crate::faults::{Fault, first_missing, first_of_fields, first_refused_part};
 use crate::leaves::{ShapedEntry, shaped_entry};
 use crate::musts::first_false_must;
+use crate::name_places::place_of_entry;
 use crate::violations::{Rule, Violation};
 use conf_doc::Config;
 use yang_model::Models;
@@ -64,6 +65,18 @@ fn first_of_entry(nodes: &ConfigNodes, table: usize, key: usize) -> Option<Fault
     }
 }
 
+/// What an entry breaks, as a violation at its place.
+fn violation_at(table: usize, key: usize, fault: Fault) -> Violation
+    ensures { result ≡ violation_of (breach_at table key fault) }
+{
+    Violation {
+        table,
+        key,
+        field: fault.field,
+        rule: fault.rule.number(),
+    }
+}
+
 /// The first violation in a table that has a model, key by key.
 fn first_of_keys(nodes: &ConfigNodes, table: usize) -> Option<Violation>
     requires within { table < length nodes.now.config.now }
@@ -72,12 +85,7 @@ fn first_of_keys(nodes: &ConfigNodes, table: usize) -> Option<Violation>
 {
     for key in 0..nodes.config.part_at(table).len() {
         if let Some(fault) = first_of_entry(nodes, table, key) {
-            return Some(Violation {
-                table,
-                key,
-                field: fault.field,
-                rule: fault.rule.number(),
-            });
+            return Some(violation_at(table, key, fault));
         }
     }
     None
@@ -109,4 +117,30 @@ pub fn check(models: &Models, config: &Config) -> Result<(), Violation>
         }
     }
     Ok(())
+}
+
+/// The same for the entry of a key of a table alone: Ok where it breaks no rule, else the first that it
+/// breaks. It takes no memory. An entry that isn't there breaks none, nor does one of a table without a
+/// model.
+pub fn check_entry(
+    models: &Models,
+    config: &Config,
+    table: &str,
+    key: &str,
+) -> Result<(), Violation>
+    ensures { MatchResult result
+        (λ _. IsValidAt models.now config.now table.now key.now)
+        (IsFirstViolationAt models.now config.now table.now key.now) }
+{
+    let place = place_of_entry(config, table, key);
+    let Some((at_table, at_key)) = place else {
+        return Ok(());
+    };
+    if !models.modelled(table) {
+        return Ok(());
+    }
+    match first_of_entry(&nodes_of(models, config), at_table, at_key) {
+        Some(fault) => Err(violation_at(at_table, at_key, fault)),
+        None => Ok(()),
+    }
 }

@@ -7,6 +7,7 @@ mod checking;
 mod children;
 mod config_nodes;
 mod faults;
+mod first_wants;
 mod leaves;
 mod musts;
 mod name_places;
@@ -18,6 +19,6 @@ mod want_iter;
 
 pub use acceptance::is_satisfied;
 pub use belongings::belongings_are_one;
-pub use checking::check;
+pub use checking::{check, check_entry};
 pub use violations::{Rule, Violation};
-pub use want_iter::{Want, WantIter, WantPlace, wants};
+pub use want_iter::{Want, WantAt, WantIter, WantPlace, entry_wants, wants};

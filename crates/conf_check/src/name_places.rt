@@ -1,11 +1,12 @@
-//! Where names stand: of modules, of tables, and of the leaves of a shape.
+//! Where names stand: of modules, of tables and entries, and of the leaves of a shape.
 ghost use Rattle.std.specs.Prelude.{◌≡◌, ◌++◌, map};
 ghost use Rattle.std.specs.List.{position};
 ghost use Rattle.std.specs.Str.{bytes_eq};
 ghost use Rattle.conf_check.specs.ConfigTree.{leaf_names};
+ghost use Rattle.conf_check.specs.Rows.{IsPlaceOfEntry};
 ghost use Rattle.yang_model.specs.Names.{place_of_name};
 
-use conf_doc::Config;
+use conf_doc::{Config, Table};
 use host_core::Txt;
 use yang_model::{FieldRule, KeyLeaf, Shape};
 
@@ -26,6 +27,27 @@ pub(crate) fn place_of_table(config: &Config, name: &str) -> Option<usize>
     } else {
         None
     }
+}
+
+/// The place of the entry of a key in a table.
+fn place_in_table(table: &Table, key: &str) -> Option<usize>
+    ensures { result ≡ place_of_name key.now (map (λ e. e.0) table.now) }
+{
+    let i = table.first_from(key);
+    if i < table.len() && table.name_at(i) == key {
+        Some(i)
+    } else {
+        None
+    }
+}
+
+/// The places of the table of a name and of the entry of a key in it.
+pub(crate) fn place_of_entry(config: &Config, table: &str, key: &str) -> Option<(usize, usize)>
+    ensures { IsPlaceOfEntry config.now table.now key.now result }
+{
+    let at = place_of_table(config, table)?;
+    let entry = place_in_table(config.part_at(at), key)?;
+    Some((at, entry))
 }
 
 /// The place of a key leaf.

@@ -1,7 +1,7 @@
 use Rattle.std.proofs.Common.{◌*◌, ◌+◌, ◌-◌, ◌^◌, length}
 use Rattle.conf_check.specs.Wants.{Want, IsPlaceBefore, IsWantAt}
 use Rattle.conf_check.specs.declared.want_iter.WantPlace.{WantPlace}
-use Rattle.conf_check.proofs.want_iter.first_want.Given as goal
+use Rattle.conf_check.proofs.first_wants.first_want.Given as goal
 
 abbrev pub invariant-loop-at : goal.invariant-loop-at
 invariant-loop-at l = record {

@@ -1,7 +1,7 @@
 use Rattle.std.proofs.Common.{true, false, [], ◌∷◌, Some, option_copied, sym, ap, ◌∙◌}
 use Rattle.conf_check.specs.Rows.{texts_by_kind}
 use Rattle.conf_check.proofs.WantSteps.{field_first}
-use Rattle.conf_check.proofs.want_iter.first_in_field.Goals as goal
+use Rattle.conf_check.proofs.first_wants.first_in_field.Goals as goal
 
 pub returns-else-rule-clause-first : goal.returns-else-rule-clause-first
 returns-else-rule-clause-first c =

@@ -1,6 +1,6 @@
 use Rattle.conf_check.specs.Rows.{row_of}
 use Rattle.conf_check.proofs.WantPlaces.{at_shape, at_no_shape}
-use Rattle.conf_check.proofs.want_iter.first_at.Goals as goal
+use Rattle.conf_check.proofs.first_wants.first_at.Goals as goal
 
 pub returns-in-Some-clause-first : goal.returns-in-Some-clause-first
 returns-in-Some-clause-first c =

@@ -2,7 +2,7 @@ use Rattle.std.proofs.Common.{sym, subst}
 use Rattle.conf_check.specs.FirstWants.{IsFirstText, IsWantedIn}
 use Rattle.conf_check.specs.Rows.{row_of}
 use Rattle.conf_check.proofs.WantSlots.{past_parts}
-use Rattle.conf_check.proofs.want_iter.first_in_entry.Goals as goal
+use Rattle.conf_check.proofs.first_wants.first_in_entry.Goals as goal
 
 pub returns-in-None-first_in_key-clause-first : goal.returns-in-None-first_in_key-clause-first
 returns-in-None-first_in_key-clause-first c = λ table.

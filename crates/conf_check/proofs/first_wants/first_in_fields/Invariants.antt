@@ -1,5 +1,5 @@
 use Rattle.conf_check.proofs.WantSlots.{NoneBefore, BeginsWith}
-use Rattle.conf_check.proofs.want_iter.first_in_fields.Given as goal
+use Rattle.conf_check.proofs.first_wants.first_in_fields.Given as goal
 
 abbrev pub invariant-loop-field : goal.invariant-loop-field
 invariant-loop-field l = record {

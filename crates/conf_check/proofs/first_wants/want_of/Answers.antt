@@ -1,6 +1,6 @@
 use Rattle.yang_types.specs.DataTypes.{data_type}
 use Rattle.conf_check.proofs.Judged.{refused_unwanted}
-use Rattle.conf_check.proofs.want_iter.want_of.Goals as goal
+use Rattle.conf_check.proofs.first_wants.want_of.Goals as goal
 
 pub returns-in-Refused : goal.returns-in-Refused
 returns-in-Refused c = λ w wanted.
