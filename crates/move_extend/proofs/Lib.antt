@@ -1,11 +1,11 @@
 pub mod AtKeys
+pub mod ByKind
 pub mod Finding
 pub mod Kept
 pub mod KeptKeys
-pub mod ByKind
 pub mod Named
 pub mod Names
-pub mod Referrers
+pub mod Removals
 pub mod Requireds
 pub mod Slots
 pub mod Wanted

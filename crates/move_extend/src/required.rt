@@ -4,7 +4,7 @@ ghost use Rattle.conf_doc.specs.Pairs.{find};
 ghost use Rattle.move_core.specs.Appends.{Appends};
 ghost use Rattle.move_core.specs.Contexts.{IsNamed, rulebook};
 ghost use Rattle.move_core.specs.Extensions.{IsRequired};
-ghost use Rattle.move_core.specs.Moves.{IsDefined};
+ghost use Rattle.move_core.specs.Moves.{IsDefined, step};
 ghost use Rattle.move_core.specs.Named.{HasRequiredNames};
 ghost use Rattle.move_extend.specs.Found.{Finds, GivenByOne};
 ghost use Rattle.move_extend.specs.Requireds.{GivesAt, GivesIn, GivesValue, RuleGives, RulesGive, TableGives};
@@ -192,8 +192,33 @@ fn add_table(
     }
 }
 
-/// The moves that give rules' fields their required values. Only requiring places in the move's table are
-/// looked at, and only at the move's key where its place names one: all others stay.
+/// Adds the moves that give rules' fields their required values. Only requiring places in the move's table
+/// are looked at, and only at the move's key where its place names one: all others stay.
+fn add_values(
+    alloc: Global,
+    ctx: &Ctx,
+    change: &Change,
+    mv: &Move,
+    found: &mut Moves,
+) -> Result<(), Memory>
+    requires named { IsNamed ctx.now }
+    requires models { change.now.models.now ≡ ctx.now.models }
+    requires next { change.now.next.now ≡ step change.now.cur.now mv.now }
+    ensures { let Gives = IsRequired (rulebook ctx.now) change.now.cur.now mv.now in
+        OnOk result (Finds Gives found.old found.new) }
+{
+    let rules = ctx.settings.required.items();
+    let place = mv.place();
+    let table = table_of(mv);
+    if place.len() > 1 {
+        add_rules(alloc, change, rules, table, place.name_at(1), found)
+    } else {
+        add_table(alloc, change, rules, table, change.cur, found)?;
+        add_table(alloc, change, rules, table, change.next, found)
+    }
+}
+
+/// The moves that give rules' fields their required values before a move changes what requires them.
 fn values_of(alloc: Global, ctx: &Ctx, cur: &Config, mv: &Move) -> Result<Moves, Memory>
     requires named { IsNamed ctx.now }
     requires defined { IsDefined cur.now mv.now }
@@ -205,15 +230,7 @@ fn values_of(alloc: Global, ctx: &Ctx, cur: &Config, mv: &Move) -> Result<Moves,
         cur,
         next: &next,
     };
-    let rules = ctx.settings.required.items();
-    let place = mv.place();
-    let table = table_of(mv);
     let mut found = Moves::new(alloc);
-    if place.len() > 1 {
-        add_rules(alloc, &change, rules, table, place.name_at(1), &mut found)?;
-    } else {
-        add_table(alloc, &change, rules, table, cur, &mut found)?;
-        add_table(alloc, &change, rules, table, &next, &mut found)?;
-    }
+    add_values(alloc, ctx, &change, mv, &mut found)?;
     Ok(found)
 }

@@ -89,8 +89,8 @@ at_name ps i p rising e =
 
 -- the wants that are looked at are kept, the others are ahead
 pub record IsWalk (models : ModelSet) (c other : Config) (at : Place) (t k : List ℕ) (s : WantIter) : Type 0 where
-  pub models : s.models.now ≡ models
-  pub config : s.config.now ≡ c
+  pub by : s.models.now ≡ models
+  pub of : s.config.now ≡ c
   pub rest :
       (p : WantPlace) (w : Want) → IsEntryAt c t k p.table p.key → IsWantAt models c p w
       → IsKept models c other at p w ⊎ IsWantAhead s p w
@@ -100,8 +100,8 @@ module _ (models : ModelSet) (c other : Config) (at : Place) (t k : List ℕ) wh
   pub walk_begins : (s : WantIter) → s.models.now ≡ models → s.config.now ≡ c
       → ((p : WantPlace) (w : Want) → IsWantAhead s p w ↔ (IsEntryAt c t k p.table p.key × IsWantAt models c p w)) → IsWalk models c other at t k s
   walk_begins s ms config ahead = record {
-    models = ms;
-    config = config;
+    by = ms;
+    of = config;
     rest = λ p w entry wanted. inr ((ahead p w).1 (entry, wanted));
     within = λ p w is. ((ahead p w).0 is).0;
   }
@@ -111,20 +111,20 @@ module _ (models : ModelSet) (c other : Config) (at : Place) (t k : List ℕ) wh
     first = gives.gives
 
     named : names_of c first.place ≡ Some (place_of a)
-    named = names_named c first.place a (subst (λ d. IsNamed d first.place a) walk.config first.named)
+    named = names_named c first.place a (subst (λ d. IsNamed d first.place a) walk.of first.named)
 
     wanted : IsWantAt models c first.place (want_of a.want)
     wanted =
-        subst (λ d. IsWantAt models d first.place (want_of a.want)) walk.config
-        (subst (λ ms. IsWantAt ms s.config.now first.place (want_of a.want)) walk.models first.wanted.1)
+        subst (λ d. IsWantAt models d first.place (want_of a.want)) walk.of
+        (subst (λ ms. IsWantAt ms s.config.now first.place (want_of a.want)) walk.by first.wanted.1)
 
     kept : IsKeptAt models other at a → IsKept models c other at first.place (want_of a.want)
     kept keeps n names below = keeps (subst (IsAtOrBelow at) (same_Some n (place_of a) (sym names ∙ named)) below)
 
     pub walk_goes_on : IsKeptAt models other at a → IsWalk models c other at t k u
     walk_goes_on keeps = record {
-      models = gives.models ∙ walk.models;
-      config = gives.config ∙ walk.config;
+      by = gives.models ∙ walk.by;
+      of = gives.config ∙ walk.of;
       rest = λ p w entry is. elim (walk.rest p w entry is) [
         | inl keeps ↦ inl keeps
         | inr ahead ↦ elim (first.others p w ahead) [

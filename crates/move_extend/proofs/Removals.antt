@@ -99,8 +99,8 @@ pub record IsFound (models : ModelSet) (cur next : Config) (t : List ℕ) (s : W
 
 -- what is found, where the wants that the walk has ahead are left; one of those can give the last again
 pub record IsWalk (models : ModelSet) (cur next : Config) (t : List ℕ) (s : WantIter) (found : List Move) : Type 0 where
-  pub models : s.models.now ≡ models
-  pub config : s.config.now ≡ cur
+  pub by : s.models.now ≡ models
+  pub of : s.config.now ≡ cur
   pub each : (x : Move) → Contains found x → IsFound models cur next t s x
   pub all :
       (p : WantPlace) (w : Want) (x : Move) → IsWantAt models cur p w → GivesAt models cur next t p w x
@@ -113,21 +113,21 @@ pub record IsWalk (models : ModelSet) (cur next : Config) (t : List ℕ) (s : Wa
 last_there : {A : Type 0} (xs : List A) (a : A) → IsLast xs a → Contains xs a
 last_there xs a is = item_at xs (length xs - 1) a is
 
+at_end : {A : Type 0} (xs : List A) (a : A) → slice_get (xs ++ a ∷ []) (length xs) ≡ Some a
+at_end [] a = refl
+at_end (x ∷ xs) a = at_end xs a
+
 last_pushed : {A : Type 0} (xs : List A) (a : A) → IsLast (xs ++ a ∷ []) a
 last_pushed xs a =
     let long : length (xs ++ a ∷ []) - 1 ≡ length xs = omega (arith, length-append xs (a ∷ [])) in
-    rw long (at_end xs)
-  where
-    at_end : (ys : List A) → slice_get (ys ++ a ∷ []) (length ys) ≡ Some a
-    at_end [] = refl
-    at_end (y ∷ ys) = at_end ys
+    rw long (at_end xs a)
 
 module _ (models : ModelSet) (cur next : Config) (t : List ℕ) where
   pub walk_begins : (s : WantIter) → s.models.now ≡ models → s.config.now ≡ cur
       → ((p : WantPlace) (w : Want) → IsWantAt models cur p w → IsWantAhead s p w) → IsWalk models cur next t s []
   walk_begins s ms c ahead = record {
-    models = ms;
-    config = c;
+    by = ms;
+    of = c;
     each = λ x h. absurd (omega (arith, h.1));
     all = λ p w x wanted gives. inr (ahead p w wanted);
     once = λ i j d less below. absurd (omega arith);
@@ -142,12 +142,12 @@ module _ (models : ModelSet) (cur next : Config) (t : List ℕ) where
     x = Remove (place_of a)
 
     named : names_of cur first.place ≡ Some (place_of a)
-    named = names_named cur first.place a (subst (λ c. IsNamed c first.place a) walk.config first.named)
+    named = names_named cur first.place a (subst (λ c. IsNamed c first.place a) walk.of first.named)
 
     wanted : IsWantAt models cur first.place (want_of a.want)
     wanted =
-        subst (λ c. IsWantAt models c first.place (want_of a.want)) walk.config
-        (subst (λ ms. IsWantAt ms s.config.now first.place (want_of a.want)) walk.models first.wanted.1)
+        subst (λ c. IsWantAt models c first.place (want_of a.want)) walk.of
+        (subst (λ ms. IsWantAt ms s.config.now first.place (want_of a.want)) walk.by first.wanted.1)
 
     -- of the wants behind, each is still before those ahead
     still : (y : Move) → IsFound models cur next t s y → IsFound models cur next t u y
@@ -160,8 +160,8 @@ module _ (models : ModelSet) (cur next : Config) (t : List ℕ) where
     -- nothing was put
     stays : new ≡ found → (IsBroken models next t (want_of a.want) → Contains found x) → IsWalk models cur next t u new
     stays is has = subst (IsWalk models cur next t u) (sym is) (record {
-      models = gives.models ∙ walk.models;
-      config = gives.config ∙ walk.config;
+      by = gives.models ∙ walk.by;
+      of = gives.config ∙ walk.of;
       each = λ y h. still y (walk.each y h);
       all = λ p w y wants g. elim (walk.all p w y wants g) [
         | inl h ↦ inl h
@@ -202,8 +202,8 @@ module _ (models : ModelSet) (cur next : Config) (t : List ℕ) where
 
       put : IsWalk models cur next t u (found ++ x ∷ [])
       put = record {
-        models = gives.models ∙ walk.models;
-        config = gives.config ∙ walk.config;
+        by = gives.models ∙ walk.by;
+        of = gives.config ∙ walk.of;
         each = λ y h. found_now y (Contains-push_cases found x y h);
         all = λ p w y wants g. elim (walk.all p w y wants g) [
           | inl h ↦ inl (Contains-append_left found (x ∷ []) y h)
