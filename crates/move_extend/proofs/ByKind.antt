@@ -1,7 +1,8 @@
 -- What the extender of each kind gives, among what all of them give.
-use Rattle.std.proofs.Common.{◌≡◌, ◌↔◌, ℕ, ◌⊎◌, inl, inr, Option, Some, None, option_map, IsSomeAnd, refl, sym, ap, ◌∙◌, arith}
+use Rattle.std.proofs.Common.{◌≡◌, ◌↔◌, inl, inr, Option, Some, None, option_map, IsSomeAnd, refl, sym, ap, ◌∙◌, arith}
 use Rattle.conf_doc.specs.declared.configuration.Config.{Config}
-use Rattle.move_core.specs.Extensions.{as_in_goal, upper, IsDelete, IsExtension, IsReferrer, IsRequired, IsUpper}
+use Rattle.conf_doc.proofs.Edits.{same_Some}
+use Rattle.move_core.specs.Extensions.{as_in_goal, upper, IsExtension, IsReferrer, IsRequired, IsUpper}
 use Rattle.move_core.specs.Moves.{Place, place}
 use Rattle.move_core.specs.Rulebook.{Rulebook}
 use Rattle.move_core.specs.declared.moves.Move.{Move}
@@ -13,15 +14,6 @@ module _ (book : Rulebook) (cur goal : Config) (m x : Move) where
       back : IsExtension book cur goal 1 m x → IsUpper goal m x
       back (inl p) = p.1
       back (inr (inl p)) = absurd (omega arith)
-      back (inr (inr (inl p))) = absurd (omega arith)
-      back (inr (inr (inr p))) = absurd (omega arith)
-
-  pub second_kind : IsDelete m x ↔ IsExtension book cur goal 2 m x
-  second_kind = (λ is. inr (inl (refl, is)), back)
-    where
-      back : IsExtension book cur goal 2 m x → IsDelete m x
-      back (inl p) = absurd (omega arith)
-      back (inr (inl p)) = p.1
       back (inr (inr (inl p))) = absurd (omega arith)
       back (inr (inr (inr p))) = absurd (omega arith)
 
@@ -42,9 +34,6 @@ module _ (book : Rulebook) (cur goal : Config) (m x : Move) where
       back (inr (inl p)) = absurd (omega arith)
       back (inr (inr (inl p))) = absurd (omega arith)
       back (inr (inr (inr p))) = p.1
-
-same_Some : {A : Type 0} (x y : A) → Some x ≡ Some y → x ≡ y
-same_Some x y e = cc
 
 -- the place above becomes as in goal, where there is one
 pub is_upper : (goal : Config) (m x : Move) (o : Option Move) → o ≡ option_map (as_in_goal goal) (upper (place m)) → IsUpper goal m x ↔ (o ≡ Some x)

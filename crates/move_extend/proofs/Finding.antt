@@ -1,15 +1,13 @@
 -- Lists of what is found, one after another, each once.
 use borrow.Author.Count.{below_more}
 use Rattle.std.proofs.Common.{◌≡◌, ◌≢◌, ◌⊎◌, inl, inr, ℕ, zero, suc, ◌+◌, ◌<◌, ◌≤◌, List, [], ◌∷◌, ◌++◌, length, get_or, slice_get, Option, Some, None, ◌↔◌, refl, sym, ap, ◌∙◌, subst, arith}
-use Rattle.std.specs.List.{All, AllPairs, Contains}
+use Rattle.std.specs.List.{All, Contains}
 use Rattle.std.specs.Option.{option_to_list}
 use Rattle.std.proofs.lemmas.List.Elements.{Contains-append_left, Contains-push, Contains-push_cases, Contains-get_or}
 use Rattle.std.proofs.lemmas.List.Quantifiers.{all_pairs_push}
-use Rattle.move_core.specs.Appends.{Appends, AppendsSome}
+use Rattle.conf_doc.proofs.Edits.{same_Some}
+use Rattle.move_core.specs.Appends.{Appends}
 use Rattle.move_extend.specs.Found.{Finds, GivenByOne}
-
-same_Some : {A : Type 0} (x y : A) → Some x ≡ Some y → x ≡ y
-same_Some x y e = cc
 
 -- ---- one more
 
@@ -19,15 +17,6 @@ module _ {A : Type 0} where
     each = λ a h. inl h;
     kept = λ a h. h;
     all = λ a p. absurd (none a p);
-    once = λ apart. apart;
-  })
-
-  -- it is there already
-  pub finds_there : (x : A) (xs ys : List A) → ys ≡ xs → Contains xs x → Finds (λ a. a ≡ x) xs ys
-  finds_there x xs ys is there = subst (Finds (λ a. a ≡ x) xs) (sym is) (record {
-    each = λ a h. inl h;
-    kept = λ a h. h;
-    all = λ a e. subst (Contains xs) (sym e) there;
     once = λ apart. apart;
   })
 
@@ -195,16 +184,3 @@ module _ {A : Type 0} (P : A → Type 0) where
 
       Contains-push_as : (a : A) → Some x ≡ Some a → Contains (x ∷ []) a
       Contains-push_as a e = (zero, omega arith, same_Some x a e)
-
-  -- nothing was put there
-  pub appends_nothing : (xs ys : List A) → ys ≡ xs → AppendsSome P xs ys
-  appends_nothing xs ys is = record {
-    more = [];
-    follows = is ∙ sym (nothing xs);
-    each = λ i d below. absurd (omega arith);
-    once = λ i j d less below. absurd (omega arith);
-  }
-    where
-      nothing : (zs : List A) → zs ++ [] ≡ zs
-      nothing [] = refl
-      nothing (z ∷ zs) = ap (λ r. z ∷ r) (nothing zs)

@@ -1,7 +1,7 @@
 -- The keys that a move keeps.
-use Rattle.std.proofs.Common.{◌≡◌, ◌≢◌, ℕ, List, [], ◌∷◌, map, Option, Some, None, option_map, option_and_then, IsSome, Contains, ◌⊎◌, inl, inr, refl, sym, ap, ◌∙◌, subst, slice_get, arith}
+use Rattle.std.proofs.Common.{◌≡◌, ℕ, List, [], ◌∷◌, map, Option, Some, None, option_map, option_and_then, IsSome, Contains, inl, inr, refl, sym, subst, slice_get, arith}
 use Rattle.std.specs.Option.{option_map_or}
-use Rattle.conf_doc.specs.Changes.{part_at, HasPlace}
+use Rattle.conf_doc.specs.Changes.{HasPlace}
 use Rattle.conf_doc.specs.Pairs.{find}
 use Rattle.conf_doc.specs.declared.configuration.Config.{Config}
 use Rattle.conf_doc.specs.declared.configuration.Entry.{Entry}
@@ -13,7 +13,6 @@ use Rattle.yang_types.specs.declared.types.Target.{Target}
 use Rattle.move_core.specs.Moves.{place, step}
 use Rattle.move_core.specs.Services.{table_of}
 use Rattle.move_core.specs.declared.moves.Move.{Move}
-use Rattle.move_extend.specs.Entries.{entry_of}
 use Rattle.move_extend.specs.KeptKeys.{HasKeys, KeepsKey, KeepsKeys}
 use Rattle.move_extend.proofs.AtKeys.{by_key, found_key, key_found, same_entry, second_name}
 

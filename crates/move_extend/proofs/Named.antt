@@ -1,5 +1,5 @@
 -- The names of what stands in a configuration aren't empty.
-use Rattle.std.proofs.Common.{◌≡◌, ◌<◌, ℕ, zero, suc, List, [], ◌∷◌, ◌==◌, Bool, true, false, cond, ◌&&◌, not, length, Option, Some, None, option_map, option_and_then, slice_get, IsSome, refl, sym, ap, subst, arith}
+use Rattle.std.proofs.Common.{◌≡◌, ◌<◌, ℕ, zero, suc, List, [], ◌∷◌, ◌==◌, Bool, true, false, cond, ◌&&◌, not, length, Option, Some, None, option_map, option_and_then, slice_get, IsSome, refl, sym, subst, arith}
 use Rattle.std.specs.Ordering.{eq_by_cmp}
 use Rattle.host_core.specs.Names.{name_cmp}
 use Rattle.conf_doc.specs.Changes.{HasPlace}
@@ -9,10 +9,8 @@ use Rattle.conf_doc.specs.declared.configuration.Config.{Config}
 use Rattle.conf_doc.specs.declared.configuration.Entry.{Entry}
 use Rattle.conf_doc.specs.declared.configuration.Table.{Table}
 use Rattle.conf_doc.specs.declared.parts.Part.TheVariants as part
+use Rattle.conf_doc.proofs.Edits.{same_Some}
 use Rattle.move_extend.proofs.Kept.{same_by}
-
-same_Some : {A : Type 0} (x y : A) → Some x ≡ Some y → x ≡ y
-same_Some x y e = cc
 
 name_there : (n : ℕ) → not (n == 0) ≡ true → 0 < n
 name_there zero e = absurd cc

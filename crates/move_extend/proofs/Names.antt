@@ -1,11 +1,12 @@
 -- The names of the place of a want.
-use Rattle.std.proofs.Common.{◌≡◌, ◌<◌, ℕ, List, [], ◌∷◌, length, Option, Some, None, option_map, option_and_then, slice_get, Bor, refl, sym, ap, ◌∙◌, subst, arith}
+use Rattle.std.proofs.Common.{◌≡◌, ◌<◌, ℕ, List, [], ◌∷◌, length, Option, Some, None, option_map, option_and_then, slice_get, refl, ap, ◌∙◌, subst, arith}
 use Rattle.std.specs.Option.{option_to_list}
 use Rattle.conf_doc.specs.Paths.{HaveLetters, IsPath}
 use Rattle.conf_doc.specs.WellFormed.{IsConfig, IsEntry, IsTable}
 use Rattle.conf_doc.specs.declared.configuration.Config.{Config}
 use Rattle.conf_doc.specs.declared.configuration.Entry.{Entry}
 use Rattle.conf_doc.specs.declared.configuration.Table.{Table}
+use Rattle.conf_doc.proofs.Edits.{same_Some}
 use Rattle.conf_check.specs.Wants.{IsNamed, field_name}
 use Rattle.conf_check.specs.declared.want_iter.WantAt.{WantAt}
 use Rattle.conf_check.specs.declared.want_iter.WantPlace.{WantPlace}
@@ -14,15 +15,12 @@ use Rattle.move_core.specs.Moves.{Place}
 use Rattle.move_extend.specs.Referrers.{place_of}
 use Rattle.move_extend.proofs.Named.{name_at, part_at}
 
-same_Some : {A : Type 0} (x y : A) → Some x ≡ Some y → x ≡ y
-same_Some x y e = cc
-
 -- ---- from positions to names
 
-abbrev entry_names : Option ℕ → List ℕ → List ℕ × Entry → Option Place
+abbrev pub entry_names : Option ℕ → List ℕ → List ℕ × Entry → Option Place
 entry_names f t e = option_map (λ n. t ∷ e.0 ∷ n) (field_names e.1 f)
 
-abbrev table_names : ℕ → Option ℕ → List ℕ × Table → Option Place
+abbrev pub table_names : ℕ → Option ℕ → List ℕ × Table → Option Place
 table_names k f t = option_and_then (entry_names f t.0) (slice_get t.1 k)
 
 fields_named : (fields : Entry) (f : Option ℕ) (o : Option (List ℕ)) → field_name fields f ≡ Some o → field_names fields f ≡ Some (option_to_list o)

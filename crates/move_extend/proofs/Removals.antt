@@ -1,13 +1,13 @@
 -- The referrers that a move leaves without what they refer to.
-use Rattle.std.proofs.Common.{◌≡◌, ◌≢◌, ◌⊎◌, ◌↔◌, inl, inr, ℕ, List, [], ◌∷◌, get_or, true, false, Option, Some, None, refl, sym, ap, ◌∙◌, subst, length, length-append, slice_get, ◌-◌, ◌++◌, arith}
+use Rattle.std.proofs.Common.{◌≡◌, ◌≢◌, ◌⊎◌, ◌↔◌, inl, inr, ℕ, List, [], ◌∷◌, get_or, true, false, Some, None, refl, sym, ap, ◌∙◌, subst, length, length-append, slice_get, ◌-◌, ◌++◌, arith}
 use Rattle.std.specs.List.{AllPairs, Contains}
 use Rattle.std.proofs.lemmas.List.Elements.{Contains-append_left, Contains-get_or, Contains-push, Contains-push_cases}
 use Rattle.std.proofs.lemmas.List.Quantifiers.{all_pairs_push}
 use Rattle.std.specs.Ordering.{eq_by_cmp}
 use Rattle.host_core.specs.Names.{name_cmp}
-use Rattle.conf_doc.specs.Pairs.{find}
 use Rattle.conf_doc.specs.declared.configuration.Config.{Config}
 use Rattle.conf_doc.specs.WellFormed.{IsConfig}
+use Rattle.conf_doc.proofs.Edits.{same_Some}
 use Rattle.conf_check.specs.Acceptance.{IsSatisfied}
 use Rattle.conf_check.specs.WantRuns.{GivesFirst, GivesNextWant, IsWantAhead}
 use Rattle.conf_check.specs.Wants.{Want, IsNamed, IsPlaceBefore, IsWantAt, want_of}
@@ -16,7 +16,7 @@ use Rattle.conf_check.specs.declared.want_iter.WantIter.{WantIter}
 use Rattle.conf_check.specs.declared.want_iter.WantPlace.{WantPlace}
 use Rattle.yang_model.specs.ModelSets.{ModelSet}
 use Rattle.move_core.specs.Appends.{Appends}
-use Rattle.move_core.specs.Contexts.{HasWant, names_of, rulebook}
+use Rattle.move_core.specs.Contexts.{names_of, rulebook}
 use Rattle.move_core.specs.Extensions.{IsReferrer}
 use Rattle.move_core.specs.Moves.{Place, new_part, place, step}
 use Rattle.move_core.specs.Services.{table_of}
@@ -26,15 +26,12 @@ use Rattle.move_core.specs.declared.moves.Move.TheVariants.{Remove}
 use Rattle.move_extend.specs.Found.{IsLast}
 use Rattle.move_extend.specs.KeptKeys.{KeepsKeys}
 use Rattle.move_extend.specs.Referrers.{AddsRemoval, GivesRemovals, IsBroken, place_of}
-use Rattle.move_extend.proofs.Finding.{item_at}
+use Rattle.move_extend.proofs.Finding.{appends_found, finds_none, item_at}
 use Rattle.move_extend.proofs.Kept.{apart_by, other_table, same_by}
 use Rattle.move_extend.proofs.KeptKeys.{satisfied_elsewhere, still_satisfied}
 use Rattle.move_extend.proofs.Names.{names_named}
 use Rattle.move_extend.proofs.Slots.{IsOneSlot, between, one_slot, slot_names}
 use Rattle.move_extend.proofs.Wanted.{want_satisfied}
-
-same_Some : {A : Type 0} (x y : A) → Some x ≡ Some y → x ≡ y
-same_Some x y e = cc
 
 -- ---- which they are
 
@@ -86,6 +83,13 @@ module _ (ctx : Ctx) (cur next : Config) (m x : Move) (t : List ℕ) (is : next 
       (subst (KeepsKeys cur next) (sym given.broken.0) keeps)
       (want_satisfied ctx.models cur given.at w given.wanted))
 
+-- nothing is found where each key is kept
+pub no_removals : (ctx : Ctx) (cur next : Config) (m : Move) (t : List ℕ) → next ≡ step cur m → t ≡ table_of (place m) → KeepsKeys cur next t → (found : List Move)
+    → found ≡ [] → Appends (IsReferrer (rulebook ctx) cur m) [] found
+no_removals ctx cur next m t is at keeps found empty =
+    appends_found (IsReferrer (rulebook ctx) cur m) found
+    (finds_none (IsReferrer (rulebook ctx) cur m) [] found empty (λ x. no_referrer ctx cur next m x t is at keeps))
+
 -- ---- one want after another
 
 -- what is given of a want at its place
@@ -123,17 +127,6 @@ last_pushed xs a =
     rw long (at_end xs a)
 
 module _ (models : ModelSet) (cur next : Config) (t : List ℕ) where
-  pub walk_begins : (s : WantIter) → s.models.now ≡ models → s.config.now ≡ cur
-      → ((p : WantPlace) (w : Want) → IsWantAt models cur p w → IsWantAhead s p w) → IsWalk models cur next t s []
-  walk_begins s ms c ahead = record {
-    by = ms;
-    of = c;
-    each = λ x h. absurd (omega (arith, h.1));
-    all = λ p w x wanted gives. inr (ahead p w wanted);
-    once = λ i j d less below. absurd (omega arith);
-    again = λ p w n ahead names h. absurd (omega (arith, h.1));
-  }
-
   module _ (s u : WantIter) (a : WantAt) (found new : List Move) (well : IsConfig cur) (walk : IsWalk models cur next t s found) (gives : GivesNextWant s (Some a) u) where
     abbrev first : GivesFirst s a u
     first = gives.gives

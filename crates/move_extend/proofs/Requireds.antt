@@ -1,11 +1,11 @@
 -- The required values that a move has cases of, from the places that are looked at to all.
-use Rattle.std.proofs.Common.{◌≡◌, ◌≢◌, ◌⊎◌, ◌↔◌, inl, inr, ℕ, List, [], ◌∷◌, Bool, true, false, map, Option, Some, None, is_some, option_map, option_and_then, IsSome, slice_get, refl, sym, ap, ◌∙◌, subst}
-use Rattle.std.specs.List.{Contains}
+use Rattle.std.proofs.Common.{◌≡◌, ◌≢◌, ◌⊎◌, ◌↔◌, inl, inr, ℕ, List, ◌∷◌, Bool, true, false, Option, Some, None, is_some, option_and_then, IsSome, slice_get, refl, sym, ◌∙◌, subst}
 use Rattle.std.specs.Option.{option_to_list}
 use Rattle.conf_doc.specs.Changes.{part_at, HasPlace}
 use Rattle.conf_doc.specs.Pairs.{find}
 use Rattle.conf_doc.specs.declared.configuration.Config.{Config}
 use Rattle.conf_doc.specs.declared.configuration.Table.{Table}
+use Rattle.conf_doc.proofs.Edits.{same_Some}
 use Rattle.key_split.specs.Key.{key_parts}
 use Rattle.move_core.specs.Contexts.{IsModelled, rulebook}
 use Rattle.move_core.specs.Extensions.{IsRequired, put_value, required_part, rule_entry, rule_field}
@@ -17,10 +17,10 @@ use Rattle.move_core.specs.declared.settings.Required.{Required}
 use Rattle.move_core.specs.declared.settings.Requiring.{Requiring}
 use Rattle.move_extend.specs.Entries.{entry_of, requiring_place}
 use Rattle.move_extend.specs.Found.{Finds}
-use Rattle.move_extend.specs.Requireds.{Differs, GivesAt, GivesIn, GivesValue, LacksValue, RulesGive, TableGives}
+use Rattle.move_extend.specs.Requireds.{Differs, GivesAt, GivesValue, LacksValue, RulesGive, TableGives}
 use Rattle.move_extend.specs.declared.changes.Change.{Change}
 use Rattle.move_extend.proofs.AtKeys.{by_key, by_table, found_key, same_entry, same_field, second_name}
-use Rattle.move_extend.proofs.Finding.{finds_as, finds_none}
+use Rattle.move_extend.proofs.Finding.{finds_as}
 
 same_place : (a b : Config) (t key : List ℕ) (field : Option (List ℕ)) → entry_of a t key ≡ entry_of b t key
     → part_at a (t ∷ key ∷ option_to_list field) ≡ part_at b (t ∷ key ∷ option_to_list field)
@@ -30,9 +30,6 @@ same_place a b t key (Some f) e = same_field a b t key f e
 none_is : {A : Type 0} (o : Option A) → is_some o ≡ false → o ≡ None
 none_is None e = refl
 none_is (Some a) e = absurd cc
-
-same_Some : {A : Type 0} (x y : A) → Some x ≡ Some y → x ≡ y
-same_Some x y e = cc
 
 -- what is given at a key of a table that has it
 at_key : (c : Change) (rules : List Required) (t k : List ℕ) (x : Move) (o : Option Table) → IsSome (option_and_then (find k) o)
@@ -149,9 +146,6 @@ module _ (c : Change) (r : Required) (key : List ℕ) (xs ys : List Move) where
   value_found m lacks is =
       finds_as (λ x. x ≡ m) (GivesValue c r key) xs ys (λ x. (λ e. (lacks, e ∙ is), λ given. given.1 ∙ sym is))
 
-  pub no_value : ys ≡ xs → ¬ LacksValue c r key → Finds (GivesValue c r key) xs ys
-  no_value is has = finds_none (GivesValue c r key) xs ys is (λ x given. has given.0)
-
   module _ (q : Requiring) (o : Option (List ℕ)) (part : o ≡ slice_get (key_parts key) q.part) where
     pub named_found : (named : List ℕ) → o ≡ Some named → Differs c q key → Finds (GivesValue c r named) xs ys → Finds (GivesAt c r key q) xs ys
     named_found named is differs =
@@ -161,15 +155,3 @@ module _ (c : Change) (r : Required) (key : List ℕ) (xs ys : List Move) where
               let same : given.named ≡ named = same_Some given.named named (sym given.part ∙ sym part ∙ is) in
               subst (λ n. GivesValue c r n x) same given.gives,
         ))
-
-    pub none_named : ys ≡ xs → o ≡ None → Finds (GivesAt c r key q) xs ys
-    none_named same is = finds_none (GivesAt c r key q) xs ys same (λ x given. let no : None ≡ Some given.named = sym is ∙ part ∙ given.part in absurd (cc))
-
-  pub no_difference : (q : Requiring) → ys ≡ xs → ¬ Differs c q key → Finds (GivesAt c r key q) xs ys
-  no_difference q same agrees = finds_none (GivesAt c r key q) xs ys same (λ x given. agrees given.differs)
-
-  pub found_in : (t : List ℕ) (q : Requiring) → q.table ≡ t → Finds (GivesAt c r key q) xs ys → Finds (GivesIn c t r key q) xs ys
-  found_in t q same = finds_as (GivesAt c r key q) (GivesIn c t r key q) xs ys (λ x. (λ given. (same, given), λ given. given.1))
-
-  pub not_in : (t : List ℕ) (q : Requiring) → ys ≡ xs → q.table ≢ t → Finds (GivesIn c t r key q) xs ys
-  not_in t q same other = finds_none (GivesIn c t r key q) xs ys same (λ x given. other given.0)

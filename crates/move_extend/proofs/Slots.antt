@@ -1,9 +1,9 @@
 -- Places of one entry or field stand together.
-use Rattle.std.proofs.Common.{◌≡◌, ◌⊎◌, inl, inr, ℕ, zero, suc, ◌<◌, List, [], ◌∷◌, map, Option, Some, None, option_map, option_and_then, slice_get, refl, sym, ap, ◌∙◌, subst, arith}
+use Rattle.std.proofs.Common.{◌≡◌, inl, inr, ℕ, ◌<◌, List, [], ◌∷◌, Option, Some, None, option_map, option_and_then, slice_get, refl, sym, ap, ◌∙◌, subst, arith}
 use Rattle.std.proofs.lemmas.Option.{slice_get-map}
 use Rattle.conf_doc.specs.Pairs.{IsRising}
-use Rattle.conf_doc.proofs.Edits.{first_from_at}
-use Rattle.conf_doc.specs.WellFormed.{Each, IsConfig, IsEntry, IsTable}
+use Rattle.conf_doc.proofs.Edits.{same_Some, first_from_at}
+use Rattle.conf_doc.specs.WellFormed.{IsConfig, IsEntry, IsTable}
 use Rattle.conf_doc.specs.declared.configuration.Config.{Config}
 use Rattle.conf_doc.specs.declared.configuration.Entry.{Entry}
 use Rattle.conf_doc.specs.declared.configuration.Table.{Table}
@@ -11,9 +11,8 @@ use Rattle.conf_check.specs.Wants.{IsFieldBefore, IsPlaceBefore}
 use Rattle.conf_check.specs.declared.want_iter.WantPlace.{WantPlace}
 use Rattle.move_core.specs.Contexts.{field_names, names_of}
 use Rattle.move_core.specs.Moves.{Place}
-
-same_Some : {A : Type 0} (x y : A) → Some x ≡ Some y → x ≡ y
-same_Some x y e = cc
+use Rattle.move_extend.proofs.Named.{part_at}
+use Rattle.move_extend.proofs.Names.{entry_names, table_names}
 
 -- ---- between two places of one
 
@@ -65,12 +64,6 @@ position_once ps i j p q rising at there same =
 
 -- ---- places of the same names are of one entry or field
 
-abbrev entry_names : Option ℕ → List ℕ → List ℕ × Entry → Option Place
-entry_names f t e = option_map (λ n. t ∷ e.0 ∷ n) (field_names e.1 f)
-
-abbrev table_names : ℕ → Option ℕ → List ℕ × Table → Option Place
-table_names k f t = option_and_then (entry_names f t.0) (slice_get t.1 k)
-
 -- what stands at the positions of a place that has names
 record Parts (c : Config) (p : WantPlace) (n : Place) : Type 0 where
   table : List ℕ × Table
@@ -101,11 +94,6 @@ parts c p n is =
     let e = by_entry t.0.0 p.field (slice_get t.0.1 p.key) n t.2 in
     let f = by_field t.0.0 e.0.0 (field_names e.0.1 p.field) n e.2 in
     record { table = t.0; at = t.1; entry = e.0; at_key = e.1; field = f.0; at_field = f.1; names = f.2 }
-
-part_of : {A : Type 0} (P : A → Type 0) (ps : List (List ℕ × A)) (i : ℕ) (p : List ℕ × A) → Each P ps → slice_get ps i ≡ Some p → P p.1
-part_of P [] i p each e = absurd cc
-part_of P (q ∷ ps) zero p each e = subst (λ r. P r.1) (same_Some q p e) each.0
-part_of P (q ∷ ps) (suc i) p each e = part_of P ps i p each.1 e
 
 field_once : (fields : Entry) (f g : Option ℕ) (n m : Place) → IsRising fields → field_names fields f ≡ Some n → field_names fields g ≡ Some m → n ≡ m → f ≡ g
 field_once fields None None n m rising at there same = refl
@@ -140,11 +128,11 @@ one_slot c q p n well is there =
     let third : a.field ≡ b.field = cc in
     let table : q.table ≡ p.table = position_once c q.table p.table a.table b.table well.shaped.rising a.at b.at first in
     let tables : a.table ≡ b.table = same_Some a.table b.table (sym a.at ∙ ap (slice_get c) table ∙ b.at) in
-    let entries : IsTable a.table.1 = part_of IsTable c q.table a.table well.parts a.at in
+    let entries : IsTable a.table.1 = part_at IsTable c q.table a.table well.parts a.at in
     let at_key : slice_get a.table.1 p.key ≡ Some b.entry = ap (λ t. slice_get t.1 p.key) tables ∙ b.at_key in
     let key : q.key ≡ p.key = position_once a.table.1 q.key p.key a.entry b.entry entries.shaped.rising a.at_key at_key second in
     let entry : a.entry ≡ b.entry = same_Some a.entry b.entry (sym a.at_key ∙ ap (slice_get a.table.1) key ∙ at_key) in
-    let fields : IsEntry a.entry.1 = part_of IsEntry a.table.1 q.key a.entry entries.parts a.at_key in
+    let fields : IsEntry a.entry.1 = part_at IsEntry a.table.1 q.key a.entry entries.parts a.at_key in
     record {
       table = table;
       key = key;

@@ -1,5 +1,5 @@
 -- A configuration satisfies the wants that it has.
-use Rattle.std.proofs.Common.{◌≡◌, ℕ, List, Option, Some, None, inl, inr, sym, subst}
+use Rattle.std.proofs.Common.{ℕ, List, Option, Some, None, inl, inr, sym, subst}
 use Rattle.conf_doc.specs.declared.configuration.Config.{Config}
 use Rattle.conf_check.specs.Acceptance.{IsFirstWanted, IsSatisfied, IsWanted}
 use Rattle.conf_check.specs.Rows.{typed_text}

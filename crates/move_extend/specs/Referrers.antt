@@ -1,5 +1,5 @@
 -- What is left without what it refers to.
-use Rattle.std.specs.Prelude.{◌≡◌, ◌⊎◌, ℕ, List, [], ◌∷◌, Some, option_map}
+use Rattle.std.specs.Prelude.{◌≡◌, ◌⊎◌, ℕ, List, ◌∷◌, Some, option_map}
 use Rattle.std.specs.Option.{option_to_list}
 use Rattle.conf_check.specs.Acceptance.{IsSatisfied}
 use Rattle.conf_check.specs.Wants.{Want, IsWantAt, want_of}

@@ -149,7 +149,15 @@ fn add_rules(
         OnOk result (Finds Gives found.old found.new) }
 {
     for rule in rules {
-        add_each(alloc, change, table, rule, rule.requiring.items(), key, found)?;
+        add_each(
+            alloc,
+            change,
+            table,
+            rule,
+            rule.requiring.items(),
+            key,
+            found,
+        )?;
     }
     Ok(())
 }

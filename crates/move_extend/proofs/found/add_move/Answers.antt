@@ -8,6 +8,6 @@ pub returns : goal.returns
 returns c =
     let absent : ¬ Contains c.args.found.now c.args.mv =
     λ has.
-        let there : c.has_move.result ≡ true = c.has_move.ensures.1 (subst (λ xs. Contains xs c.args.mv) (sym c.items.ensures) has) in
-        absurd (cc) in
+    let there : c.has_move.result ≡ true = c.has_move.ensures.1 (subst (λ xs. Contains xs c.args.mv) (sym c.items.ensures) has) in
+    absurd (cc) in
     on_ok_weaker c.push.result (λ pushed. finds_pushed c.args.mv c.args.found.now c.push.new.self pushed absent) c.push.ensures.ok

@@ -1,4 +1,4 @@
-use Rattle.std.proofs.Common.{◌<◌, length, map, sym, subst, arith}
+use Rattle.std.proofs.Common.{map, sym, arith}
 use Rattle.conf_doc.proofs.Lists.{length-map}
 use Rattle.move_extend.proofs.Finding.{there_at}
 use Rattle.move_extend.proofs.kept_keys.has_keys.Goals as goal

@@ -1,6 +1,4 @@
 use Rattle.std.proofs.Common.{ap, slice_get, subst, sym, ◌∙◌}
-use Rattle.move_core.specs.Moves.{place}
-use Rattle.move_core.specs.Services.{table_of}
 use Rattle.move_extend.specs.KeptKeys.{KeepsKeys}
 use Rattle.move_extend.proofs.KeptKeys.{keeps_own}
 use Rattle.move_extend.proofs.kept_keys.keeps_keys.Goals as goal

@@ -1,4 +1,4 @@
-use Rattle.std.proofs.Common.{◌≡◌, ◌<◌, length, sym, subst, arith}
+use Rattle.std.proofs.Common.{◌<◌, length, sym, subst, arith}
 use Rattle.move_extend.proofs.Named.{entry_key}
 use Rattle.move_extend.proofs.required_values.put_value.Goals as goal
 
