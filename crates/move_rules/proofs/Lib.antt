@@ -1,5 +1,6 @@
 pub mod AtKeys
 pub mod CreateOnlys
+pub mod Dependencies
 pub mod Kept
 pub mod Loops
 pub mod NoEmpty

@@ -4,10 +4,12 @@
 mod create_only;
 mod entries;
 mod full;
+mod no_dependency;
 mod no_empty;
 mod required;
 
 pub use create_only::CreateOnlyRule;
 pub use full::FullRule;
+pub use no_dependency::NoDependencyRule;
 pub use no_empty::NoEmptyRule;
 pub use required::RequiredRule;

@@ -1,0 +1,11 @@
+pub mod AtKeys
+pub mod ByKind
+pub mod Finding
+pub mod Kept
+pub mod KeptKeys
+pub mod Named
+pub mod Names
+pub mod Removals
+pub mod Requireds
+pub mod Slots
+pub mod Wanted

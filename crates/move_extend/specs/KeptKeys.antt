@@ -1,0 +1,17 @@
+-- The keys that a move keeps.
+use Rattle.std.specs.Prelude.{ℕ, List, [], ◌∷◌}
+use Rattle.std.specs.List.{Contains}
+use Rattle.conf_doc.specs.Changes.{HasPlace}
+use Rattle.conf_doc.specs.declared.configuration.Config.{Config}
+
+-- an entry is in next where it is in cur
+abbrev pub KeepsKey : Config → Config → List ℕ → List ℕ → Type 0
+KeepsKey cur next t k = HasPlace cur (t ∷ k ∷ []) → HasPlace next (t ∷ k ∷ [])
+
+-- so is each entry of a table
+abbrev pub KeepsKeys : Config → Config → List ℕ → Type 0
+KeepsKeys cur next t = (k : List ℕ) → KeepsKey cur next t k
+
+-- the table has each of those keys
+abbrev pub HasKeys : Config → List ℕ → List (List ℕ) → Type 0
+HasKeys next t keys = (k : List ℕ) → Contains keys k → HasPlace next (t ∷ k ∷ [])

@@ -1,0 +1,6 @@
+-- what only private clauses cite
+pub mod Entries
+pub mod Found
+pub mod KeptKeys
+pub mod Referrers
+pub mod Requireds

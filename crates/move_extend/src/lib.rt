@@ -1,0 +1,17 @@
+//! What a move may be followed by: the four extenders, each a box of its kind.
+#![tactic(auto)]
+
+mod changes;
+mod delete;
+mod entries;
+mod found;
+mod kept_keys;
+mod referrers;
+mod required;
+mod required_values;
+mod upper;
+
+pub use delete::DeleteExt;
+pub use referrers::ReferrersExt;
+pub use required::RequiredExt;
+pub use upper::UpperExt;
