@@ -173,7 +173,8 @@ fn first_in_fields<'a>(
     item: usize,
 ) -> Option<FieldWant<'a>>
     ensures first { IsFirstInFields models.now config.now shape.now fields.now from item result }
-    ensures named { IfSome result (λ a. slice_get (map (λ f. f.0) fields.now) a.field ≡ Some a.name.now) }
+    ensures named { IfSome result
+        (λ a. slice_get (map (λ f. f.0) fields.now) a.field ≡ Some a.name.now) }
     ensures small { IfSome result (λ a. a.item + 1 < 2 ^ 64) }
 {
     let mut first = item;

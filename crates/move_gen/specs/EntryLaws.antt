@@ -17,9 +17,11 @@ begins t k rest g h same is = (ap (λ p. slice_get p 0) at, ap (λ p. slice_get 
     at : g.place ≡ t ∷ k ∷ rest
     at = ap (λ (x : Generated). x.place) same ∙ is
 
+-- the remove of an entry
 pub removed_for : (goal : Config) → AreForEntries (IsRemovedEntry goal)
 removed_for goal t k e g is = begins t k [] g _ is.1 refl
 
+-- the add of an entry
 pub added_for : (IsAs : SaysOfEntry) (class : ℕ) (cur : Config)
     → AreForEntries (IsAddedEntry IsAs class cur)
 added_for IsAs class cur t k e g h = begins t k [] g _ h.is refl
@@ -33,5 +35,6 @@ fields_for t k old new g (inr h) = set_for h.is
     set_for (inl is) = begins t k (h.name ∷ []) g _ is.1 refl
     set_for (inr is) = begins t k (h.name ∷ []) g _ is.2.1 refl
 
+-- the moves of its fields
 pub changed_for : (cur : Config) → AreForEntries (IsChangedEntry cur)
 changed_for cur t k e g h = fields_for t k h.old e g h.is
