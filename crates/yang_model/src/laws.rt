@@ -16,12 +16,13 @@ pub fn belongs_once()
         → Belongs shapes key a → Belongs shapes key b → a ≡ b }
 {}
 
-/// Files have one list of models at most, by whatever functions read their texts. The body does nothing:
-/// the law is the contract.
+/// Files have one list of models at most.
 pub fn models_are_one()
-    ensures { (readers : Readers) (files : List (List Declaration)) (a b : ModelSet)
-        → AreTrue readers → AreModelsOf files a → AreModelsOf files b → a ≡ b }
-{}
+    ensures { (files : List (List Declaration)) (a b : ModelSet)
+        → AreModelsOf files a → AreModelsOf files b → a ≡ b }
+{
+    readers_exist();
+}
 
 /// There are functions that read what they are to read, so what is said of all such functions is said of
 /// some.
