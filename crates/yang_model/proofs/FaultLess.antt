@@ -1,5 +1,5 @@
 -- No least fault, no faults.
-use Rattle.std.proofs.Common.{◌≡◌, Bool, true, false, cond, List, [], ◌∷◌, Option, Some, None, refl, ap, ◌∙◌}
+use Rattle.std.proofs.Common.{◌≡◌, Bool, true, false, cond, List, [], ◌∷◌, Some, None, refl, ap, ◌∙◌}
 use Rattle.yang_scope.specs.Faults.{lesser, least_of, is_before}
 use Rattle.yang_scope.specs.declared.faults.Fault.{Fault}
 

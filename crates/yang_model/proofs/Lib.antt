@@ -1,3 +1,4 @@
+pub mod FaultFiles
 pub mod FaultLess
 pub mod Fitting
 pub mod Places

@@ -1,13 +1,12 @@
 -- What stands in small files is small.
-use Rattle.std.proofs.Common.{◌≡◌, ◌<◌, ◌≤◌, ◌+◌, ◌*◌, ◌^◌, ℕ, suc, Bool, true, false, cond, List, [], ◌∷◌, ◌++◌, map, length, codes, All, arith}
-use Rattle.std.specs.List.{flat_map}
+use Rattle.std.proofs.Common.{◌<◌, ◌≤◌, ◌+◌, ◌*◌, ◌^◌, ℕ, suc, Bool, true, false, cond, List, [], ◌∷◌, map, length, codes, All, arith}
 use Rattle.std.proofs.lemmas.List.{length-append}
 use Rattle.std.proofs.lemmas.List.Sums.{length-filter, count_by-le-length}
 use Rattle.std.proofs.lemmas.List.Elements.{All-nil, All-cons, All-head, All-tail, All-append, All-map, All-filter, All-weaker}
 use Rattle.yang_text.specs.Declarations.{Declaration, declare, Block, no_more, more, declarations, block, weight, block_weight, total_weight}
 use Rattle.yang_scope.specs.Modules.{Module, module_in, modules_in, modules_of}
 use Rattle.yang_scope.specs.Statements.{is_keyword, children_of, each_from}
-use Rattle.yang_must.specs.Spots.{ModelContainer, containers_in, containers_of, tables_of, shapes_of, is_shape}
+use Rattle.yang_must.specs.Spots.{containers_in, containers_of, tables_of, shapes_of, is_shape}
 use Rattle.yang_model.specs.Sizes.{IsSmall, most_files, most_statements}
 
 light_block : (b : Block) (n : ℕ) → block_weight b ≤ n → All (λ d. weight d ≤ n) (declarations b)

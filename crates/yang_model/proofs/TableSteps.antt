@@ -1,5 +1,5 @@
 -- One more element of a list, by its place, and the bounds of a table.
-use Rattle.std.proofs.Common.{◌≡◌, ◌<◌, ◌≤◌, ◌+◌, ℕ, List, ◌++◌, length, map, take, filter, Option, Some, slice_get, option_map, inl, inr, ap, ◌∙◌, sym, arith}
+use Rattle.std.proofs.Common.{◌≡◌, ◌<◌, ◌+◌, ℕ, List, ◌++◌, length, map, take, slice_get, option_map, inl, inr, ap, ◌∙◌, sym, arith}
 use Rattle.std.specs.Option.{option_to_list}
 use Rattle.std.proofs.lemmas.Option.{slice_get_cases}
 use Rattle.yang_faults.proofs.Steps.{map-one_more}

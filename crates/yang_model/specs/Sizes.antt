@@ -1,6 +1,6 @@
 -- How many files and statements there may be.
 use Rattle.std.specs.Prelude.{ℕ, ◌<◌, ◌^◌, All}
-use Rattle.yang_text.specs.Declarations.{Declaration, weight}
+use Rattle.yang_text.specs.Declarations.{weight}
 use Rattle.yang_must.specs.Spots.{ModelContainer, tables_of}
 
 -- files of one call

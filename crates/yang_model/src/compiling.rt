@@ -8,6 +8,7 @@ ghost use Rattle.yang_model.specs.Readers.{Gives};
 ghost use Rattle.yang_model.specs.Sizes.{most_files, most_statements};
 
 use crate::errors::ModelError;
+use crate::laws::readers_exist;
 use crate::models::Models;
 use crate::tables::models_of;
 use host_core::{Memory, Txt};
@@ -49,18 +50,14 @@ pub fn compile(alloc: Global, files: &[(Txt, Statements)]) -> Result<Models, Mod
 {
     let names = Names::new(alloc, files)?;
     let tree = ModelTree::new(alloc, &names)?;
+    // so what is said of the least fault by all readers is said by some
+    readers_exist();
     match least_fault(alloc, files, &names, &tree)? {
-        Some(fault) => {
-            // each fault is of one of the files
-            if fault.file as usize >= files.len() {
-                return Err(ModelError::Memory);
-            }
-            Err(ModelError::Fault {
-                file: fault.file,
-                line: fault.line,
-                why: fault.why,
-            })
-        }
+        Some(fault) => Err(ModelError::Fault {
+            file: fault.file,
+            line: fault.line,
+            why: fault.why,
+        }),
         None => Ok(models_of(alloc, &names, &tree)?),
     }
 }

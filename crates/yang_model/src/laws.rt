@@ -7,15 +7,28 @@ ghost use Rattle.yang_model.specs.ModelSets.{ModelSet};
 ghost use Rattle.yang_model.specs.Readers.{Readers, AreTrue};
 ghost use Rattle.yang_model.specs.declared.shapes.Shape.{Shape};
 
+use yang_faults::tests_exist;
+use yang_must::reader_reads;
+
 /// An entry belongs to one shape of its table, or to none. The body does nothing: the law is the contract.
 pub fn belongs_once()
     ensures { (shapes : List Shape) (key : List ℕ) (a b : Option ℕ)
         → Belongs shapes key a → Belongs shapes key b → a ≡ b }
 {}
 
-/// Files have one list of models at most, by whatever functions read their texts. The body does nothing:
-/// the law is the contract.
+/// Files have one list of models at most.
 pub fn models_are_one()
-    ensures { (readers : Readers) (files : List (List Declaration)) (a b : ModelSet)
-        → AreTrue readers → AreModelsOf files a → AreModelsOf files b → a ≡ b }
-{}
+    ensures { (files : List (List Declaration)) (a b : ModelSet)
+        → AreModelsOf files a → AreModelsOf files b → a ≡ b }
+{
+    readers_exist();
+}
+
+/// There are functions that read what they are to read, so what is said of all such functions is said of
+/// some.
+pub fn readers_exist()
+    ensures { (readers : Readers) × AreTrue readers }
+{
+    tests_exist();
+    reader_reads();
+}

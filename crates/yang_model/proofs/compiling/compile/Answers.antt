@@ -1,13 +1,16 @@
-use Rattle.std.proofs.Common.{◌≡◌, ◌≤◌, List, All, None, map, length, ap, sym, subst, ◌∙◌, arith}
+use Rattle.std.proofs.Common.{◌≡◌, ◌≤◌, ◌<◌, List, All, None, Some, map, length, ap, sym, subst, ◌∙◌, arith}
 use Rattle.std.proofs.lemmas.List.{length-map}
 use Rattle.std.proofs.lemmas.List.Elements.{All-map}
 use Rattle.yang_text.specs.Declarations.{Declaration, total_weight}
-use Rattle.yang_text.specs.declared.statements.Statements.{Statements}
-use Rattle.yang_scope.specs.Modules.{Module, modules_of}
+use Rattle.yang_scope.specs.Faults.{least_of}
+use Rattle.yang_scope.specs.Modules.{Module}
+use Rattle.yang_scope.specs.declared.faults.Fault.{Fault}
 use Rattle.yang_must.specs.Spots.{containers_of}
 use Rattle.yang_model.specs.Answers.{faults}
 use Rattle.yang_model.specs.Shapes.{models_of}
 use Rattle.yang_model.specs.Sizes.{IsSmall, most_files, most_statements}
+use Rattle.yang_faults.proofs.FaultFiles.{each_least}
+use Rattle.yang_model.proofs.FaultFiles.{faults_below}
 use Rattle.yang_model.proofs.FaultLess.{no_faults}
 use Rattle.yang_model.proofs.Sizes.{are_small}
 use Rattle.yang_model.proofs.compiling.compile.Goals as goal
@@ -27,3 +30,13 @@ returns-clause-models c = λ readers is.
       no_faults (faults readers ds) (sym c.in-None.is ∙ c.in_ok-fault.ensures readers is),
       c.in_ok-models_of-in-None.ensures readers is ∙ ap (λ (ms : List Module). models_of ms readers) c.in_ok-names.ensures,
     )
+
+pub returns-in-Some-clause-file : goal.returns-in-Some-clause-file
+returns-in-Some-clause-file c =
+    let files = c.args.files.now in
+    let ds : List (List Declaration) = map (λ f. f.1) files in
+    let (readers, are) = c.readers_exist.ensures in
+    let least : least_of None (faults readers ds) ≡ Some c.in-Some.fault = sym (c.in_ok-fault.ensures readers are) ∙ c.in-Some.is in
+    let low : c.in-Some.fault.file < length ds =
+    each_least (λ (f : Fault). f.file < length ds) (faults readers ds) c.in-Some.fault (faults_below readers ds) least in
+    omega (arith, low, length-map files (λ f. f.1))

@@ -1,4 +1,4 @@
-use Rattle.std.proofs.Common.{◌≡◌, Bool, List, codes, map, ap, sym, ◌∙◌}
+use Rattle.std.proofs.Common.{◌≡◌, List, codes, map, ap, sym, ◌∙◌}
 use Rattle.yang_text.specs.Declarations.{Declaration, block}
 use Rattle.yang_text.specs.Statements.{declaration}
 use Rattle.yang_scope.proofs.Blocks.{block-is}

@@ -1,12 +1,9 @@
-use Rattle.std.proofs.Common.{◌≡◌, Option, Some, None, codes, map, option_map, sym, ap, subst, ◌∙◌, IfOk}
-use Rattle.std.specs.List.{find}
+use Rattle.std.proofs.Common.{◌≡◌, Option, Some, None, codes, option_map, sym, ap, subst, ◌∙◌, IfOk}
 use Rattle.std.specs.Option.{option_copied, option_map_or}
 use Rattle.yang_text.specs.Declarations.{Declaration}
 use Rattle.yang_text.specs.Statements.{declaration}
-use Rattle.yang_text.specs.declared.statements.Statement.{Statement}
-use Rattle.yang_types.specs.declared.types.Ty.{Ty}
 use Rattle.yang_types.specs.declared.types.Ty.TheVariants.{Text}
-use Rattle.yang_scope.specs.Statements.{is_keyword, first_child}
+use Rattle.yang_scope.specs.Statements.{first_child}
 use Rattle.yang_scope.proofs.Blocks.{first_child-is}
 use Rattle.yang_model.specs.Readers.{Gives}
 use Rattle.yang_model.specs.Leaves.{type_of}

@@ -1,4 +1,4 @@
-use Rattle.std.proofs.Common.{◌≡◌, ℕ, true, List, [], codes, map, ap, sym, ◌∙◌}
+use Rattle.std.proofs.Common.{◌≡◌, ℕ, true, List, [], codes, ap, sym, ◌∙◌}
 use Rattle.std.specs.Str.{bytes_eq}
 use Rattle.yang_text.specs.Declarations.{block}
 use Rattle.yang_text.specs.Statements.{declaration}

@@ -1,12 +1,10 @@
-use Rattle.std.proofs.Common.{◌≡◌, Option, Some, option_map, sym, ap, ◌∙◌}
+use Rattle.std.proofs.Common.{◌≡◌, Some, option_map, sym, ap, ◌∙◌}
 use Rattle.yang_text.specs.Statements.{declaration}
-use Rattle.xpath_part.specs.Expressions.{expression}
-use Rattle.yang_must.specs.Musts.{Must, must_of}
+use Rattle.yang_must.specs.Musts.{must_of}
 use Rattle.yang_must.specs.MustValues.{must_value}
 use Rattle.yang_must.specs.SpotRefs.{spot_at}
-use Rattle.yang_model.specs.ShapeCodes.{expr_of, expr_back}
+use Rattle.yang_model.specs.ShapeCodes.{expr_back}
 use Rattle.yang_model.specs.Shapes.{must_rule}
-use Rattle.yang_model.specs.declared.shapes.MustRule.{MustRule}
 use Rattle.yang_model.proofs.musts.must_rule.Goals as goal
 
 pub returns-in_ok-copy_name-in-Some : goal.returns-in_ok-copy_name-in-Some
