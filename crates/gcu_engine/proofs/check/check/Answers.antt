@@ -12,7 +12,7 @@ pub returns-in-Ok-clause-answers : goal.returns-in-Ok-clause-answers
 returns-in-Ok-clause-answers g c =
     said_to check_asked (g.H.Host.told c.args.host.now) (g.H.Host.told c.say.new.host) (g.H.Host.counts c.args.host.now) (g.H.Host.counts c.judge_stored.new.host) (g.H.Host.counts c.say.new.host)
     Done (last_line Done) c.say.result (rw c.in-Ok.ensures.told at c.say.ensures.said) c.say.ensures.counts tt
-    (check_says (g.H.Host.told c.args.host.now) tt c.in-Ok.ensures.answer)
+    (check_says (g.H.Host.told c.args.host.now) _ c.in-Ok.ensures.answer)
 
 pub returns-in-Err-clause-answers : goal.returns-in-Err-clause-answers
 returns-in-Err-clause-answers g c =
