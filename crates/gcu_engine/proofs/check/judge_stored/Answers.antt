@@ -2,7 +2,6 @@ use Rattle.std.proofs.Common.{Ok, Err, refl}
 use Rattle.std.proofs.lemmas.Result.{err_from_is_err_and}
 use Rattle.gcu_engine.proofs.Checked.{judged, no_config, no_models}
 use Rattle.gcu_engine.proofs.Elapsing.{elapses_unchanged}
-use Rattle.gcu_engine.proofs.Finding.{always_refuses}
 use Rattle.gcu_engine.proofs.check.judge_stored.Goals as goal
 
 -- there are no models
