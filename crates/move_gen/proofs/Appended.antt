@@ -1,5 +1,5 @@
 -- Lists that grow by all that are as P says.
-use Rattle.std.proofs.Common.{◌≡◌, ◌≢◌, ◌↔◌, ◌⊎◌, zero, suc, List, [], ◌∷◌, ◌++◌, Contains, Result, Ok, Err, inl, inr, refl, sym, ap, ◌∙◌, subst, append_assoc, arith}
+use Rattle.std.proofs.Common.{◌≡◌, ◌≢◌, ◌↔◌, ◌⊎◌, suc, List, [], ◌∷◌, ◌++◌, Contains, Result, Ok, Err, inl, inr, refl, sym, ap, ◌∙◌, subst, append_assoc, arith}
 use Rattle.std.specs.List.{All, AllPairs}
 use Rattle.std.specs.Result.{IsErr}
 use Rattle.std.proofs.lemmas.Bool.{false≢true}
@@ -21,9 +21,6 @@ module _ {A : Type 0} where
   none_once : (R : A → A → Type 0) → AllPairs R []
   none_once R i j d less below = absurd (omega arith)
 
-  one_once : (R : A → A → Type 0) (x : A) → AllPairs R (x ∷ [])
-  one_once R x i j d less below = absurd (omega arith)
-
   -- nothing is put
   pub appends_none : (P : A → Type 0) (xs : List A) → ((a : A) → ¬ P a) → Appends P xs xs
   appends_none P xs never = record {
@@ -33,28 +30,6 @@ module _ {A : Type 0} where
     all = λ a p. absurd (never a p);
     once = none_once (λ a b. a ≢ b);
   }
-
-  pub some_none : (P : A → Type 0) (xs ys : List A) → ys ≡ xs → AppendsSome P xs ys
-  some_none P xs ys same = record {
-    more = [];
-    follows = same ∙ sym (append-nil xs);
-    each = λ k d below. absurd (omega arith);
-    once = none_once (λ a b. a ≢ b);
-  }
-
-  -- one is
-  pub appends_one : (P : A → Type 0) (xs ys : List A) (x : A) → ys ≡ xs ++ x ∷ [] → P x → ((a : A) → P a → a ≡ x) → Appends P xs ys
-  appends_one P xs ys x pushed is only = record {
-    more = x ∷ [];
-    follows = pushed;
-    each = one_each;
-    all = λ a p. (0, omega arith, sym (only a p));
-    once = one_once (λ a b. a ≢ b) x;
-  }
-    where
-      one_each : All P (x ∷ [])
-      one_each zero d below = is
-      one_each (suc k) d below = absurd (omega arith)
 
   -- what is meant is said in other words
   pub appends_alike : (P Q : A → Type 0) (xs ys : List A) → ((a : A) → P a ↔ Q a) → Appends P xs ys → Appends Q xs ys
@@ -73,10 +48,6 @@ module _ {A : Type 0} where
     each = All-weaker P Q weaker h.more h.each;
     once = h.once;
   }
-
-  -- all of them are some of them
-  pub all_some : (P : A → Type 0) (xs ys : List A) → Appends P xs ys → AppendsSome P xs ys
-  all_some P xs ys h = record { more = h.more; follows = h.follows; each = h.each; once = h.once }
 
   -- one after the other
   module _ (P Q R : A → Type 0) (xs ys zs : List A) (apart : (a : A) → P a → Q a → ⊥) where

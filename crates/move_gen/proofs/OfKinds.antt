@@ -1,33 +1,20 @@
 -- What each generator puts, as the kinds say it.
 use Rattle.std.proofs.Common.{◌↔◌, List, Result, Ok, Err, inl, inr, refl, arith}
-use Rattle.std.specs.Prelude.{OnOk, OnErr}
+use Rattle.std.specs.Prelude.{OnOk}
 use Rattle.conf_doc.specs.declared.configuration.Config.{Config}
-use Rattle.move_core.specs.Appends.{Appends, AppendsSome}
-use Rattle.move_core.specs.Generated.{IsFromFields, IsFromKeys, IsFromSeeds, IsFromTables, IsGenerated}
+use Rattle.move_core.specs.Appends.{Appends}
+use Rattle.move_core.specs.Generated.{IsFromFields, IsFromKeys, IsFromSeeds, IsGenerated}
 use Rattle.move_core.specs.Rulebook.{Rulebook}
 use Rattle.move_core.specs.declared.moves.Generated.{Generated}
 use Rattle.move_gen.specs.Giving.{Gives}
-use Rattle.move_gen.proofs.Appended.{appends_alike, some_weaker}
+use Rattle.move_gen.proofs.Appended.{appends_alike}
 
 module _ {A T E : Type 0} (P Q : A → Type 0) where
   pub on_ok : (r : Result T E) (xs ys : List A) → ((a : A) → P a ↔ Q a) → Gives P r xs ys → OnOk r (Appends Q xs ys)
   on_ok (Ok x) xs ys alike h = appends_alike P Q xs ys alike h
   on_ok (Err e) xs ys alike h = tt
 
-  pub on_err : (r : Result T E) (xs ys : List A) → ((a : A) → P a ↔ Q a) → Gives P r xs ys → OnErr r (AppendsSome Q xs ys)
-  on_err (Ok x) xs ys alike h = tt
-  on_err (Err e) xs ys alike h = some_weaker P Q xs ys (λ a. (alike a).0) h
-
 module _ (book : Rulebook) (cur goal : Config) (g : Generated) where
-  pub first_kind : IsFromTables cur goal g ↔ IsGenerated book cur goal 1 g
-  first_kind = (λ is. inl (refl, is), back)
-    where
-      back : IsGenerated book cur goal 1 g → IsFromTables cur goal g
-      back (inl is) = is.1
-      back (inr (inl is)) = let e = is.0 in absurd (omega (arith, e))
-      back (inr (inr (inl is))) = let e = is.0 in absurd (omega (arith, e))
-      back (inr (inr (inr is))) = let e = is.0 in absurd (omega (arith, e))
-
   pub second_kind : IsFromKeys cur goal g ↔ IsGenerated book cur goal 2 g
   second_kind = (λ is. inr (inl (refl, is)), back)
     where
