@@ -1,14 +1,13 @@
 -- The rule against dependencies, from the entries that it looks at to all.
-use Rattle.std.proofs.Common.{◌≡◌, ◌⊎◌, ◌↔◌, inl, inr, ℕ, List, [], ◌∷◌, ◌++◌, Bool, true, false, Option, Some, None, option_map, option_and_then, slice_get, map, IsTrue, IsSome, refl, sym, ap, ◌∙◌, subst, arith}
+use Rattle.std.proofs.Common.{◌≡◌, ◌≤◌, ◌⊎◌, ◌↔◌, inl, inr, ℕ, List, [], ◌∷◌, ◌++◌, Bool, true, false, Option, Some, None, option_map, option_and_then, length, slice_get, map, IsTrue, refl, sym, ap, ◌∙◌, subst, arith}
 use Rattle.std.specs.Option.{option_to_list}
 use Rattle.conf_doc.specs.Pairs.{find, IsRising}
 use Rattle.conf_doc.specs.WellFormed.{IsConfig}
 use Rattle.conf_doc.specs.declared.configuration.Config.{Config}
 use Rattle.conf_doc.specs.declared.configuration.Entry.{Entry}
 use Rattle.conf_doc.specs.declared.configuration.Table.{Table}
-use Rattle.conf_doc.proofs.Edits.{find_at}
+use Rattle.conf_doc.proofs.Edits.{find_at, same_Some}
 use Rattle.std.proofs.lemmas.Option.{slice_get-map}
-use Rattle.conf_check.specs.Acceptance.{IsSatisfied}
 use Rattle.conf_check.specs.Rows.{IsEntryAt}
 use Rattle.conf_check.specs.WantRuns.{GivesFirst, GivesNextWant, IsWantAhead}
 use Rattle.conf_check.specs.Wants.{Want, IsNamed, IsWantAt, field_name, want_of}
@@ -16,16 +15,13 @@ use Rattle.conf_check.specs.declared.want_iter.WantAt.{WantAt}
 use Rattle.conf_check.specs.declared.want_iter.WantIter.{WantIter}
 use Rattle.conf_check.specs.declared.want_iter.WantPlace.{WantPlace}
 use Rattle.yang_model.specs.ModelSets.{ModelSet}
-use Rattle.move_core.specs.Contexts.{HasWant, field_names, names_of, rulebook}
+use Rattle.move_core.specs.Contexts.{field_names, names_of, rulebook}
 use Rattle.move_core.specs.Moves.{Place, place}
 use Rattle.move_core.specs.Rules.{HasNoDependency, IsAtOrBelow}
 use Rattle.move_core.specs.declared.contexts.Ctx.{Ctx}
 use Rattle.move_core.specs.declared.moves.Move.{Move}
 use Rattle.move_rules.specs.Dependencies.{EntryKeeps, IsKept, IsKeptAt, KeepsWants, TableKeeps, place_of}
 use Rattle.move_rules.specs.Entries.{AreAll}
-
-same_Some : {A : Type 0} (x y : A) → Some x ≡ Some y → x ≡ y
-same_Some x y e = cc
 
 -- ---- from positions to names
 
@@ -49,16 +45,77 @@ names_named c p a named =
     ∙ ap (option_and_then (entry_names p.field a.table.now)) named.entry.at_key
     ∙ ap (option_map (λ n. a.table.now ∷ a.key.now ∷ n)) (fields_named named.entry.fields p.field (option_map (λ f. f.now) a.field) named.field)
 
+-- ---- at a place or below
+
+heads : {x y : List ℕ} {xs ys : Place} → x ∷ xs ≡ y ∷ ys → x ≡ y
+heads e = cc
+
+tails : {x y : List ℕ} {xs ys : Place} → x ∷ xs ≡ y ∷ ys → xs ≡ ys
+tails e = cc
+
+module _ (t k : List ℕ) (b : Bool) where
+  pub at_table : (fs p : Place) (n : List ℕ) → length p ≡ 1 → slice_get p 0 ≡ Some n → IsTrue b ↔ (n ≡ t) → IsTrue b ↔ IsAtOrBelow p (t ∷ k ∷ fs)
+  at_table fs [] n long at says = absurd (omega arith)
+  at_table fs (x ∷ []) n long at says =
+      let same : x ≡ n = same_Some x n at in
+      (λ h. (k ∷ fs, ap (λ u. u ∷ k ∷ fs) (sym (same ∙ says.0 h))), λ below. says.1 (sym same ∙ sym (heads below.1)))
+  at_table fs (x ∷ y ∷ p) n long at says = absurd (omega arith)
+
+  pub at_entry : (fs p : Place) (n m : List ℕ) → length p ≡ 2 → slice_get p 0 ≡ Some n → slice_get p 1 ≡ Some m → IsTrue b ↔ ((n ≡ t) × (m ≡ k))
+      → IsTrue b ↔ IsAtOrBelow p (t ∷ k ∷ fs)
+  at_entry fs [] n m long at at_key says = absurd (omega arith)
+  at_entry fs (x ∷ []) n m long at at_key says = absurd (omega arith)
+  at_entry fs (x ∷ y ∷ []) n m long at at_key says =
+      let first : x ≡ n = same_Some x n at in
+      let second : y ≡ m = same_Some y m at_key in (
+        λ h. let is = says.0 h in (fs, λ i. sym (first ∙ is.0) i ∷ sym (second ∙ is.1) i ∷ fs),
+        λ below. says.1 (sym first ∙ sym (heads below.1), sym second ∙ sym (heads (tails below.1))),
+      )
+  at_entry fs (x ∷ y ∷ z ∷ p) n m long at at_key says = absurd (omega arith)
+
+  one_field : (o : Option (List ℕ)) (l : List ℕ) (rest : Place) → option_to_list o ≡ l ∷ rest → option_to_list o ≡ l ∷ []
+  one_field None l rest e = cc
+  one_field (Some f) l rest e = ap (λ u. u ∷ []) (heads e)
+
+  pub at_field : (o : Option (List ℕ)) (p : Place) (n m l : List ℕ) (c : Bool) → length p ≡ 3 → slice_get p 0 ≡ Some n → slice_get p 1 ≡ Some m → slice_get p 2 ≡ Some l
+      → IsTrue c ↔ ((n ≡ t) × (m ≡ k)) → c ≡ true → IsTrue b ↔ (option_to_list o ≡ l ∷ []) → IsTrue b ↔ IsAtOrBelow p (t ∷ k ∷ option_to_list o)
+  at_field o [] n m l c long at at_key at_name entry passes says = absurd (omega arith)
+  at_field o (x ∷ []) n m l c long at at_key at_name entry passes says = absurd (omega arith)
+  at_field o (x ∷ y ∷ []) n m l c long at at_key at_name entry passes says = absurd (omega arith)
+  at_field o (x ∷ y ∷ z ∷ []) n m l c long at at_key at_name entry passes says =
+      let first : x ≡ n = same_Some x n at in
+      let second : y ≡ m = same_Some y m at_key in
+      let third : z ≡ l = same_Some z l at_name in
+      let is = entry.0 passes in (
+        λ h. let field : option_to_list o ≡ z ∷ [] = says.0 h ∙ ap (λ u. u ∷ []) (sym third) in ([], λ i. sym (first ∙ is.0) i ∷ sym (second ∙ is.1) i ∷ field i),
+        λ below. says.1 (one_field o l below.0 (tails (tails below.1) ∙ ap (λ u. u ∷ below.0) third)),
+      )
+  at_field o (x ∷ y ∷ z ∷ w ∷ p) n m l c long at at_key at_name entry passes says = absurd (omega arith)
+
+  pub not_at_field : (fs p : Place) (n m : List ℕ) → length p ≡ 3 → slice_get p 0 ≡ Some n → slice_get p 1 ≡ Some m → IsTrue b ↔ ((n ≡ t) × (m ≡ k)) → b ≡ false
+      → IsTrue b ↔ IsAtOrBelow p (t ∷ k ∷ fs)
+  not_at_field fs [] n m long at at_key entry fails = absurd (omega arith)
+  not_at_field fs (x ∷ []) n m long at at_key entry fails = absurd (omega arith)
+  not_at_field fs (x ∷ y ∷ p) n m long at at_key entry fails =
+      let first : x ≡ n = same_Some x n at in
+      let second : y ≡ m = same_Some y m at_key in (
+        λ h. absurd (both_ways b h fails),
+        λ below. entry.1 (sym first ∙ sym (heads below.1), sym second ∙ sym (heads (tails below.1))),
+      )
+    where
+      both_ways : (d : Bool) → d ≡ true → d ≡ false → ⊥
+      both_ways d first second = cc
+
 -- ---- and back
 
-by_field : (t k u : List ℕ) (fields : Place) (o : Option Place) (n : Place) → option_map (λ f. t ∷ k ∷ f) o ≡ Some n → (rest : Place) × (n ≡ t ∷ k ∷ rest)
-by_field t k u fields None n is = cc
-by_field t k u fields (Some f) n is = (f, sym (same_Some (t ∷ k ∷ f) n is))
+by_field : (t k : List ℕ) (o : Option Place) (n : Place) → option_map (λ f. t ∷ k ∷ f) o ≡ Some n → (rest : Place) × (n ≡ t ∷ k ∷ rest)
+by_field t k None n is = cc
+by_field t k (Some f) n is = (f, sym (same_Some (t ∷ k ∷ f) n is))
 
 by_entry : (t : List ℕ) (f : Option ℕ) (o : Option (List ℕ × Entry)) (n : Place) → option_and_then (entry_names f t) o ≡ Some n
     → (e : List ℕ × Entry) × (o ≡ Some e) × (rest : Place) × (n ≡ t ∷ e.0 ∷ rest)
 by_entry t f None n is = cc
-by_entry t f (Some e) n is = let rest = by_field t e.0 [] [] (field_names e.1 f) n is in (e, refl, rest.0, rest.1)
+by_entry t f (Some e) n is = let rest = by_field t e.0 (field_names e.1 f) n is in (e, refl, rest.0, rest.1)
 
 by_table : (k : ℕ) (f : Option ℕ) (o : Option (List ℕ × Table)) (n : Place) → option_and_then (table_names k f) o ≡ Some n
     → (t : List ℕ × Table) × (o ≡ Some t) × (option_and_then (entry_names f t.0) (slice_get t.1 k) ≡ Some n)
@@ -148,15 +205,15 @@ module _ (models : ModelSet) (c other : Config) (at : Place) (t k : List ℕ) wh
 -- ---- from entries to all
 
 module _ (models : ModelSet) (c other : Config) (at : Place) where
-  at_entry : KeepsWants models c other at → (t k : List ℕ) → EntryKeeps models c other at t k
-  at_entry keeps t k p w entry wanted n names below = keeps n w below (record { at = p; wanted = wanted; names = names })
+  of_entry : KeepsWants models c other at → (t k : List ℕ) → EntryKeeps models c other at t k
+  of_entry keeps t k p w entry wanted n names below = keeps n w below (record { at = p; wanted = wanted; names = names })
 
   pub keeps_in_entry : (t k : List ℕ) (rest : Place) → at ≡ t ∷ k ∷ rest → EntryKeeps models c other at t k ↔ KeepsWants models c other at
   keeps_in_entry t k rest is = (
     λ keeps n w below has.
         let names : n ≡ t ∷ k ∷ (rest ++ below.0) = below.1 ∙ ap (λ p. p ++ below.0) is in
         keeps has.at w (entry_named c has.at t k (rest ++ below.0) (has.names ∙ ap Some names)) has.wanted n has.names below,
-    λ keeps. at_entry keeps t k,
+    λ keeps. of_entry keeps t k,
   )
 
   pub keeps_in_table : (t : List ℕ) → at ≡ t ∷ [] → TableKeeps models c other at t ↔ KeepsWants models c other at
@@ -165,14 +222,11 @@ module _ (models : ModelSet) (c other : Config) (at : Place) where
         let names : n ≡ t ∷ below.0 = below.1 ∙ ap (λ p. p ++ below.0) is in
         let table = by_table has.at.key has.at.field (slice_get c has.at.table) n has.names in
         let entry = by_entry table.0.0 has.at.field (slice_get table.0.1 has.at.key) n table.2 in
-        let first : t ≡ table.0.0 = head_of (sym names ∙ entry.3) in
+        let first : t ≡ table.0.0 = heads (sym names ∙ entry.3) in
         let whole : n ≡ t ∷ entry.0.0 ∷ entry.2 = entry.3 ∙ ap (λ u. u ∷ entry.0.0 ∷ entry.2) (sym first) in
         keeps entry.0.0 has.at w (entry_named c has.at t entry.0.0 entry.2 (has.names ∙ ap Some whole)) has.wanted n has.names below,
-    λ keeps. at_entry keeps t,
+    λ keeps. of_entry keeps t,
   )
-    where
-      head_of : {x y : List ℕ} {xs ys : Place} → x ∷ xs ≡ y ∷ ys → x ≡ y
-      head_of e = cc
 
   -- the table that stands at the name is the one that is looked at
   pub keeps_at_keys : (t : List ℕ) (entries : Table) → IsConfig c → Some entries ≡ find t c → AreAll (EntryKeeps models c other at t) (map (λ e. e.0) entries)
@@ -188,6 +242,22 @@ module _ (models : ModelSet) (c other : Config) (at : Place) where
       let found : find t c ≡ Some entry.entries = at_name c p.table (t, entry.entries) well.shaped.rising entry.at in
       let no : None ≡ Some entry.entries = is ∙ found in
       absurd (cc)
+
+-- ---- places of one name, and of more
+
+pub one_name : (p : Place) (t : List ℕ) → length p ≤ 1 → slice_get p 0 ≡ Some t → p ≡ t ∷ []
+one_name [] t few e = absurd cc
+one_name (u ∷ []) t few e = ap (λ n. n ∷ []) (same_Some u t e)
+one_name (u ∷ k ∷ rest) t few e = absurd (omega arith)
+
+pub two_names : (p : Place) (t k : List ℕ) → slice_get p 0 ≡ Some t → slice_get p 1 ≡ Some k → (rest : Place) × (p ≡ t ∷ k ∷ rest)
+two_names [] t k e f = absurd cc
+two_names (u ∷ []) t k e f = absurd cc
+two_names (u ∷ j ∷ rest) t k e f = let first = same_Some u t e in let second = same_Some j k f in (rest, λ i. first i ∷ second i ∷ rest)
+
+-- one test says what another does
+pub says_as : {P Q : Type 0} (b : Bool) → IsTrue b ↔ P → P ↔ Q → IsTrue b ↔ Q
+says_as b says same = (λ h. same.0 (says.0 h), λ q. says.1 (same.1 q))
 
 -- both ways
 pub both_keep : (ctx : Ctx) (cur next : Config) (m : Move) (a b : Bool) → a ≡ true → IsTrue a ↔ KeepsWants ctx.models next cur (place m)
@@ -206,3 +276,10 @@ first_breaks ctx cur next m a fails new = (
   where
     not_both : (b : Bool) → b ≡ true → b ≡ false → ⊥
     not_both b t f = cc
+
+-- the test fails where it says so
+pub none_kept : {P : Type 0} (b : Bool) → b ≡ false → IsTrue b ↔ P → ¬ P
+none_kept b fails says p = both_ways b (says.1 p) fails
+  where
+    both_ways : (d : Bool) → d ≡ true → d ≡ false → ⊥
+    both_ways d first second = cc

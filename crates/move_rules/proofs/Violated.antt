@@ -4,7 +4,7 @@ use Rattle.conf_doc.specs.declared.configuration.Config.{Config}
 use Rattle.conf_check.specs.Validity.{IsFirstViolation, IsValid}
 use Rattle.conf_check.specs.declared.violations.Violation.{Violation}
 use Rattle.move_core.specs.Contexts.{rulebook}
-use Rattle.move_core.specs.Rules.{HasNoDependency, Passes}
+use Rattle.move_core.specs.Rules.{Passes}
 use Rattle.move_core.specs.declared.contexts.Ctx.{Ctx}
 use Rattle.move_core.specs.declared.moves.Move.{Move}
 use Rattle.yang_model.specs.ModelSets.{ModelSet}
@@ -20,17 +20,6 @@ first_rule ctx cur next m b says = (λ passes. inl (refl, says.0 passes), λ p. 
     back : Passes (rulebook ctx) 1 cur next m → IsValid ctx.models next
     back (inl p) = p.1
     back (inr (inl p)) = absurd (omega arith)
-    back (inr (inr (inl p))) = absurd (omega arith)
-    back (inr (inr (inr (inl p)))) = absurd (omega arith)
-    back (inr (inr (inr (inr p)))) = absurd (omega arith)
-
--- so does the second where no want depends on the move
-pub second_rule : (ctx : Ctx) (cur next : Config) (m : Move) (b : Bool) → IsTrue b ↔ HasNoDependency (rulebook ctx) cur next m → IsTrue b ↔ Passes (rulebook ctx) 2 cur next m
-second_rule ctx cur next m b says = (λ passes. inr (inl (refl, says.0 passes)), λ p. says.1 (back p))
-  where
-    back : Passes (rulebook ctx) 2 cur next m → HasNoDependency (rulebook ctx) cur next m
-    back (inl p) = absurd (omega arith)
-    back (inr (inl p)) = p.1
     back (inr (inr (inl p))) = absurd (omega arith)
     back (inr (inr (inr (inl p)))) = absurd (omega arith)
     back (inr (inr (inr (inr p)))) = absurd (omega arith)

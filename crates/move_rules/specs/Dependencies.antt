@@ -12,11 +12,15 @@ use Rattle.move_core.specs.Moves.{Place}
 use Rattle.move_core.specs.Rules.{IsAtOrBelow}
 use Rattle.yang_model.specs.ModelSets.{ModelSet}
 
+-- the name of the field of a want, where it stands in one
+abbrev pub field_of : WantAt → Place
+field_of at = option_to_list (option_map (λ f. f.now) at.field)
+
 -- the names of the place of a want as they are handed out
 abbrev pub place_of : WantAt → Place
-place_of at = at.table.now ∷ at.key.now ∷ option_to_list (option_map (λ f. f.now) at.field)
+place_of at = at.table.now ∷ at.key.now ∷ field_of at
 
--- the want is satisfied in the other configuration as it is handed out, where it stands there or below
+-- a want that is handed out is satisfied in the other configuration, if it stands there or below
 abbrev pub IsKeptAt : ModelSet → Config → Place → WantAt → Type 0
 IsKeptAt models other at a =
     IsAtOrBelow at (place_of a)

@@ -1,9 +1,9 @@
 //! The rule against moves that a want depends on.
-ghost use Rattle.std.specs.Prelude.{◌≡◌, ◌↔◌, map, IsTrue};
+ghost use Rattle.std.specs.Prelude.{◌≡◌, ◌↔◌, [], ◌∷◌, map, IsTrue};
 ghost use Rattle.move_core.specs.Contexts.{rulebook};
 ghost use Rattle.move_core.specs.Moves.{place};
 ghost use Rattle.move_core.specs.Rules.{HasNoDependency, IsAtOrBelow};
-ghost use Rattle.move_rules.specs.Dependencies.{EntryKeeps, IsKeptAt, KeepsWants, TableKeeps, place_of};
+ghost use Rattle.move_rules.specs.Dependencies.{EntryKeeps, IsKeptAt, KeepsWants, TableKeeps, field_of, place_of};
 ghost use Rattle.move_rules.specs.Entries.{AreAll};
 
 use conf_check::{WantAt, entry_wants, is_satisfied};
@@ -18,7 +18,9 @@ pub struct NoDependencyRule {}
 
 impl NoDependencyRule {
     /// The rule, which keeps nothing.
-    pub fn new() -> NoDependencyRule {
+    pub fn new() -> NoDependencyRule
+        ensures { ⟦<NoDependencyRule as MoveRule>⟧.rule_kind result ≡ 2 }
+    {
         NoDependencyRule {}
     }
 }
@@ -46,14 +48,42 @@ impl MoveRule for NoDependencyRule {
     }
 }
 
+/// Whether a want stands in a table.
+fn is_in_table(table: &str, at: &WantAt) -> bool
+    ensures { IsTrue result ↔ (table.now ≡ at.now.table.now) }
+{
+    table == at.table
+}
+
+/// Whether a want stands in the entry of a table at a key.
+fn is_in_entry(table: &str, key: &str, at: &WantAt) -> bool
+    ensures { let same = table.now ≡ at.now.table.now in
+        IsTrue result ↔ (same × (key.now ≡ at.now.key.now)) }
+{
+    table == at.table && key == at.key
+}
+
+/// Whether a want stands in a field of that name.
+fn is_in_field(field: &str, at: &WantAt) -> bool
+    ensures { IsTrue result ↔ (field_of at.now ≡ field.now ∷ []) }
+{
+    match at.field {
+        Some(name) => name == field,
+        None => false,
+    }
+}
+
 /// Whether a want stands at a place or below it.
 fn is_at_or_below(place: &Path, at: &WantAt) -> bool
     ensures { IsTrue result ↔ IsAtOrBelow place.now (place_of at.now) }
 {
-    let names = place.len();
-    place.name_at(0) == at.table
-        && (names < 2 || place.name_at(1) == at.key)
-        && (names < 3 || at.field == Some(place.name_at(2)))
+    match place.len() {
+        1 => is_in_table(place.name_at(0), at),
+        2 => is_in_entry(place.name_at(0), place.name_at(1), at),
+        _ => {
+            is_in_entry(place.name_at(0), place.name_at(1), at) && is_in_field(place.name_at(2), at)
+        }
+    }
 }
 
 /// Whether a want at a place or below it is satisfied in another configuration.
@@ -104,13 +134,7 @@ fn keys_keep(
 }
 
 /// Whether those of each entry of a table of the configuration are.
-fn table_keeps(
-    models: &Models,
-    config: &Config,
-    other: &Config,
-    place: &Path,
-    table: &str,
-) -> bool
+fn table_keeps(models: &Models, config: &Config, other: &Config, place: &Path, table: &str) -> bool
     ensures { let Keeps = TableKeeps models.now config.now other.now place.now in
         IsTrue result ↔ Keeps table.now }
 {
@@ -126,7 +150,14 @@ fn keeps_wants(models: &Models, config: &Config, other: &Config, place: &Path) -
     ensures { IsTrue result ↔ KeepsWants models.now config.now other.now place.now }
 {
     if place.len() > 1 {
-        entry_keeps(models, config, other, place, place.name_at(0), place.name_at(1))
+        entry_keeps(
+            models,
+            config,
+            other,
+            place,
+            place.name_at(0),
+            place.name_at(1),
+        )
     } else {
         table_keeps(models, config, other, place, place.name_at(0))
     }
