@@ -27,7 +27,7 @@ use Rattle.gcu_engine.specs.Printing.{IsPrinted}
 use Rattle.gcu_engine.specs.Request as request
 use Rattle.gcu_engine.specs.Request.{Request}
 use Rattle.gcu_engine.specs.declared.outcomes.Outcome.{Outcome}
-use Rattle.gcu_engine.specs.declared.outcomes.Outcome.TheVariants.{Done, Memory, Usage, InputFault, DiskFault, PrintFault, BadName}
+use Rattle.gcu_engine.specs.declared.outcomes.Outcome.TheVariants.{Done, Memory, Usage, InputFault, DiskFault, PrintFault, Unorderable, Budget, BadName}
 use Rattle.gcu_engine.proofs.Answering.{printed_leaves}
 use Rattle.gcu_engine.proofs.Elapsing.{left_to, now_with_output}
 use Rattle.gcu_engine.proofs.Finding.{then_found}
@@ -236,6 +236,8 @@ refused_there asking name s now Usage old new never st f left = absurd never
 refused_there asking name s now InputFault old new h st f left = (st, left, refl)
 refused_there asking name s now (DiskFault step) old new h st f left = (st, left, refl)
 refused_there asking name s now (PrintFault step) old new never st f left = absurd never
+refused_there asking name s now Unorderable old new never st f left = absurd never
+refused_there asking name s now (Budget n) old new never st f left = absurd never
 refused_there asking name s now other old new h st f left = (f, left, refl)
 
 pub deletion_refused : (o : Option State) (name : List ℕ) (e : Outcome) (old new : Counts) → Refuses old new e
