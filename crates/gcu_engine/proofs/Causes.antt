@@ -50,6 +50,11 @@ module _ (old mid new : Counts) (fell : NoneFell old mid) (rises : PrintMayRise 
   later_end (Budget n) h = tt
   later_end other h = later_cause other h
 
+  -- what is done has its cause while it is printed
+  pub done_cause : (text : List ℕ) (before after : Option State) (result : Outcome) → IsSaid Done text before after mid new result → HasCause old new result
+  done_cause text before after result (inl said) = printed_cause Done text before after result tt said
+  done_cause text before after result (inr said) = printed_cause Memory (last_line Memory) before after result tt said
+
   pub ended_cause : (e : Outcome) (before after : Option State) (result : Outcome) → RefusesOrEnds old mid e
       → IsSaid e (last_line e) before after mid new result → HasCause old new result
   ended_cause e before after result ends (inl said) = printed_cause e (last_line e) before after result (later_end e ends) said

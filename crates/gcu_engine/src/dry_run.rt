@@ -10,11 +10,11 @@ ghost use Rattle.gcu_engine.specs.PlanAsked.{plan_asked};
 ghost use Rattle.gcu_engine.specs.declared.outcomes.Outcome.TheVariants.{Usage as usage};
 
 use crate::Outcome;
-use plan_options::Target;
 use crate::planning::solve;
 use crate::printing::{say, show_plan};
 use host_core::Host;
 use move_core::{Boxes, Kit};
+use plan_options::Target;
 use std::alloc::Global;
 
 /// Prints a plan for a target. The folder stays as it is.

@@ -12,15 +12,22 @@ pub(crate) enum Form<'a> {
     /// The words are no command.
     Unknown,
     /// Prints the stored configuration as the patch of this input would leave it.
-    Preview { patch: &'a Txt },
+    Preview {
+        patch: &'a Txt,
+    },
     /// Says whether the stored configuration is valid.
     Check,
     /// Prints the names of all checkpoints.
     ListCheckpoints,
     /// Deletes the checkpoint of this name.
-    DeleteCheckpoint { name: &'a Txt },
+    DeleteCheckpoint {
+        name: &'a Txt,
+    },
     /// Prints a plan for the target.
-    Plan { target: Target<'a>, options: Options },
+    Plan {
+        target: Target<'a>,
+        options: Options,
+    },
 }
 
 /// The command that the words are.

@@ -25,12 +25,7 @@ pub(crate) enum End {
 }
 
 /// The configuration, where it is valid.
-pub(crate) fn judge(
-    alloc: Global,
-    end: End,
-    ctx: &Ctx,
-    config: Config,
-) -> Result<Config, Outcome>
+pub(crate) fn judge(alloc: Global, end: End, ctx: &Ctx, config: Config) -> Result<Config, Outcome>
     ensures answer { IsRightBy (λ c. c) result (IsValidOr (answer_of end) ctx.now config) }
     ensures valid { IfOk result (IsValidIn ctx.now) }
     ensures cause { IfErr result RefusesAlways }
@@ -42,13 +37,7 @@ pub(crate) fn judge(
 }
 
 /// The refusal of a violation.
-fn invalid(
-    alloc: Global,
-    end: End,
-    ctx: &Ctx,
-    config: &Config,
-    violation: &Violation,
-) -> Outcome
+fn invalid(alloc: Global, end: End, ctx: &Ctx, config: &Config, violation: &Violation) -> Outcome
     requires { IsFirstViolation ctx.now.models config.now violation.now }
     ensures answer { FailsIn (refusal result)
         (follows_by (IsValidOr (answer_of end) ctx.now config.now)) }

@@ -14,12 +14,12 @@ ghost use Rattle.conf_doc.specs.Shaping.{shaping};
 
 use crate::Outcome;
 use crate::judging::{End, judge};
-use plan_options::Target;
 use crate::preview::input_patch;
 use conf_doc::{Config, ShapeError, Tree, config_of_tree, tree_of};
 use host_core::{Host, Txt};
 use move_core::Ctx;
 use patch_core::{ApplyError, Patch, apply_owned};
+use plan_options::{Source, Target};
 use plan_targets::{difference_elsewhere, empty_table};
 use std::alloc::Global;
 
@@ -63,9 +63,9 @@ fn make_goal<H: Host>(
     ensures time { Elapses H.moment H.left_since host.old host.new (MayLeaveNow (H.told host.new)) }
     ensures goes { H.goes_on host.old host.new }
 {
-    match target {
-        Target::Patched { path } => {
-            let patch = input_patch(alloc, path, host)?;
+    match target.source {
+        Source::Patch => {
+            let patch = input_patch(alloc, target.word, host)?;
             patched(alloc, &patch, start)
         }
     }
@@ -97,12 +97,7 @@ fn shaped(alloc: Global, tree: Tree) -> Result<Config, Outcome>
 }
 
 /// Refuses the first table without a model that differs.
-fn test_elsewhere(
-    alloc: Global,
-    ctx: &Ctx,
-    start: &Config,
-    goal: &Config,
-) -> Result<(), Outcome>
+fn test_elsewhere(alloc: Global, ctx: &Ctx, start: &Config, goal: &Config) -> Result<(), Outcome>
     ensures answer { IsRightBy (λ u. u) result (IsElsewhereAs ctx.now start.now goal.now) }
     ensures agree { OnOk result (AgreeElsewhere ctx.now start.now goal.now) }
     ensures cause { IfErr result RefusesAlways }

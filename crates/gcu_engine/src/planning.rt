@@ -12,13 +12,13 @@ ghost use Rattle.gcu_engine.specs.Preparing.{Finds, Refuses};
 
 use crate::Outcome;
 use crate::judging::{End, judge};
-use plan_options::Target;
 use crate::plan_goal::read_goal;
 use crate::rules::input_ctx;
 use crate::stored::read_config;
 use conf_doc::Config;
 use host_core::Host;
 use move_core::{Boxes, Ctx, Kit, Plan};
+use plan_options::Target;
 use plan_search::{SearchError, Steps, search};
 use std::alloc::Global;
 use std::marker::Brand;

@@ -38,7 +38,11 @@ pub(crate) fn preview<H: Host>(alloc: Global, path: &Txt, host: &mut H) -> Resul
 }
 
 /// The patch that an input holds.
-pub(crate) fn input_patch<H: Host>(alloc: Global, path: &Txt, host: &mut H) -> Result<Patch, Outcome>
+pub(crate) fn input_patch<H: Host>(
+    alloc: Global,
+    path: &Txt,
+    host: &mut H,
+) -> Result<Patch, Outcome>
     ensures answer { Finds (H.told host.old) operations result (patch_asked path.now) }
     ensures told { H.told host.new ≡ H.told host.old }
     ensures counts { InputMayRise (H.counts host.old) (H.counts host.new) }

@@ -5,7 +5,7 @@ use Rattle.gcu_engine.specs.Lines.{last_line}
 use Rattle.gcu_engine.specs.PlanAsked.{plan_asked}
 use Rattle.gcu_engine.specs.declared.outcomes.Outcome.TheVariants.{Done}
 use Rattle.gcu_engine.proofs.Answering.{said_to}
-use Rattle.gcu_engine.proofs.Causes.{ended_cause}
+use Rattle.gcu_engine.proofs.Causes.{done_cause, ended_cause}
 use Rattle.gcu_engine.proofs.Completing.{completes}
 use Rattle.gcu_engine.proofs.Elapsing.{asking_leaves_behind}
 use Rattle.gcu_engine.proofs.PlanFinding.{end_cause}
@@ -48,6 +48,13 @@ returns-in-Ok-clause-goes g c =
 pub returns-in-Err-clause-goes : goal.returns-in-Err-clause-goes
 returns-in-Err-clause-goes g c =
     g.met.H.Host.continues c.args.host.now c.solve.new.host c.say.new.host c.solve.ensures.goes c.say.ensures.goes
+
+pub returns-in-Ok-clause-complete : goal.returns-in-Ok-clause-complete
+returns-in-Ok-clause-complete g c =
+    completes (plan_asked (target_view c.args.target) c.args.budget) (g.H.Host.told c.args.host.now) (g.H.Host.told c.show_plan.new.host) (g.H.Host.counts c.args.host.now) (g.H.Host.counts c.show_plan.new.host) c.show_plan.result
+    (done_cause (g.H.Host.counts c.args.host.now) (g.H.Host.counts c.solve.new.host) (g.H.Host.counts c.show_plan.new.host) c.solve.ensures.counts c.show_plan.ensures.counts
+    (plan_text c.in-Ok.plan ++ last_line Done) (g.H.Host.told c.solve.new.host) (g.H.Host.told c.show_plan.new.host) c.show_plan.result c.show_plan.ensures.said)
+    (returns-in-Ok-clause-answers g c)
 
 pub returns-in-Err-clause-complete : goal.returns-in-Err-clause-complete
 returns-in-Err-clause-complete g c =
