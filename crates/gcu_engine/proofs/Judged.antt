@@ -1,5 +1,5 @@
 -- How the violation of an end of a plan is refused.
-use Rattle.std.proofs.Common.{◌≡◌, ℕ, List, sym, ap, subst, Option, Some}
+use Rattle.std.proofs.Common.{◌≡◌, ℕ, List, sym, subst, Some}
 use Rattle.conf_doc.specs.declared.configuration.Config.{Config}
 use Rattle.conf_check.specs.Validity.{IsFirstViolation}
 use Rattle.conf_check.specs.declared.violations.Rule.{Rule}

@@ -1,10 +1,9 @@
 -- How what the parts of a command that plans find makes what it says.
-use Rattle.std.proofs.Common.{◌≡◌, ◌≤◌, inl, inr, ℕ, List, ◌++◌, refl, sym, ap, ◌∙◌, subst, Option, Some, None, Result, Ok, Err, IfErr, IfOk, IfSome}
+use Rattle.std.proofs.Common.{◌≡◌, inl, ℕ, List, refl, sym, ap, subst, Option, Some, None, Result, Ok, Err, IfErr, IfOk, IfSome}
 use Rattle.host_core.specs.Answers.{Gives}
-use Rattle.host_core.specs.Counts.{Counts, InputMayRise, NoneFell, PrintMayRise, Rose}
+use Rattle.host_core.specs.Counts.{Counts}
 use Rattle.host_core.specs.State.{State}
 use Rattle.conf_doc.specs.declared.configuration.Config.{Config}
-use Rattle.conf_check.specs.declared.violations.Rule.{Rule}
 use Rattle.move_core.specs.Contexts.{AgreeElsewhere}
 use Rattle.move_core.specs.RulesFile.{rules}
 use Rattle.move_core.specs.declared.contexts.Ctx.{Ctx}
@@ -13,16 +12,14 @@ use Rattle.move_core.specs.declared.settings.Settings.{Settings}
 use Rattle.patch_core.specs.Operation.{operations}
 use Rattle.patch_core.specs.declared.patches.Patch.{Patch}
 use Rattle.yang_model.specs.ModelSets.{ModelSet}
-use Rattle.gcu_engine.specs.Answers.{HasCause, Says}
-use Rattle.gcu_engine.specs.Asking.{Asking, follows, follows_by, ◌>>>◌}
-use Rattle.gcu_engine.specs.Lines.{last_line}
+use Rattle.gcu_engine.specs.Answers.{HasCause}
+use Rattle.gcu_engine.specs.Asking.{Asking, follows_by}
 use Rattle.gcu_engine.specs.ModelFiles.{bytes_asked, models_asked}
 use Rattle.gcu_engine.specs.PatchAsked.{patch_asked, target}
 use Rattle.gcu_engine.specs.PlanAsked.{HasKeys, IsElsewhereAs, IsValidOr, goal_asked, made_asked, plan_asked, start_asked}
 use Rattle.gcu_engine.specs.PlanCommands.{IsSolved, RefusesOrEnds, SaysPlan, request_of}
 use Rattle.plan_options.specs.Targets.{Target, patched}
-use Rattle.gcu_engine.specs.Preparing.{Finds, Found, IsRightBy, Refuses, RefusesAlways, refusal}
-use Rattle.gcu_engine.specs.Printing.{IsSaid}
+use Rattle.gcu_engine.specs.Preparing.{Finds, IsRightBy, Refuses, RefusesAlways, refusal}
 use Rattle.gcu_engine.specs.Request as request
 use Rattle.gcu_engine.specs.Request.{Request}
 use Rattle.gcu_engine.specs.RulesAsked.{ctx_asked, rules_answer, rules_limit, rules_path, settings_asked}

@@ -6,7 +6,7 @@ use Rattle.host_core.specs.State.{State}
 use Rattle.conf_doc.specs.declared.configuration.Config.{Config}
 use Rattle.checkpoints.specs.Names.{is_good_name}
 use Rattle.checkpoints.specs.Points.{Held, points}
-use Rattle.gcu_engine.specs.Asking.{Asking, an_input, a_file, asks, follows, settles_first, ◌>>>◌}
+use Rattle.gcu_engine.specs.Asking.{Asking, a_file, asks, follows, settles_first, ◌>>>◌}
 use Rattle.gcu_engine.specs.Checking.{check_asked}
 use Rattle.gcu_engine.specs.Form.{Form, check, delete_checkpoint, form, list_checkpoints, plan, preview}
 use Rattle.gcu_engine.specs.PatchAsked.{patch_asked, target}

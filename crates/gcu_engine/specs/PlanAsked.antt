@@ -10,7 +10,7 @@ use Rattle.gcu_engine.specs.Asking.{Asking, follows, follows_by, ◌>>>◌}
 use Rattle.gcu_engine.specs.Checking.{IsInvalidAs}
 use Rattle.gcu_engine.specs.PatchAsked.{patch_asked, target}
 use Rattle.plan_options.specs.Targets.{Target, patched}
-use Rattle.gcu_engine.specs.Request.{Planning, Request, plan}
+use Rattle.gcu_engine.specs.Request.{Request, plan}
 use Rattle.gcu_engine.specs.RulesAsked.{ctx_asked}
 use Rattle.gcu_engine.specs.StoredAsked.{stored_asked}
 use Rattle.gcu_engine.specs.declared.outcomes.Outcome.{Outcome}

@@ -1,5 +1,5 @@
 -- What the parts of a command that plans give.
-use Rattle.std.specs.Prelude.{◌≡◌, ℕ, ◌<◌, List, ◌++◌, Result, Ok, Err, ⊤}
+use Rattle.std.specs.Prelude.{◌<◌, List, ◌++◌, Result, Ok, Err, ⊤}
 use Rattle.host_core.specs.Counts.{Counts}
 use Rattle.host_core.specs.State.{State}
 use Rattle.move_core.specs.Contexts.{AgreeElsewhere, IsNamed, IsValidIn}

@@ -1,5 +1,5 @@
 -- How the search for a plan ends.
-use Rattle.std.specs.Prelude.{ℕ, ◌<◌, List, length, Err}
+use Rattle.std.specs.Prelude.{◌<◌, List, length, Err}
 use Rattle.move_core.specs.Contexts.{rulebook}
 use Rattle.move_core.specs.Plans.{IsPlan}
 use Rattle.move_core.specs.declared.moves.Move.{Move}

@@ -21,7 +21,8 @@ use move_core::{Boxes, Kit};
 use std::alloc::Global;
 
 /// Does the command that the words are, and prints its answer. `preview PATCH` prints the stored
-/// configuration as the patch would leave it, `check` says whether it is valid, `list-checkpoints` the names of all checkpoints, and
+/// configuration as the patch would leave it, `apply-patch PATCH --dry-run` a plan that leads there by the
+/// boxes of the kit, `check` says whether it is valid, `list-checkpoints` the names of all checkpoints, and
 /// `delete-checkpoint NAME` deletes one.
 pub fn run<H: Host>(alloc: Global, words: &[Txt], kit: &mut Kit, host: &mut H) -> Outcome
     requires longest { longest_scoped_name ≤ H.longest_name }

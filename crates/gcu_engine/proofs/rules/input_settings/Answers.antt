@@ -1,5 +1,4 @@
 use Rattle.std.proofs.lemmas.Result.{err_from_is_err_and}
-use Rattle.gcu_engine.proofs.Finding.{always_refuses}
 use Rattle.gcu_engine.proofs.PlanFinding.{no_rules, rules_found}
 use Rattle.gcu_engine.proofs.rules.input_settings.Goals as goal
 
