@@ -20,7 +20,7 @@ use Rattle.gcu_engine.specs.Request.{Request}
 use Rattle.gcu_engine.specs.Trees.{preview_document}
 use Rattle.gcu_engine.proofs.Finding.{fails_before, fails_first, tree_given}
 use Rattle.gcu_engine.specs.declared.outcomes.Outcome.{Outcome}
-use Rattle.gcu_engine.specs.declared.outcomes.Outcome.TheVariants.{Done, Memory, Usage, InputFault, DiskFault, PrintFault}
+use Rattle.gcu_engine.specs.declared.outcomes.Outcome.TheVariants.{Done, Memory, Usage, InputFault, DiskFault, PrintFault, Unorderable, Budget}
 
 -- a refusal's last line is all that it says
 pub refused_says : (asking : Asking Request) (s : State) (e : Outcome) (old new : Counts)
@@ -31,6 +31,8 @@ refused_says asking s Usage old new never st f = absurd never
 refused_says asking s InputFault old new h st f = (st, inl refl, refl)
 refused_says asking s (DiskFault step) old new h st f = (st, inl (inl refl), refl)
 refused_says asking s (PrintFault step) old new never st f = absurd never
+refused_says asking s Unorderable old new never st f = absurd never
+refused_says asking s (Budget n) old new never st f = absurd never
 refused_says asking s other old new h st f = (f, inl refl, refl)
 
 -- whole, it is the output of that answer
@@ -153,6 +155,8 @@ refused_completes : (asking : Asking Request) (old mid new : Counts) (e : Outcom
 refused_completes asking old mid new Done rises never f none = absurd never
 refused_completes asking old mid new Usage rises never f none = absurd never
 refused_completes asking old mid new (PrintFault step) rises never f none = absurd never
+refused_completes asking old mid new Unorderable rises never f none = absurd never
+refused_completes asking old mid new (Budget n) rises never f none = absurd never
 refused_completes asking old mid new Memory rises h f none = inl refl
 refused_completes asking old mid new InputFault rises h f none = absurd (none.input (subst (λ n. Rose old.input n) (sym (ap (λ c. c.input) rises.2)) h))
 refused_completes asking old mid new (DiskFault step) rises h f none = absurd (none.disk (subst (λ n. Rose old.disk n) (sym (ap (λ c. c.disk) rises.2)) h.1))

@@ -5,10 +5,11 @@ use Rattle.host_core.specs.State.{State}
 use Rattle.gcu_engine.specs.Answers.{HasCause}
 use Rattle.gcu_engine.specs.Commands.{IsTold, may_have_written, outcome_of}
 use Rattle.gcu_engine.specs.Lines.{last_line}
+use Rattle.gcu_engine.specs.PlanCommands.{RefusesOrEnds}
 use Rattle.gcu_engine.specs.Preparing.{Refuses}
 use Rattle.gcu_engine.specs.Printing.{IsPrinted, IsSaid}
 use Rattle.gcu_engine.specs.declared.outcomes.Outcome.{Outcome}
-use Rattle.gcu_engine.specs.declared.outcomes.Outcome.TheVariants.{Done, Memory, Usage, InputFault, DiskFault, PrintFault}
+use Rattle.gcu_engine.specs.declared.outcomes.Outcome.TheVariants.{Done, Memory, Usage, InputFault, DiskFault, PrintFault, Unorderable, Budget}
 
 -- where one count may rise none falls
 pub disk_fell : (old new : Counts) → DiskMayRise old new → NoneFell old new
@@ -43,6 +44,22 @@ module _ (old mid new : Counts) (fell : NoneFell old mid) (rises : PrintMayRise 
       → IsSaid e (last_line e) before after mid new result → HasCause old new result
   said_cause e before after result refuses (inl said) = printed_cause e (last_line e) before after result (later_cause e refuses) said
   said_cause e before after result refuses (inr said) = printed_cause Memory (last_line Memory) before after result tt said
+
+  later_end : (e : Outcome) → RefusesOrEnds old mid e → HasCause old new e
+  later_end Unorderable h = tt
+  later_end (Budget n) h = tt
+  later_end other h = later_cause other h
+
+  -- what is done has its cause while it is printed
+  pub done_cause : (text : List ℕ) (before after : Option State) (result : Outcome) → IsSaid Done text before after mid new result → HasCause old new result
+  done_cause text before after result (inl said) = printed_cause Done text before after result tt said
+  done_cause text before after result (inr said) = printed_cause Memory (last_line Memory) before after result tt said
+
+  -- a refusal or the end of a search is answered with its cause
+  pub unsolved_cause : (e : Outcome) (before after : Option State) (result : Outcome) → RefusesOrEnds old mid e
+      → IsSaid e (last_line e) before after mid new result → HasCause old new result
+  unsolved_cause e before after result ends (inl said) = printed_cause e (last_line e) before after result (later_end e ends) said
+  unsolved_cause e before after result ends (inr said) = printed_cause Memory (last_line Memory) before after result tt said
 
   told_cause : (fault : Bool) (e : Outcome) (before after : Option State) (result : Outcome) → Refuses old mid e
       → IsTold fault e before after mid new result → HasCause old new result

@@ -10,7 +10,7 @@ use Rattle.conf_check.specs.declared.violations.Rule.TheVariants.{KeyShape, KeyR
 use Rattle.conf_check.specs.declared.violations.Violation.{Violation}
 use Rattle.violation_places.specs.Places.{IsPlaceOf, rule_from}
 use Rattle.gcu_engine.specs.Answers.{Says}
-use Rattle.gcu_engine.specs.Checking.{IsInvalid, IsJudged, check_asked}
+use Rattle.gcu_engine.specs.Checking.{IsInvalid, IsInvalidAs, IsJudged, check_asked}
 use Rattle.gcu_engine.specs.Lines.{last_line}
 use Rattle.gcu_engine.specs.ModelFiles.{AreModels, Text, models_asked, texts_asked}
 use Rattle.gcu_engine.specs.Preparing.{Finds, IsRightBy, Refuses, RefusesAlways}
@@ -97,12 +97,16 @@ rule_is b v rule same is =
     let one : rule ≡ b.rule = cc in one
 
 -- the first violation is told with its place and its rule
-pub first_told : (models : ModelSet) (config : Config) (v : Violation) (place : List ℕ) (rule : Rule) (h : IsFirstViolation models config v)
-    → IsPlaceOf models config h.breach place → rule_from v.rule ≡ Some rule → IsInvalid models config (CurrentInvalid place rule)
-first_told models config v place rule h at is = record {
+pub first_told_as : (answer : List ℕ → Rule → Outcome) (models : ModelSet) (config : Config) (v : Violation) (place : List ℕ) (rule : Rule) (h : IsFirstViolation models config v)
+    → IsPlaceOf models config h.breach place → rule_from v.rule ≡ Some rule → IsInvalidAs answer models config (answer place rule)
+first_told_as answer models config v place rule h at is = record {
   breach = h.breach;
   first = record { broken = h.broken; first = h.first };
   place = place;
   at = at;
-  told = ap (λ r. CurrentInvalid place r) (rule_is h.breach v rule h.is is);
+  told = ap (λ r. answer place r) (rule_is h.breach v rule h.is is);
 }
+
+pub first_told : (models : ModelSet) (config : Config) (v : Violation) (place : List ℕ) (rule : Rule) (h : IsFirstViolation models config v)
+    → IsPlaceOf models config h.breach place → rule_from v.rule ≡ Some rule → IsInvalid models config (CurrentInvalid place rule)
+first_told models config v place rule h at is = first_told_as CurrentInvalid models config v place rule h at is

@@ -19,13 +19,13 @@ use Rattle.conf_store.specs.Loads.{Loads, LoadsTree}
 use Rattle.conf_store.specs.declared.errors.LoadError.TheVariants.{Bad}
 use Rattle.conf_store.specs.declared.errors.StoredWhy.{StoredWhy}
 use Rattle.conf_store.specs.declared.loaded.Stored.{Stored}
-use Rattle.gcu_engine.specs.Asked.{patch_asked, patch_in, patch_limit, target, target_shape}
+use Rattle.gcu_engine.specs.PatchAsked.{patch_asked, patch_in, patch_limit, target, target_shape}
 use Rattle.gcu_engine.specs.StoredAsked.{stored_asked, stored_answer}
 use Rattle.gcu_engine.specs.Asking.{Asking, follows, follows_by, ◌>>>◌}
 use Rattle.gcu_engine.specs.Preparing.{FailsIn, Finds, Found, IsGiven, IsRightBy, Refuses, RefusesAlways, StandsIn, refusal}
 use Rattle.gcu_engine.specs.Trees.{document_shape, preview_document, stored_document, target_document, through}
 use Rattle.gcu_engine.specs.declared.outcomes.Outcome.{Outcome}
-use Rattle.gcu_engine.specs.declared.outcomes.Outcome.TheVariants.{BadStored, Done, Memory, Usage, InputFault, DiskFault, PrintFault, TargetShape}
+use Rattle.gcu_engine.specs.declared.outcomes.Outcome.TheVariants.{BadStored, Done, Memory, Usage, InputFault, DiskFault, PrintFault, TargetShape, Unorderable, Budget}
 
 -- ---- what is asked one after the other
 
@@ -87,6 +87,8 @@ refused_here Usage old new never = absurd never
 refused_here InputFault old new never = absurd never
 refused_here (DiskFault step) old new never = absurd never
 refused_here (PrintFault step) old new never = absurd never
+refused_here Unorderable old new never = absurd never
+refused_here (Budget n) old new never = absurd never
 refused_here other old new h = tt
 
 -- what is refused always is refused here

@@ -3,6 +3,8 @@ pub mod Elapsing
 pub mod Finding
 pub mod ModelTexts
 pub mod Checked
+pub mod Judged
+pub mod PlanFinding
 pub mod TreeTexts
 mod Causes
 mod Completing

@@ -13,7 +13,7 @@ use Rattle.host_core.specs.Names.{name_cmp}
 use Rattle.host_core.specs.State.{Files, Pending, State, dirty, listing, printed, settled, with_file, with_pending}
 use Rattle.host_core.proofs.Runs as runs
 use Rattle.conf_store.specs.Changes.{AreLeft, Changes, Leads, Settles}
-use Rattle.gcu_engine.specs.Answers.{HasCause, LeavesDone, LeavesStopped, LeftChanging, LeftDoing, LeftOf, LeftWithOutput, Says, done_output}
+use Rattle.gcu_engine.specs.Answers.{HasCause, LeavesDone, LeavesStopped, LeftChanging, LeftDoing, LeftOf, LeftWithOutput, Says, IsDoneOutput}
 use Rattle.gcu_engine.specs.Asking.{Asking, a_file, a_settling}
 use Rattle.gcu_engine.specs.Commands.{AnswersTo, IsFirst, IsReady, IsTold, LeavesRefused, LeftTo, TellsOn, is_disk_fault, may_have_written, outcome_of}
 use Rattle.gcu_engine.specs.Lines.{last_line}
@@ -21,7 +21,7 @@ use Rattle.gcu_engine.specs.Preparing.{FailsIn, Finds, Found, Refuses, StandsIn,
 use Rattle.gcu_engine.specs.Printing.{IsPrinted}
 use Rattle.gcu_engine.specs.Request.{Request}
 use Rattle.gcu_engine.specs.declared.outcomes.Outcome.{Outcome}
-use Rattle.gcu_engine.specs.declared.outcomes.Outcome.TheVariants.{Done, Memory, Usage, InputFault, DiskFault, PrintFault}
+use Rattle.gcu_engine.specs.declared.outcomes.Outcome.TheVariants.{Done, Memory, Usage, InputFault, DiskFault, PrintFault, Unorderable, Budget}
 use Rattle.gcu_engine.proofs.Answering.{printed_leaves, refused_cause, refused_says}
 use Rattle.gcu_engine.proofs.Elapsing.{left_to, now_with_output}
 
@@ -32,7 +32,7 @@ pub record IsWriting (r : Request) (P Q : Files → Files → Type 0) : Type 0 w
   pub done : (before : State) (files : Files) → P before.files files → LeavesDone r before (record before { files = files; pending = settled })
   pub stopped : (before now : State) → Leads Q (with_pending settled before) now → LeavesStopped r before now
   pub doing : (before : State) (left : Left) → LeftChanging Q before left → LeftDoing r before left
-  pub says : done_output r ≡ last_line Done
+  pub says : IsDoneOutput r (last_line Done)
 
 -- at one state: what is there when the last line of an answer is to be printed
 abbrev IsLeft : Asking Request → State → Option State → Outcome → Type 0
@@ -50,6 +50,8 @@ module _ (asking : Asking Request) (s : State) (reads : asking.Reads a_settling)
   settled_says InputFault c d h st f = (st, inr (reads, refl), refl)
   settled_says (DiskFault step) c d h st f = (st, inl (inr (reads, refl)), refl)
   settled_says (PrintFault step) c d never st f = absurd never
+  settled_says Unorderable c d never st f = absurd never
+  settled_says (Budget n) c d never st f = absurd never
   settled_says other c d h st f = (f, inr (reads, refl), refl)
 
   module _ (r : Request) (P Q : Files → Files → Type 0) (w : IsWriting r P Q) (new : Option State) (may : asking.Gives (Ok r) ⊎ (new ≡ Some start)) where
@@ -67,6 +69,8 @@ module _ (asking : Asking Request) (s : State) (reads : asking.Reads a_settling)
     refused_writing Done c d left never st f = absurd never
     refused_writing Usage c d left never st f = absurd never
     refused_writing (PrintFault step) c d left never st f = absurd never
+    refused_writing Unorderable c d left never st f = absurd never
+    refused_writing (Budget n) c d left never st f = absurd never
     refused_writing Memory c d left h st f = (start, left, (inr (reads, refl), refl))
     refused_writing InputFault c d left h st f = (start, left, (st, inr (reads, refl), refl))
     refused_writing other c d left h st f = (start, left, (f, inr (reads, refl), refl))
@@ -75,7 +79,7 @@ module _ (asking : Asking Request) (s : State) (reads : asking.Reads a_settling)
     says_written : (result : Result (Unit {0}) Outcome) (c d : Counts)
         → OnOk result (Settles P (Some start) new) → IfErr result (LeavesRefused Q (Some start) new) → IfErr result (Refuses c d)
         → Found (λ _. r) result asking → IsLeft asking s new (outcome_of result)
-    says_written (Ok done) c d ok err cause found = (_, ok.1, (r, found.gives, w.done s ok.0 ok.2, sym w.says))
+    says_written (Ok done) c d ok err cause found = (_, ok.1, (r, found.gives, w.done s ok.0 ok.2, w.says))
     says_written (Err e) c d ok err cause found = refused_writing e c d err cause found.stands found.gives
 
 -- what is found of a state that is told
@@ -229,6 +233,8 @@ module _ (asking : State → Asking Request) where
   instead s now (DiskFault step) isnt says = absurd cc
   instead s now (PrintFault step) isnt never = absurd never
   instead s now Memory isnt says = says
+  instead s now Unorderable isnt says = (says.1, refl)
+  instead s now (Budget n) isnt says = (says.1, refl)
   instead s now other isnt says = (says.1, refl)
 
   ready_instead : (o told : Option State) (e : Outcome) → may_have_written e ≡ false → IsReady asking o told e → IsReady asking o told Memory

@@ -7,12 +7,15 @@ use Rattle.host_core.specs.State.{Files, State, printed, settled, with_pending}
 use Rattle.conf_doc.specs.Texts.{file_text}
 use Rattle.conf_store.specs.Changes.{Leads}
 use Rattle.checkpoints.specs.Changes.{IsDeleted, IsDeletedOrNot, IsSaved, IsSavedOrNot}
+use Rattle.move_core.specs.Operations.{plan_text}
+use Rattle.move_core.specs.declared.moves.Move.{Move}
 use Rattle.gcu_engine.specs.Asked.{asked}
 use Rattle.gcu_engine.specs.Asking.{Asking, an_input, a_file, a_settling}
 use Rattle.gcu_engine.specs.Lines.{last_line, lines}
-use Rattle.gcu_engine.specs.Request.{Request, delete_checkpoint, list_checkpoints, preview, check, save_checkpoint}
+use Rattle.gcu_engine.specs.Plannings.{IsPlanFor, IsUnsolved}
+use Rattle.gcu_engine.specs.Request.{Request, delete_checkpoint, list_checkpoints, plan, preview, check, save_checkpoint}
 use Rattle.gcu_engine.specs.declared.outcomes.Outcome.{Outcome}
-use Rattle.gcu_engine.specs.declared.outcomes.Outcome.TheVariants.{Done, Memory, Usage, InputFault, DiskFault, PrintFault}
+use Rattle.gcu_engine.specs.declared.outcomes.Outcome.TheVariants.{Done, Memory, Usage, InputFault, DiskFault, PrintFault, Unorderable, Budget}
 
 -- a fault is told only where its count rose, and after no acknowledgement
 abbrev pub HasCause : Counts → Counts → Outcome → Type 0
@@ -54,25 +57,40 @@ IsStopped asking before now =
 
 -- ---- the output
 
--- what is printed where the command did all that was requested
+-- what is printed where the command did all that was requested, behind its plan where it has one
 abbrev pub done_output : Request → List ℕ
 done_output (preview c) = file_text c ++ last_line Done
 done_output (list_checkpoints names) = lines names ++ last_line Done
 done_output check = last_line Done
 done_output (save_checkpoint name config) = last_line Done
 done_output (delete_checkpoint name) = last_line Done
+done_output (plan p) = last_line Done
+
+-- the same with the text of some plan, where one is requested
+abbrev pub IsDoneOutput : Request → List ℕ → Type 0
+IsDoneOutput (plan p) output =
+    (ms : List Move) × IsPlanFor p ms × (output ≡ plan_text ms ++ done_output (plan p))
+IsDoneOutput other output = output ≡ done_output other
+
+-- a plan is requested, and none is found for that reason
+abbrev pub EndsSearch : Asking Request → Outcome → Type 0
+EndsSearch asking answer = (r : Request) × asking.Gives (Ok r) × IsUnsolved r answer
 
 -- what is there before the output with that answer, and the whole output; a fault is answered only where a
 -- call of its kind stands
 abbrev pub Says : Asking Request → State → State → Outcome → List ℕ → Type 0
 Says asking before now Done output =
-    (r : Request) × asking.Gives (Ok r) × LeavesDone r before now × (output ≡ done_output r)
+    (r : Request) × asking.Gives (Ok r) × LeavesDone r before now × IsDoneOutput r output
 Says asking before now Memory output = IsUntouched asking before now × (output ≡ last_line Memory)
 Says asking before now InputFault output =
     asking.Reads an_input × IsUntouched asking before now × (output ≡ last_line InputFault)
 Says asking before now (DiskFault step) output =
     asking.Reads a_file × IsStopped asking before now × (output ≡ last_line (DiskFault step))
 Says asking before now (PrintFault step) output = ⊥
+Says asking before now Unorderable output =
+    EndsSearch asking Unorderable × IsUntouched asking before now × (output ≡ last_line Unorderable)
+Says asking before now (Budget n) output =
+    EndsSearch asking (Budget n) × IsUntouched asking before now × (output ≡ last_line (Budget n))
 Says asking before now other output =
     asking.Gives (Err other) × IsUntouched asking before now × (output ≡ last_line other)
 
@@ -153,6 +171,7 @@ Finishes (list_checkpoints names) result = result ≡ Done
 Finishes check result = result ≡ Done
 Finishes (save_checkpoint name config) result = result ≡ Done
 Finishes (delete_checkpoint name) result = result ≡ Done
+Finishes (plan p) result = (result ≡ Done) ⊎ IsUnsolved (plan p) result
 
 -- the answers where nothing failed: for want of memory, the refusal, or what the request says
 abbrev pub Complete : Asking Request → Outcome → Type 0

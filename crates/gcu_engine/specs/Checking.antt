@@ -4,6 +4,7 @@ use Rattle.host_core.specs.State.{State}
 use Rattle.conf_doc.specs.declared.configuration.Config.{Config}
 use Rattle.yang_model.specs.ModelSets.{ModelSet}
 use Rattle.conf_check.specs.Validity.{Breach, IsBreach, IsBreachBefore, IsValid}
+use Rattle.conf_check.specs.declared.violations.Rule.{Rule}
 use Rattle.violation_places.specs.Places.{IsPlaceOf}
 use Rattle.gcu_engine.specs.Asking.{Asking, follows_by, ◌>>>◌}
 use Rattle.gcu_engine.specs.ModelFiles.{models_asked}
@@ -17,13 +18,18 @@ pub record IsFirstBreach (models : ModelSet) (config : Config) (b : Breach) : Ty
   pub broken : IsBreach models config b
   pub first : (a : Breach) → IsBreachBefore a b → ¬ IsBreach models config a
 
--- the first violation, told with its place and its rule
-pub record IsInvalid (models : ModelSet) (config : Config) (e : Outcome) : Type 0 where
+-- the first violation, told by an answer with its place and its rule
+pub record IsInvalidAs (answer : List ℕ → Rule → Outcome) (models : ModelSet) (config : Config)
+    (e : Outcome) : Type 0 where
   pub breach : Breach
   pub first : IsFirstBreach models config breach
   pub place : List ℕ
   pub at : IsPlaceOf models config breach place
-  pub told : e ≡ CurrentInvalid place breach.rule
+  pub told : e ≡ answer place breach.rule
+
+-- that of the stored configuration
+abbrev pub IsInvalid : ModelSet → Config → Outcome → Type 0
+IsInvalid models config e = IsInvalidAs CurrentInvalid models config e
 
 -- a valid configuration, or its first violation
 abbrev pub IsJudged : ModelSet → Config → Result Request Outcome → Type 0

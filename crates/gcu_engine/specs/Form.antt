@@ -1,7 +1,8 @@
 -- Which words are a command.
-use Rattle.std.specs.Prelude.{ℕ, List, [], ◌∷◌, codes, Bool, not, ◌&&◌, nat_eq, if◌then◌else◌, Option, Some, None}
-use Rattle.std.specs.Cmp.Lexicographic.{pointwise}
-use Rattle.std.specs.List.{starts_with}
+use Rattle.std.specs.Prelude.{ℕ, List, [], ◌∷◌, codes, ◌&&◌, if◌then◌else◌, Option, Some, None, option_and_then}
+use Rattle.plan_options.specs.Options.{Options, options}
+use Rattle.plan_options.specs.Targets.{Target, target_of}
+use Rattle.plan_options.specs.Words.{is_positional, is_word}
 
 -- a command with its words
 pub data Form : Type 0 where
@@ -13,13 +14,8 @@ pub data Form : Type 0 where
   save_checkpoint : List ℕ → Form
   -- with the name of the checkpoint
   delete_checkpoint : List ℕ → Form
-
--- options begin with two dashes, and any other word is positional
-abbrev pub is_positional : List ℕ → Bool
-is_positional word = not (starts_with nat_eq word (codes "--"))
-
-abbrev is_word : List ℕ → List ℕ → Bool
-is_word word name = pointwise nat_eq word name
+  -- with the target and the budget of a plan that is only printed
+  plan : Target → ℕ → Form
 
 -- the command that a word is
 abbrev pub form_of_one : List ℕ → Option Form
@@ -38,9 +34,19 @@ form_of_two command word =
     then Some (delete_checkpoint word)
     else None
 
+-- a plan is only printed: one that would be done is no command
+abbrev pub planned : Target → Options → Option Form
+planned target given = if given.dry_run then Some (plan target given.budget) else None
+
+-- the command that a word, a second one and options are
+abbrev pub form_of_plan : List ℕ → List ℕ → List (List ℕ) → Option Form
+form_of_plan command word ws =
+    option_and_then (λ target. option_and_then (planned target) (options ws))
+    (target_of command word)
+
 -- the command that the words are
 abbrev pub form : List (List ℕ) → Option Form
 form [] = None
 form (a ∷ []) = form_of_one a
 form (a ∷ b ∷ []) = form_of_two a b
-form (a ∷ b ∷ c ∷ ws) = None
+form (a ∷ b ∷ c ∷ ws) = form_of_plan a b (c ∷ ws)

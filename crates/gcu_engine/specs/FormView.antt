@@ -2,7 +2,8 @@
 use Rattle.std.specs.Prelude.{Option, Some, None}
 use Rattle.gcu_engine.specs.Form as words
 use Rattle.gcu_engine.specs.declared.form.Form.{Form}
-use Rattle.gcu_engine.specs.declared.form.Form.TheVariants.{Unknown, Preview, Check, ListCheckpoints, SaveCheckpoint, DeleteCheckpoint}
+use Rattle.gcu_engine.specs.declared.form.Form.TheVariants.{Unknown, Preview, Check, ListCheckpoints, SaveCheckpoint, DeleteCheckpoint, Plan}
+use Rattle.plan_options.specs.Views.{target_view}
 
 -- the command that it is, or None for words that are no command
 abbrev pub form_view : Form → Option words.Form
@@ -12,3 +13,4 @@ form_view Check = Some words.check
 form_view ListCheckpoints = Some words.list_checkpoints
 form_view (SaveCheckpoint name) = Some (words.save_checkpoint name.now)
 form_view (DeleteCheckpoint name) = Some (words.delete_checkpoint name.now)
+form_view (Plan target options) = Some (words.plan (target_view target) options.budget)

@@ -10,10 +10,12 @@ use Rattle.conf_store.specs.declared.errors.StoredWhy.{StoredWhy}
 use Rattle.conf_store.specs.declared.errors.StoredWhy.TheVariants as stored
 use Rattle.conf_check.specs.declared.violations.Rule.{Rule}
 use Rattle.conf_check.specs.declared.violations.Rule.TheVariants as rules
+use Rattle.move_core.specs.declared.errors.RulesWhy.{RulesWhy}
+use Rattle.move_core.specs.declared.errors.RulesWhy.TheVariants as rules_file
 use Rattle.yang_text.specs.declared.errors.ModelWhy.{ModelWhy}
 use Rattle.yang_text.specs.declared.errors.ModelWhy.TheVariants as models
 use Rattle.gcu_engine.specs.declared.outcomes.Outcome.{Outcome}
-use Rattle.gcu_engine.specs.declared.outcomes.Outcome.TheVariants.{Done, Memory, Usage, InputFault, DiskFault, PrintFault, NoInput, TooBig, BadJson, BadModels, BadPatch, PatchFailed, TargetShape, CurrentInvalid, NoCheckpoint, CheckpointExists, BadName, BadStored}
+use Rattle.gcu_engine.specs.declared.outcomes.Outcome.TheVariants.{Done, Memory, Usage, InputFault, DiskFault, PrintFault, NoInput, TooBig, BadJson, BadModels, BadRules, BadPatch, PatchFailed, TargetShape, CurrentInvalid, TargetInvalid, NoModel, EmptyTable, Unorderable, Budget, NoCheckpoint, CheckpointExists, BadName, BadStored}
 use Rattle.gcu_engine.specs.declared.outcomes.PointWhy.{PointWhy}
 use Rattle.gcu_engine.specs.declared.outcomes.PointWhy.TheVariants as point
 
@@ -29,6 +31,7 @@ number (NoInput path) = 7
 number (TooBig path limit) = 8
 number (BadJson path) = 9
 number (BadModels file line why) = 11
+number (BadRules why) = 12
 number (BadPatch index why) = 13
 number (PatchFailed index why) = 14
 number (TargetShape place) = 15
@@ -36,6 +39,11 @@ number (NoCheckpoint name why) = 22
 number (CheckpointExists name) = 23
 number (BadName name) = 24
 number (CurrentInvalid place rule) = 16
+number (TargetInvalid place rule) = 17
+number (NoModel table) = 18
+number (EmptyTable table) = 19
+number Unorderable = 20
+number (Budget n) = 21
 number (BadStored why) = 25
 
 -- what is wrong with an operation
@@ -97,6 +105,13 @@ model_why models.BadPattern = codes "BadPattern"
 model_why models.BadExpr = codes "BadExpr"
 model_why models.TooMany = codes "TooMany"
 
+-- why a rules file isn't of its form
+abbrev pub rules_why : RulesWhy → List ℕ
+rules_why rules_file.Top = codes "Top"
+rules_why rules_file.CreateOnly = codes "CreateOnly"
+rules_why rules_file.Required = codes "Required"
+rules_why rules_file.Services = codes "Services"
+
 -- why there is no such checkpoint
 abbrev pub point_why : PointWhy → List ℕ
 point_why point.Absent = codes "Absent"
@@ -127,6 +142,7 @@ said (TooBig path limit) = codes "too big " ++ quoted path ++ space ++ decimal l
 said (BadJson path) = codes "bad json " ++ quoted path
 said (BadModels file line why) =
     codes "bad models " ++ quoted file ++ space ++ decimal line ++ space ++ model_why why
+said (BadRules why) = codes "bad rules " ++ rules_why why
 said (BadPatch index why) = codes "bad patch " ++ decimal index ++ space ++ patch_why why
 said (PatchFailed index why) = codes "patch failed " ++ decimal index ++ space ++ fail_why why
 said (TargetShape place) = codes "target shape " ++ quoted place
@@ -135,6 +151,12 @@ said (CheckpointExists name) = codes "checkpoint exists " ++ quoted name
 said (BadName name) = codes "bad name " ++ quoted name
 said (CurrentInvalid place rule) =
     codes "current invalid " ++ quoted place ++ space ++ rule_name rule
+said (TargetInvalid place rule) =
+    codes "target invalid " ++ quoted place ++ space ++ rule_name rule
+said (NoModel table) = codes "no model " ++ quoted table
+said (EmptyTable table) = codes "empty table " ++ quoted table
+said Unorderable = codes "unorderable"
+said (Budget n) = codes "budget " ++ decimal n
 said (BadStored why) = codes "bad stored " ++ stored_why why
 
 -- each text as a line

@@ -4,7 +4,7 @@ use Rattle.host_core.specs.Counts.{Counts, Rose}
 use Rattle.host_core.specs.State.{State}
 use Rattle.gcu_engine.specs.Asking.{Asking, an_input, a_file, follows_by}
 use Rattle.gcu_engine.specs.declared.outcomes.Outcome.{Outcome}
-use Rattle.gcu_engine.specs.declared.outcomes.Outcome.TheVariants.{Done, Memory, Usage, InputFault, DiskFault, PrintFault}
+use Rattle.gcu_engine.specs.declared.outcomes.Outcome.TheVariants.{Done, Memory, Usage, InputFault, DiskFault, PrintFault, Unorderable, Budget}
 
 -- the refusal that is asked for, or None for an answer with another cause
 abbrev pub refusal : Outcome → Option Outcome
@@ -13,6 +13,8 @@ refusal Memory = None
 refusal InputFault = None
 refusal (DiskFault step) = None
 refusal (PrintFault step) = None
+refusal Unorderable = None
+refusal (Budget n) = None
 refusal other = Some other
 
 -- a call of the kind that the fault is of is made
@@ -38,6 +40,8 @@ Refuses old new Usage = ⊥
 Refuses old new InputFault = Rose old.input new.input
 Refuses old new (DiskFault step) = (step ≡ 0) × Rose old.disk new.disk
 Refuses old new (PrintFault step) = ⊥
+Refuses old new Unorderable = ⊥
+Refuses old new (Budget n) = ⊥
 Refuses old new other = ⊤
 
 -- the same, with no fault among the causes
@@ -47,6 +51,8 @@ RefusesAlways Usage = ⊥
 RefusesAlways InputFault = ⊥
 RefusesAlways (DiskFault step) = ⊥
 RefusesAlways (PrintFault step) = ⊥
+RefusesAlways Unorderable = ⊥
+RefusesAlways (Budget n) = ⊥
 RefusesAlways other = ⊤
 
 -- the same of a relation that tells what is right

@@ -1,6 +1,14 @@
 -- What a command is to do, once nothing stands against it.
 use Rattle.std.specs.Prelude.{ℕ, List}
 use Rattle.conf_doc.specs.declared.configuration.Config.{Config}
+use Rattle.move_core.specs.declared.contexts.Ctx.{Ctx}
+
+-- by which models and settings to plan, from where to where, and how many configurations may be met
+pub record Planning : Type 0 where
+  pub ctx : Ctx
+  pub start : Config
+  pub goal : Config
+  pub budget : ℕ
 
 -- a command with all that it needs
 pub data Request : Type 0 where
@@ -14,3 +22,5 @@ pub data Request : Type 0 where
   save_checkpoint : List ℕ → Config → Request
   -- delete the checkpoint of this name
   delete_checkpoint : List ℕ → Request
+  -- print such a plan
+  plan : Planning → Request

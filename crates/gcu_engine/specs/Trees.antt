@@ -7,7 +7,8 @@ use Rattle.conf_doc.specs.Document.{Document}
 use Rattle.conf_doc.specs.Shaping.{shaping}
 use Rattle.patch_core.specs.Apply.{apply}
 use Rattle.patch_core.specs.Operation.{Operation}
-use Rattle.gcu_engine.specs.Asked.{target_asked, target_in, target_shape}
+use Rattle.gcu_engine.specs.Asked.{target_asked}
+use Rattle.gcu_engine.specs.PatchAsked.{target_in, target_shape}
 use Rattle.gcu_engine.specs.StoredAsked.{stored_asked}
 use Rattle.gcu_engine.specs.Asking.{Asking}
 use Rattle.gcu_engine.specs.declared.outcomes.Outcome.{Outcome}

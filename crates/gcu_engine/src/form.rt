@@ -1,16 +1,20 @@
 //! Which words are a command.
 ghost use Rattle.std.specs.Prelude.{◌≡◌};
-ghost use Rattle.gcu_engine.specs.Form.{form, form_of_one, form_of_two, is_positional as is_not_option};
+ghost use Rattle.gcu_engine.specs.Form.{form, form_of_one, form_of_plan, form_of_two, planned};
 ghost use Rattle.gcu_engine.specs.FormView.{form_view};
+ghost use Rattle.plan_options.specs.Views.{options_view, target_view};
 
 use host_core::Txt;
+use plan_options::{Options, Target, is_positional, read_options, read_target};
 
 /// A command with its words.
 pub(crate) enum Form<'a> {
     /// The words are no command.
     Unknown,
     /// Prints the stored configuration as the patch of this input would leave it.
-    Preview { patch: &'a Txt },
+    Preview {
+        patch: &'a Txt,
+    },
     /// Says whether the stored configuration is valid.
     Check,
     /// Prints the names of all checkpoints.
@@ -18,7 +22,14 @@ pub(crate) enum Form<'a> {
     /// Saves the stored configuration as the checkpoint of this name.
     SaveCheckpoint { name: &'a Txt },
     /// Deletes the checkpoint of this name.
-    DeleteCheckpoint { name: &'a Txt },
+    DeleteCheckpoint {
+        name: &'a Txt,
+    },
+    /// Prints a plan for the target.
+    Plan {
+        target: Target<'a>,
+        options: Options,
+    },
 }
 
 /// The command that the words are.
@@ -28,7 +39,8 @@ pub(crate) fn read_form(words: &[Txt]) -> Form<'_>
     match words {
         [command] => form_of_one(command),
         [command, word] => form_of_two(command, word),
-        _ => Form::Unknown,
+        [command, word, options @ ..] => form_of_plan(command, word, options),
+        [] => Form::Unknown,
     }
 }
 
@@ -62,9 +74,22 @@ fn form_of_two<'a>(command: &'a Txt, word: &'a Txt) -> Form<'a>
     Form::Unknown
 }
 
-/// Whether a word is no option.
-fn is_positional(word: &Txt) -> bool
-    ensures { result ≡ is_not_option word.now }
+/// The command that a word, a second one and options are.
+fn form_of_plan<'a>(command: &Txt, word: &'a Txt, words: &[Txt]) -> Form<'a>
+    ensures { form_view result ≡ form_of_plan command.now word.now words.now }
 {
-    !word.as_str().starts_with("--")
+    match (read_target(command, word), read_options(words)) {
+        (Some(target), Some(options)) => planned(target, options),
+        _ => Form::Unknown,
+    }
+}
+
+/// A plan is only printed: one that would be done is no command.
+fn planned(target: Target<'_>, options: Options) -> Form<'_>
+    ensures { form_view result ≡ planned (target_view target.entry) (options_view options) }
+{
+    if options.dry_run {
+        return Form::Plan { target, options };
+    }
+    Form::Unknown
 }

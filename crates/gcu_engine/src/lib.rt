@@ -3,15 +3,20 @@
 
 mod check;
 mod delete_checkpoint;
+mod dry_run;
 mod form;
 mod inputs;
+mod judging;
 mod lines;
 mod list_checkpoints;
 mod model_files;
 mod models;
 mod outcomes;
+mod plan_goal;
+mod planning;
 mod preview;
 mod printing;
+mod rules;
 mod run_command;
 mod save_checkpoint;
 mod stored;

@@ -1,10 +1,11 @@
 //! The last line of each outcome.
 ghost use Rattle.std.specs.Prelude.{◌≡◌, ◌++◌, IfOk, codes, string_bytes, decimal};
-ghost use Rattle.gcu_engine.specs.Lines.{last_line, numbered_line as numbered, refused_line as refused, said as said_text, space, quoted as quoted_text, patch_why, fail_why, point_why, stored_why, model_why, rule_name};
+ghost use Rattle.gcu_engine.specs.Lines.{last_line, numbered_line as numbered, refused_line as refused, said as said_text, space, quoted as quoted_text, patch_why, fail_why, point_why, rules_why, stored_why, model_why, rule_name};
 
 use crate::{Outcome, PointWhy};
 use conf_check::Rule;
 use conf_store::StoredWhy;
+use move_core::RulesWhy;
 use patch_core::{FailWhy, PatchWhy};
 use serde_json::Value;
 use std::alloc::{AllocError, Global};
@@ -65,6 +66,10 @@ fn said(alloc: Global, outcome: &Outcome) -> Result<String, AllocError>
             let why = model_why_name(*why);
             placed(alloc, "bad models ", file.as_str(), *line, why)
         }
+        Outcome::BadRules { why } => {
+            let why = rules_why_name(*why);
+            format!(in alloc; "bad rules {why}")
+        }
         Outcome::BadPatch { index, why } => {
             let why = patch_why_name(*why);
             numbered(alloc, "bad patch ", *index, why)
@@ -99,6 +104,25 @@ fn said(alloc: Global, outcome: &Outcome) -> Result<String, AllocError>
                 rule_name_of(*rule),
             )
         }
+        Outcome::TargetInvalid { place, rule } => {
+            let place = quoted(alloc, place.as_str())?;
+            worded(
+                alloc,
+                "target invalid ",
+                place.as_str(),
+                rule_name_of(*rule),
+            )
+        }
+        Outcome::NoModel { table } => {
+            let table = quoted(alloc, table.as_str())?;
+            format!(in alloc; "no model {table}")
+        }
+        Outcome::EmptyTable { table } => {
+            let table = quoted(alloc, table.as_str())?;
+            format!(in alloc; "empty table {table}")
+        }
+        Outcome::Unorderable => String::from_str(alloc, "unorderable"),
+        Outcome::Budget { n } => format!(in alloc; "budget {n}"),
         Outcome::BadStored { why } => {
             let why = stored_why_text(alloc, *why)?;
             format!(in alloc; "bad stored {why}")
@@ -217,6 +241,17 @@ fn fail_why_name(why: FailWhy) -> &'static str
         FailWhy::TestFailed => "TestFailed",
         FailWhy::IntoItself => "IntoItself",
         FailWhy::TooLarge => "TooLarge",
+    }
+}
+
+fn rules_why_name(why: RulesWhy) -> &'static str
+    ensures { result.now ≡ rules_why why }
+{
+    match why {
+        RulesWhy::Top => "Top",
+        RulesWhy::CreateOnly => "CreateOnly",
+        RulesWhy::Required => "Required",
+        RulesWhy::Services => "Services",
     }
 }
 

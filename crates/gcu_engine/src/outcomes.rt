@@ -5,6 +5,7 @@ ghost use Rattle.gcu_engine.specs.Lines.{number};
 use conf_check::Rule;
 use conf_store::StoredWhy;
 use host_core::{Memory, Txt};
+use move_core::RulesWhy;
 use patch_core::{FailWhy, PatchWhy};
 use yang_text::ModelWhy;
 
@@ -40,6 +41,8 @@ pub enum Outcome {
     BadJson { path: Txt },
     /// The list of the files of models, or one of these files, isn't of its profile, on that line.
     BadModels { file: Txt, line: u32, why: ModelWhy },
+    /// The rules file isn't of its form.
+    BadRules { why: RulesWhy },
     /// An operation of the patch, counted from 0, is malformed.
     BadPatch { index: usize, why: PatchWhy },
     /// An operation of the patch, counted from 0, can't be applied.
@@ -54,6 +57,16 @@ pub enum Outcome {
     BadName { name: Txt },
     /// The stored configuration breaks this rule at this place, an RFC 6901 pointer.
     CurrentInvalid { place: Txt, rule: Rule },
+    /// The target breaks this rule at this place, an RFC 6901 pointer.
+    TargetInvalid { place: Txt, rule: Rule },
+    /// This table has no model and would change; it is the first by name.
+    NoModel { table: Txt },
+    /// The target has this table, which has a model, without keys; it is the first by name.
+    EmptyTable { table: Txt },
+    /// No list of allowed moves leads to the target.
+    Unorderable,
+    /// So many configurations other than the target were met.
+    Budget { n: u32 },
     /// The folder stands for no configuration.
     BadStored { why: StoredWhy },
 }
@@ -74,6 +87,7 @@ impl Outcome {
             Outcome::TooBig { .. } => 8,
             Outcome::BadJson { .. } => 9,
             Outcome::BadModels { .. } => 11,
+            Outcome::BadRules { .. } => 12,
             Outcome::BadPatch { .. } => 13,
             Outcome::PatchFailed { .. } => 14,
             Outcome::TargetShape { .. } => 15,
@@ -81,6 +95,11 @@ impl Outcome {
             Outcome::CheckpointExists { .. } => 23,
             Outcome::BadName { .. } => 24,
             Outcome::CurrentInvalid { .. } => 16,
+            Outcome::TargetInvalid { .. } => 17,
+            Outcome::NoModel { .. } => 18,
+            Outcome::EmptyTable { .. } => 19,
+            Outcome::Unorderable => 20,
+            Outcome::Budget { .. } => 21,
             Outcome::BadStored { .. } => 25,
         }
     }

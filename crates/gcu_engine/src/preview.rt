@@ -5,7 +5,7 @@ ghost use Rattle.host_core.specs.Counts.{InputMayRise, NoneFell};
 ghost use Rattle.host_core.specs.Crashes.{Elapses, MayLeaveNow};
 ghost use Rattle.host_core.specs.Names.{longest_scoped_name};
 ghost use Rattle.conf_doc.specs.Trees.{document};
-ghost use Rattle.gcu_engine.specs.Asked.{patch_asked, patch_in, patch_answer};
+ghost use Rattle.gcu_engine.specs.PatchAsked.{patch_asked, patch_in, patch_answer};
 ghost use Rattle.gcu_engine.specs.Preparing.{Finds, Refuses, RefusesAlways, refusal};
 ghost use Rattle.gcu_engine.specs.Trees.{document_shape, preview_document, target_document};
 ghost use Rattle.patch_core.specs.Operation.{operations};
@@ -38,7 +38,11 @@ pub(crate) fn preview<H: Host>(alloc: Global, path: &Txt, host: &mut H) -> Resul
 }
 
 /// The patch that an input holds.
-fn input_patch<H: Host>(alloc: Global, path: &Txt, host: &mut H) -> Result<Patch, Outcome>
+pub(crate) fn input_patch<H: Host>(
+    alloc: Global,
+    path: &Txt,
+    host: &mut H,
+) -> Result<Patch, Outcome>
     ensures answer { Finds (H.told host.old) operations result (patch_asked path.now) }
     ensures told { H.told host.new ≡ H.told host.old }
     ensures counts { InputMayRise (H.counts host.old) (H.counts host.new) }

@@ -3,6 +3,7 @@ ghost use Rattle.std.specs.Prelude.{◌≡◌, ◌++◌, IfErr, IfOk};
 ghost use Rattle.host_core.specs.Counts.{PrintMayRise};
 ghost use Rattle.host_core.specs.Crashes.{Elapses};
 ghost use Rattle.conf_doc.specs.Trees.{document};
+ghost use Rattle.move_core.specs.Operations.{plan_text as text_of_plan};
 ghost use Rattle.gcu_engine.specs.Answers.{LeftWithOutput};
 ghost use Rattle.gcu_engine.specs.Commands.{IsFirst, IsTold, is_disk_fault as is_fault, may_have_written, outcome_of};
 ghost use Rattle.gcu_engine.specs.Lines.{last_line};
@@ -14,6 +15,7 @@ use crate::lines::line;
 use crate::tree_text::tree_text;
 use conf_doc::Tree;
 use host_core::{Host, Memory};
+use move_core::{Plan, plan_text};
 use std::alloc::Global;
 
 /// Prints the last line of an outcome that isn't Done, and answers it.
@@ -76,6 +78,21 @@ pub(crate) fn show<H: Host>(alloc: Global, tree: &Tree, host: &mut H) -> Outcome
     }
 }
 
+/// Prints the text of a plan and the last line of Done.
+pub(crate) fn show_plan<H: Host>(alloc: Global, plan: &Plan, host: &mut H) -> Outcome
+    ensures said { IsSaid done (text_of_plan plan.now ++ last_line done)
+        (H.told host.old) (H.told host.new) (H.counts host.old) (H.counts host.new) result }
+    ensures counts { PrintMayRise (H.counts host.old) (H.counts host.new) }
+    ensures time { Elapses H.moment H.left_since host.old host.new
+        (LeftWithOutput (H.told host.old)) }
+    ensures goes { H.goes_on host.old host.new }
+{
+    match shown_plan(alloc, plan) {
+        Ok(lines) => print(Outcome::Done, &lines, host),
+        Err(Memory) => say_memory(host),
+    }
+}
+
 /// Prints the last line of Memory, for which no memory is needed.
 pub(crate) fn say_memory<H: Host>(host: &mut H) -> Outcome
     ensures printed { IsPrinted no_memory (last_line no_memory)
@@ -93,6 +110,17 @@ fn shown(alloc: Global, tree: &Tree) -> Result<Vec<u8>, Memory>
     ensures { IfOk result (λ b. b.items ≡ text_in_lines (document tree.now) ++ last_line done) }
 {
     let mut text = tree_text(alloc, tree)?;
+    match text.extend_from_slice(b"done\n") {
+        Ok(()) => Ok(text),
+        Err(_) => Err(Memory),
+    }
+}
+
+/// The whole output with a plan.
+fn shown_plan(alloc: Global, plan: &Plan) -> Result<Vec<u8>, Memory>
+    ensures { IfOk result (λ b. b.items ≡ text_of_plan plan.now ++ last_line done) }
+{
+    let mut text = plan_text(alloc, plan)?;
     match text.extend_from_slice(b"done\n") {
         Ok(()) => Ok(text),
         Err(_) => Err(Memory),

@@ -11,20 +11,24 @@ ghost use Rattle.gcu_engine.specs.declared.outcomes.Outcome.TheVariants.{Usage a
 use crate::Outcome;
 use crate::check::check;
 use crate::delete_checkpoint::delete_checkpoint;
+use crate::dry_run::dry_run;
 use crate::form::{Form, read_form};
 use crate::list_checkpoints::list_checkpoints;
 use crate::preview::preview;
 use crate::printing::{say, show};
 use crate::save_checkpoint::save_checkpoint;
 use host_core::{Host, Txt};
+use move_core::{Boxes, Kit};
 use std::alloc::Global;
 
 /// Does the command that the words are, and prints its answer. `preview PATCH` prints the stored
-/// configuration as the patch would leave it, `check` says whether it is valid, `checkpoint NAME` saves it
-/// under a name, `list-checkpoints` prints the names of all checkpoints, and `delete-checkpoint NAME`
-/// deletes one.
-pub fn run<H: Host>(alloc: Global, words: &[Txt], host: &mut H) -> Outcome
-    requires { longest_scoped_name ≤ H.longest_name }
+/// configuration as the patch would leave it, `check` says whether it is valid, `apply-patch PATCH --dry-run`
+/// prints a plan for the patch, `checkpoint NAME` saves the stored configuration under a name,
+/// `list-checkpoints` prints the names of all checkpoints, and `delete-checkpoint NAME` deletes one.
+pub fn run<H: Host>(alloc: Global, words: &[Txt], kit: &mut Kit, host: &mut H) -> Outcome
+    requires longest { longest_scoped_name ≤ H.longest_name }
+    requires kinds { ⟦<Kit as Boxes>⟧.HasKinds kit.old }
+    ensures kinds { ⟦<Kit as Boxes>⟧.HasKinds kit.new }
     // The answer is the first refusal, or what the command asks for, and nothing changes but the output and
     // a checkpoint that is saved or deleted.
     ensures answers { Answers words.now
@@ -56,5 +60,6 @@ pub fn run<H: Host>(alloc: Global, words: &[Txt], host: &mut H) -> Outcome
         Form::ListCheckpoints => list_checkpoints(alloc, host),
         Form::SaveCheckpoint { name } => save_checkpoint(alloc, name, host),
         Form::DeleteCheckpoint { name } => delete_checkpoint(alloc, name, host),
+        Form::Plan { target, options } => dry_run(alloc, target, options.budget, kit, host),
     }
 }

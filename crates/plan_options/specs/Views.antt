@@ -1,13 +1,19 @@
 -- Targets and options as the code keeps them.
+use Rattle.std.specs.Prelude.{ℕ, List}
 use Rattle.plan_options.specs.Options as given
 use Rattle.plan_options.specs.Targets as words
 use Rattle.plan_options.specs.declared.options.Options.{Options}
+use Rattle.plan_options.specs.declared.targets.Source.{Source}
+use Rattle.plan_options.specs.declared.targets.Source.TheVariants.{Patch}
 use Rattle.plan_options.specs.declared.targets.Target.{Target}
-use Rattle.plan_options.specs.declared.targets.Target.TheVariants.{Patched}
+
+-- the target of a source with its word
+abbrev pub target_from : Source → List ℕ → words.Target
+target_from Patch word = words.patched word
 
 -- the target that it is
 abbrev pub target_view : Target → words.Target
-target_view (Patched path) = words.patched path.now
+target_view t = target_from t.source t.word.now
 
 -- the options that they are
 abbrev pub options_view : Options → given.Options

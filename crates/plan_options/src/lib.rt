@@ -8,4 +8,4 @@ mod targets;
 
 pub use options::Options;
 pub use reading::read_options;
-pub use targets::{Target, is_positional, read_target};
+pub use targets::{Source, Target, is_positional, read_target};

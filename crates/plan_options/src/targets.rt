@@ -6,11 +6,18 @@ ghost use Rattle.plan_options.specs.Words.{is_positional as is_not_option};
 
 use host_core::Txt;
 
-/// Where the goal of a plan comes from.
+/// What a goal is made of.
 #[derive(Clone, Copy)]
-pub enum Target<'a> {
-    /// The patch in the input of this path makes it of the stored configuration.
-    Patched { path: &'a Txt },
+pub enum Source {
+    /// A patch, of the stored configuration: the word is the path of its input.
+    Patch,
+}
+
+/// Where the goal of a plan comes from, with the word that tells it.
+#[derive(Clone, Copy)]
+pub struct Target<'a> {
+    pub source: Source,
+    pub word: &'a Txt,
 }
 
 /// The target of a command and its word, where it is a command that plans.
@@ -18,7 +25,10 @@ pub fn read_target<'a>(command: &Txt, word: &'a Txt) -> Option<Target<'a>>
     ensures { option_map target_view result ≡ target_of command.now word.now }
 {
     if command.as_str() == "apply-patch" && is_positional(word) {
-        return Some(Target::Patched { path: word });
+        return Some(Target {
+            source: Source::Patch,
+            word,
+        });
     }
     None
 }

@@ -130,3 +130,17 @@ pub returns-in-DeleteCheckpoint-clause-complete : goal.returns-in-DeleteCheckpoi
 returns-in-DeleteCheckpoint-clause-complete g c =
     complete_by c.args.words.now _ (g.H.Host.told c.args.host.now) (g.H.Host.counts c.args.host.now) (g.H.Host.counts c.delete_checkpoint.new.host) c.delete_checkpoint.result
     c.in-DeleteCheckpoint.ensures c.delete_checkpoint.ensures.complete
+
+pub returns-in-Plan-clause-answers : goal.returns-in-Plan-clause-answers
+returns-in-Plan-clause-answers g c =
+    answers_by c.args.words.now _ (g.H.Host.told c.args.host.now) (g.H.Host.told c.dry_run.new.host) (g.H.Host.counts c.args.host.now) (g.H.Host.counts c.dry_run.new.host) c.dry_run.result
+    c.in-Plan.ensures c.dry_run.ensures.answers
+
+pub returns-in-Plan-clause-crash : goal.returns-in-Plan-clause-crash
+returns-in-Plan-clause-crash g c =
+    leaves_by g.H.Host.moment g.H.Host.left_since c.args.words.now _ c.args.host.now c.dry_run.new.host (g.H.Host.told c.args.host.now) c.in-Plan.ensures c.dry_run.ensures.crash
+
+pub returns-in-Plan-clause-complete : goal.returns-in-Plan-clause-complete
+returns-in-Plan-clause-complete g c =
+    complete_by c.args.words.now _ (g.H.Host.told c.args.host.now) (g.H.Host.counts c.args.host.now) (g.H.Host.counts c.dry_run.new.host) c.dry_run.result
+    c.in-Plan.ensures c.dry_run.ensures.complete

@@ -1,0 +1,147 @@
+//! What a command that plans needs, and its plan.
+ghost use Rattle.std.specs.Prelude.{◌≡◌, ◌≤◌, ◌<◌, IfErr, IfOk, IfSome};
+ghost use Rattle.host_core.specs.Counts.{DiskMayRise, NoneFell};
+ghost use Rattle.host_core.specs.Crashes.{Elapses, MayLeaveNow};
+ghost use Rattle.host_core.specs.Names.{longest_scoped_name};
+ghost use Rattle.move_core.specs.Contexts.{IsValidIn, rulebook};
+ghost use Rattle.plan_search.specs.Searches.{IsSearchAnswer};
+ghost use Rattle.plan_options.specs.Views.{target_view};
+ghost use Rattle.gcu_engine.specs.PlanAsked.{plan_asked, start_asked};
+ghost use Rattle.gcu_engine.specs.PlanCommands.{IsReadyToSearch, IsSolved, RefusesOrEnds, SaysPlan, request_of};
+ghost use Rattle.gcu_engine.specs.Preparing.{Finds, Refuses};
+
+use crate::Outcome;
+use crate::judging::{End, judge};
+use crate::plan_goal::read_goal;
+use crate::rules::input_ctx;
+use crate::stored::read_config;
+use conf_doc::Config;
+use host_core::Host;
+use move_core::{Boxes, Ctx, Kit, Plan};
+use plan_options::Target;
+use plan_search::{SearchError, Steps, search};
+use std::alloc::Global;
+use std::marker::Brand;
+use std::sync::ledger::{Blank, Ledger};
+
+/// What a plan is searched for: by what its moves are judged, from where, to where, and how many
+/// configurations may be met.
+#[derive(Drop)]
+pub(crate) struct Planning {
+    ctx: Ctx,
+    start: Config,
+    goal: Config,
+    budget: u32,
+}
+
+/// A plan for a target.
+pub(crate) fn solve<H: Host>(
+    alloc: Global,
+    target: Target<'_>,
+    budget: u32,
+    kit: &mut Kit,
+    host: &mut H,
+) -> Result<Plan, Outcome>
+    requires longest { longest_scoped_name ≤ H.longest_name }
+    requires kinds { ⟦<Kit as Boxes>⟧.HasKinds kit.old }
+    requires budget { 0 < budget }
+    ensures kinds { ⟦<Kit as Boxes>⟧.HasKinds kit.new }
+    ensures says { IfSome (H.told host.old)
+        (λ s. SaysPlan (plan_asked (target_view target.entry) budget s) s result) }
+    ensures told { H.told host.new ≡ H.told host.old }
+    ensures counts { NoneFell (H.counts host.old) (H.counts host.new) }
+    ensures cause { IfErr result (RefusesOrEnds (H.counts host.old) (H.counts host.new)) }
+    ensures time { Elapses H.moment H.left_since host.old host.new (MayLeaveNow (H.told host.old)) }
+    ensures goes { H.goes_on host.old host.new }
+{
+    let planning = prepare(alloc, target, budget, host)?;
+    find_plan(alloc, kit, &planning)
+}
+
+/// Reads what a plan needs.
+fn prepare<H: Host>(
+    alloc: Global,
+    target: Target<'_>,
+    budget: u32,
+    host: &mut H,
+) -> Result<Planning, Outcome>
+    requires longest { longest_scoped_name ≤ H.longest_name }
+    requires budget { 0 < budget }
+    ensures answer { Finds (H.told host.old) request_of result
+        (plan_asked (target_view target.entry) budget) }
+    ensures ready { IfOk result IsReadyToSearch }
+    ensures told { H.told host.new ≡ H.told host.old }
+    ensures counts { NoneFell (H.counts host.old) (H.counts host.new) }
+    ensures cause { IfErr result (Refuses (H.counts host.old) (H.counts host.new)) }
+    ensures time { Elapses H.moment H.left_since host.old host.new (MayLeaveNow (H.told host.old)) }
+    ensures goes { H.goes_on host.old host.new }
+{
+    let ctx = input_ctx(alloc, host)?;
+    let start = read_start(alloc, &ctx, host)?;
+    let goal = read_goal(alloc, target, &ctx, &start, host)?;
+    Ok(Planning {
+        ctx,
+        start,
+        goal,
+        budget,
+    })
+}
+
+/// The stored configuration, where it is valid.
+fn read_start<H: Host>(alloc: Global, ctx: &Ctx, host: &mut H) -> Result<Config, Outcome>
+    requires { longest_scoped_name ≤ H.longest_name }
+    ensures answer { Finds (H.told host.old) (λ c. c) result (start_asked ctx.now) }
+    ensures valid { IfOk result (IsValidIn ctx.now) }
+    ensures told { H.told host.new ≡ H.told host.old }
+    ensures counts { DiskMayRise (H.counts host.old) (H.counts host.new) }
+    ensures cause { IfErr result (Refuses (H.counts host.old) (H.counts host.new)) }
+    ensures time { Elapses H.moment H.left_since host.old host.new (MayLeaveNow (H.told host.old)) }
+    ensures goes { H.goes_on host.old host.new }
+{
+    let start = read_config(alloc, host)?;
+    judge(alloc, End::Start, ctx, start)
+}
+
+/// Searches for a plan.
+fn find_plan(alloc: Global, kit: &mut Kit, planning: &Planning) -> Result<Plan, Outcome>
+    requires kinds { ⟦<Kit as Boxes>⟧.HasKinds kit.old }
+    requires ready { IsReadyToSearch planning.now }
+    ensures kinds { ⟦<Kit as Boxes>⟧.HasKinds kit.new }
+    ensures answer { IsSolved planning.now result }
+{
+    match count_steps::<Brand>(alloc, kit, planning, Blank::new(1)) {
+        Ok(plan) => Ok(plan),
+        Err(SearchError::Unorderable) => Err(Outcome::Unorderable),
+        Err(SearchError::Budget(n)) => Err(Outcome::Budget { n }),
+        Err(SearchError::Memory) => Err(Outcome::Memory),
+    }
+}
+
+/// Searches for a plan, and counts its steps in a ledger.
+fn count_steps<L: Ledger>(
+    alloc: Global,
+    kit: &mut Kit,
+    planning: &Planning,
+    blank: Blank,
+) -> Result<Plan, SearchError>
+    requires kinds { ⟦<Kit as Boxes>⟧.HasKinds kit.old }
+    requires ready { IsReadyToSearch planning.now }
+    requires name { blank.name ≡ L.name }
+    requires parts { blank.parts ≡ L.parts }
+    requires one { blank.parts ≡ 1 }
+    ensures kinds { ⟦<Kit as Boxes>⟧.HasKinds kit.new }
+    ensures answer { IsSearchAnswer (rulebook planning.now.ctx) planning.now.start
+        planning.now.goal planning.now.budget result }
+{
+    let (book, share) = blank.open::<L>();
+    let mut steps = Steps::new(book, share);
+    search(
+        alloc,
+        &planning.ctx,
+        kit,
+        &planning.start,
+        &planning.goal,
+        planning.budget,
+        &mut steps,
+    )
+}
