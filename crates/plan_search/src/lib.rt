@@ -1,12 +1,22 @@
 //! The list of moves at a configuration, and the search for a plan.
 #![tactic(auto)]
 
+mod agreeing;
+mod asking;
 mod errors;
 mod expanding;
+mod listing;
 mod met_set;
+mod move_keys;
+mod planning;
+mod ranking;
+mod reaches;
+mod rules;
 mod searching;
 mod stacks;
 mod steps;
 
 pub use errors::SearchError;
+pub use listing::listed;
+pub use planning::search;
 pub use steps::Steps;

@@ -1,0 +1,278 @@
+-- The first chain of each move.
+use Rattle.std.proofs.Common.{◌≡◌, ◌≢◌, ◌⊎◌, inl, inr, ℕ, zero, suc, ◌<◌, ◌≤◌, Bool, true, false, List, [], ◌∷◌, ◌++◌, length, length-append, map, get_or, refl, sym, ap, subst, ◌∙◌, arith, true≢false, All}
+use Rattle.std.specs.Cmp.{IsTotalOrder, nat_cmp_total, on_total, then_total, tied_itself, upto}
+use Rattle.std.specs.List.{AllPairs, Contains}
+use Rattle.std.specs.List.Sorted.{IsPermutation, IsSorted}
+use Rattle.std.specs.Ordering.{is_gt, is_lt, ordering_reverse, ordering_then}
+use Rattle.std.specs.declared.cmp.Ordering.{Ordering}
+use Rattle.std.specs.declared.cmp.Ordering.TheVariants.{Less, Equal, Greater}
+use Rattle.std.proofs.lemmas.List.Elements.{Contains-append_left, Contains-append_right, Contains-get_or, Contains-push, Contains-push_cases, All-contains, All-map, All-nil, All-push, All-weaker}
+use Rattle.std.proofs.lemmas.List.MinMax.{ranks_by}
+use Rattle.std.proofs.lemmas.List.Quantifiers.{all_pairs_push}
+use Rattle.std.proofs.lemmas.List.Sorted.{All-permutation, Contains-permutation, sorted_far}
+use Rattle.conf_doc.specs.declared.configuration.Config.{Config}
+use Rattle.move_core.specs.Contexts.{rulebook}
+use Rattle.move_core.specs.Listed.{AreListed, AreRanked, IsListed, IsRanked, moves_of}
+use Rattle.move_core.specs.ListedOrder.{listed_cmp, move_cmp, rank_cmp}
+use Rattle.move_core.specs.ListedOrderLaws.{listed_same, listed_total}
+use Rattle.move_core.specs.declared.moves.Move.{Move}
+use Rattle.move_core.specs.declared.moves.Ranked.{Ranked}
+use Rattle.plan_search.specs.Ranking.{AreChains, AreFirsts, AreSorted, HasFirsts, IsChain}
+use Rattle.plan_search.specs.Reaches.{Depths, HasMove, IsNoted}
+use Rattle.plan_search.specs.declared.asking.Question.{Question}
+use Rattle.plan_search.proofs.Chains.{some_chain}
+use Rattle.plan_search.proofs.Members.{first_member, later_member, member_cases, no_member}
+
+-- ---- orders
+
+not_gt : (o : Ordering) → is_gt o ≡ false → o ≢ Greater
+not_gt Less e g = absurd (cc)
+not_gt Equal e g = absurd (cc)
+not_gt Greater e g = true≢false e
+
+gt_false : (o : Ordering) → o ≢ Greater → is_gt o ≡ false
+gt_false Less n = refl
+gt_false Equal n = refl
+gt_false Greater n = absurd (n refl)
+
+not_lt_back : (o p : Ordering) → o ≡ ordering_reverse p → is_lt p ≡ false → o ≢ Greater
+not_lt_back o Less e n g = true≢false n
+not_lt_back o Equal e n g = absurd (cc)
+not_lt_back o Greater e n g = absurd (cc)
+
+rank_total : IsTotalOrder rank_cmp
+rank_total =
+    then_total (on_total (λ r. r.tier) nat_cmp_total)
+    (then_total (on_total (λ r. r.depth) nat_cmp_total) (on_total (λ r. r.class) nat_cmp_total))
+
+-- ranks chain
+rank_chain : (r s t : Ranked) → rank_cmp r s ≢ Greater → rank_cmp s t ≢ Greater → rank_cmp r t ≢ Greater
+rank_chain r s t a b = not_gt _ (upto rank_total r s t (gt_false _ a) (gt_false _ b))
+
+-- the order of the list is by rank first
+by_rank : (o p : Ordering) → ordering_then o p ≢ Greater → o ≢ Greater
+by_rank Less p n e = absurd (cc)
+by_rank Equal p n e = absurd (cc)
+by_rank Greater p n e = n refl
+
+itself : (r : Ranked) → listed_cmp r r ≢ Greater
+itself r = not_gt _ (ap is_gt (tied_itself listed_total r))
+
+-- ---- sorted lists
+
+-- a sorted list is so at all pairs
+pub all_sorted : (rs : List Ranked) → IsSorted listed_cmp rs → AreSorted rs
+all_sorted rs sorted i j d lt within =
+    let far = sorted_far (λ x y. is_lt (listed_cmp x y)) (ranks_by listed_total (λ r. r)) rs sorted i j d (omega (arith, lt)) within in
+    not_lt_back _ _ (listed_total.antisymm (get_or rs i d) (get_or rs j d)) far
+
+-- what stands after the first part of a list
+at_end : {A : Type 0} (xs : List A) (y : A) (rest : List A) (d : A) → get_or (xs ++ y ∷ rest) (length xs) d ≡ y
+at_end [] y rest d = refl
+at_end (x ∷ xs) y rest d = at_end xs y rest d
+
+-- an item stands before a later one
+pub pairs_before : {A : Type 0} (R : A → A → Type 0) (xs : List A) (y : A) (rest : List A)
+    → AllPairs R (xs ++ y ∷ rest) → (x : A) → Contains xs x → R x y
+pairs_before R [] y rest pairs x there = absurd (no_member x there)
+pairs_before {A = A} R (z ∷ xs) y rest pairs x there = by (pairs_before R xs y rest after x) (member_cases z xs x there)
+  where
+    after : AllPairs R (xs ++ y ∷ rest)
+    after i j d lt within = pairs (suc i) (suc j) d (omega (arith, lt)) (omega (arith, within))
+
+    first : R z y
+    first =
+        let len = length-append xs (y ∷ rest) in
+        subst (R z) (at_end xs y rest y) (pairs 0 (suc (length xs)) y (omega arith) (omega (arith, len)))
+
+    by : (Contains xs x → R x y) → (z ≡ x) ⊎ Contains xs x → R x y
+    by later (inl e) = subst (λ w. R w y) e first
+    by later (inr h) = later h
+
+-- ---- lists under a function
+
+-- what a member becomes
+pub member_map : {A B : Type 0} (f : A → B) (xs : List A) (x : A) → Contains xs x → Contains (map f xs) (f x)
+member_map f [] x h = absurd (no_member x h)
+member_map {B = B} f (y ∷ xs) x h = by (member_map f xs x) (member_cases y xs x h)
+  where
+    by : (Contains xs x → Contains (map f xs) (f x)) → (y ≡ x) ⊎ Contains xs x → Contains (f y ∷ map f xs) (f x)
+    by rest (inl e) = subst (λ z. Contains (f y ∷ map f xs) (f z)) e (first_member (f y) (map f xs))
+    by rest (inr t) = later_member (f y) (map f xs) (f x) (rest t)
+
+-- what a member comes from
+pub member_from_map : {A B : Type 0} (f : A → B) (xs : List A) (y : B) → Contains (map f xs) y → (x : A) × Contains xs x × (f x ≡ y)
+member_from_map f [] y h = absurd (no_member y h)
+member_from_map {A = A} f (x ∷ xs) y h = by (member_from_map f xs y) (member_cases (f x) (map f xs) y h)
+  where
+    by : (Contains (map f xs) y → (z : A) × Contains xs z × (f z ≡ y)) → (f x ≡ y) ⊎ Contains (map f xs) y
+        → (z : A) × Contains (x ∷ xs) z × (f z ≡ y)
+    by rest (inl e) = (x, first_member x xs, e)
+    by rest (inr t) = let r = rest t in (r.0, later_member x xs r.0 r.1, r.2)
+
+map_map : {A B C : Type 0} (g : B → C) (f : A → B) (xs : List A) → map g (map f xs) ≡ map (λ x. g (f x)) xs
+map_map g f [] = refl
+map_map g f (x ∷ xs) = ap (λ ys. g (f x) ∷ ys) (map_map g f xs)
+
+map_push : {A B : Type 0} (f : A → B) (xs : List A) (x : A) → map f (xs ++ x ∷ []) ≡ map f xs ++ f x ∷ []
+map_push f [] x = refl
+map_push f (y ∷ xs) x = ap (λ ys. f y ∷ ys) (map_push f xs x)
+
+-- ---- the first of each move
+
+abbrev pub entry : Ranked → Move × ℕ
+entry r = (r.mv, r.depth)
+
+-- what is noted of chains that were looked at: the first of each move
+pub record IsSeen (done : List Ranked) (seen : Depths) : Type 0 where
+  pub kept : List Ranked
+  pub firsts : AreFirsts done kept
+  pub is : seen ≡ map entry kept
+
+pub seen_none : IsSeen [] []
+seen_none = record {
+  kept = [];
+  firsts = record {
+    each = All-nil _;
+    all = λ r h. absurd (no_member r h);
+    least = λ r s h. absurd (no_member r h);
+    sorted = λ i j d lt within. absurd (omega (arith, within));
+    distinct = λ i j d lt within. absurd (omega (arith, within));
+  };
+  is = refl;
+}
+
+module _ (done : List Ranked) (c : Ranked) (rest : List Ranked) (seen new : Depths)
+    (sorted : AreSorted (done ++ c ∷ rest)) (so : IsSeen done seen) where
+  -- each that is kept comes before the next chain
+  before : (r : Ranked) → Contains so.kept r → listed_cmp r c ≢ Greater
+  before r h = pairs_before (λ a b. listed_cmp a b ≢ Greater) done c rest sorted r (All-contains (Contains done) so.kept r so.firsts.each h)
+
+  -- a kept chain of a move is seen
+  is_seen : (k : Ranked) (m : Move) → Contains so.kept k → k.mv ≡ m → HasMove seen m
+  is_seen k m h e =
+      (k.depth, subst (λ (l : Depths). Contains {X = Move × ℕ} l (m, k.depth)) (sym so.is)
+      (subst (λ (x : Move). Contains {X = Move × ℕ} (map entry so.kept) (x, k.depth)) e (member_map entry so.kept k h)))
+
+  -- a seen move has a kept chain
+  is_kept : (m : Move) → HasMove seen m → (k : Ranked) × Contains so.kept k × (k.mv ≡ m)
+  is_kept m h =
+      let k = member_from_map entry so.kept (m, h.0) (subst (λ (l : Depths). Contains {X = Move × ℕ} l (m, h.0)) so.is h.1) in
+      (k.0, k.1, ap (λ e. e.0) k.2)
+
+  seen_again : HasMove seen c.mv → new ≡ seen → IsSeen (done ++ c ∷ []) new
+  seen_again known is = record {
+    kept = so.kept;
+    firsts = record {
+      each = All-weaker (Contains done) (Contains (done ++ c ∷ [])) (λ r h. Contains-append_left done (c ∷ []) r h) so.kept so.firsts.each;
+      all = λ r h. all r (Contains-push_cases done c r h);
+      least = λ r s h k e. least r s h (Contains-push_cases done c s k) e;
+      sorted = so.firsts.sorted;
+      distinct = so.firsts.distinct;
+    };
+    is = is ∙ so.is;
+  }
+    where
+      all : (r : Ranked) → Contains done r ⊎ (c ≡ r) → (k : Ranked) × Contains so.kept k × (k.mv ≡ r.mv)
+      all r (inl h) = so.firsts.all r h
+      all r (inr e) = let k = is_kept c.mv known in (k.0, k.1, k.2 ∙ ap (λ x. x.mv) e)
+
+      least : (r s : Ranked) → Contains so.kept r → Contains done s ⊎ (c ≡ s) → r.mv ≡ s.mv → listed_cmp r s ≢ Greater
+      least r s h (inl k) e = so.firsts.least r s h k e
+      least r s h (inr is) e = subst (λ x. listed_cmp r x ≢ Greater) is (before r h)
+
+  seen_new : ¬ HasMove seen c.mv → new ≡ seen ++ (c.mv, c.depth) ∷ [] → IsSeen (done ++ c ∷ []) new
+  seen_new unknown is = record {
+    kept = so.kept ++ c ∷ [];
+    firsts = record {
+      each = All-push (Contains (done ++ c ∷ [])) so.kept c
+          (All-weaker (Contains done) (Contains (done ++ c ∷ [])) (λ r h. Contains-append_left done (c ∷ []) r h) so.kept so.firsts.each)
+          (Contains-push done c);
+      all = λ r h. all r (Contains-push_cases done c r h);
+      least = λ r s h k e. least r s (Contains-push_cases so.kept c r h) (Contains-push_cases done c s k) e;
+      sorted = all_pairs_push (λ (a b : Ranked). listed_cmp a b ≢ Greater) so.kept c so.firsts.sorted (λ k d lt. before (get_or so.kept k d) (member k d lt));
+      distinct = all_pairs_push (λ (a b : Ranked). a.mv ≢ b.mv) so.kept c so.firsts.distinct
+          (λ k d lt e. unknown (is_seen (get_or so.kept k d) c.mv (member k d lt) e));
+    };
+    is = is ∙ ap (λ l. l ++ (c.mv, c.depth) ∷ []) so.is ∙ sym (map_push entry so.kept c);
+  }
+    where
+      member : (k : ℕ) (d : Ranked) → k < length so.kept → Contains so.kept (get_or so.kept k d)
+      member k d lt = Contains-get_or so.kept k d lt
+
+      all : (r : Ranked) → Contains done r ⊎ (c ≡ r) → (k : Ranked) × Contains (so.kept ++ c ∷ []) k × (k.mv ≡ r.mv)
+      all r (inl h) = let k = so.firsts.all r h in (k.0, Contains-append_left so.kept (c ∷ []) k.0 k.1, k.2)
+      all r (inr e) = (c, Contains-push so.kept c, ap (λ x. x.mv) e)
+
+      least : (r s : Ranked) → Contains so.kept r ⊎ (c ≡ r) → Contains done s ⊎ (c ≡ s) → r.mv ≡ s.mv → listed_cmp r s ≢ Greater
+      least r s (inl h) (inl k) e = so.firsts.least r s h k e
+      least r s (inl h) (inr is) e = subst (λ x. listed_cmp r x ≢ Greater) is (before r h)
+      least r s (inr is) (inl k) e =
+          let f = so.firsts.all s k in
+          absurd (unknown (is_seen f.0 c.mv f.1 (f.2 ∙ sym e ∙ sym (ap (λ x. x.mv) is))))
+      least r s (inr is) (inr it) e = subst (λ x. listed_cmp x s ≢ Greater) is (subst (λ x. listed_cmp c x ≢ Greater) it (itself c))
+
+  pub seen_more : IsNoted [] seen new c.mv c.depth → IsSeen (done ++ c ∷ []) new
+  seen_more (inl (inl none, is)) = absurd (no_member _ none.1)
+  seen_more (inl (inr known, is)) = seen_again known is
+  seen_more (inr (unknown, is)) = seen_new unknown.1 is
+
+-- the moves that were seen
+pub has_firsts : (rs : List Ranked) (seen : Depths) (ms : List Move) → IsSeen rs seen → ms ≡ map (λ e. e.0) seen → HasFirsts rs ms
+has_firsts rs seen ms so is =
+    (so.kept, so.firsts, is ∙ ap (map (λ e. e.0)) so.is ∙ map_map (λ e. e.0) entry so.kept)
+
+-- ---- the list
+
+less_only : (o : Ordering) → o ≢ Greater → o ≢ Equal → o ≡ Less
+less_only Less g e = refl
+less_only Equal g e = absurd (e refl)
+less_only Greater g e = absurd (g refl)
+
+module _ (q : Question) (start : Config) (rs sorted : List Ranked) (chains : AreChains q start rs)
+    (turned : IsPermutation rs sorted) where
+  chain_of : (m : Move) → IsListed (rulebook q.ctx.now) q.cur.now q.goal.now m → (c : Ranked) × Contains sorted c × (c.mv ≡ m)
+  chain_of m is =
+      let s = some_chain q start m is in
+      let c = chains.least s.0 s.1 in
+      (c.0, Contains-permutation rs sorted c.0 turned c.1, c.2 ∙ s.2)
+
+  ranked_of : (kept : List Ranked) → AreFirsts sorted kept → AreRanked (rulebook q.ctx.now) start q.cur.now q.goal.now kept
+  ranked_of kept firsts = record {
+    each = λ k d lt. ranked (get_or kept k d) (Contains-get_or kept k d lt);
+    all = λ m is.
+        let c = chain_of m is in
+        let k = firsts.all c.0 c.1 in
+        subst (Contains (moves_of kept)) (k.2 ∙ c.2) (member_map (λ r. r.mv) kept k.0 k.1);
+    order = λ i j d lt within.
+        less_only _ (firsts.sorted i j d lt within)
+        (λ e. firsts.distinct i j d lt within (ap (λ (r : Ranked). r.mv) (listed_same (get_or kept i d) (get_or kept j d) e)));
+  }
+    where
+      ranked : (r : Ranked) → Contains kept r → IsRanked (rulebook q.ctx.now) start q.cur.now q.goal.now r
+      ranked r h = record {
+        ends = All-contains (IsChain q start) sorted r (All-permutation (IsChain q start) rs sorted turned chains.each)
+            (All-contains (Contains sorted) kept r firsts.each h);
+        least = λ s e is.
+            let c = chains.least s is in
+            rank_chain r c.0 s
+            (by_rank (rank_cmp r c.0) (move_cmp r.mv c.0.mv) (firsts.least r c.0 h (Contains-permutation rs sorted c.0 turned c.1) (sym (c.2 ∙ e)))) c.3;
+      }
+
+  pub listed_of : (ms : List Move) → HasFirsts sorted ms → AreListed (rulebook q.ctx.now) start q.cur.now q.goal.now ms
+  listed_of ms has = (has.0, ranked_of has.0 has.1, has.2)
+
+-- what the list holds
+pub listed_each : (q : Question) (start : Config) (ms : List Move) → AreListed (rulebook q.ctx.now) start q.cur.now q.goal.now ms
+    → All (IsListed (rulebook q.ctx.now) q.cur.now q.goal.now) ms
+listed_each q start ms are =
+    subst (All (IsListed (rulebook q.ctx.now) q.cur.now q.goal.now)) (sym are.2)
+    (All-map (IsListed (rulebook q.ctx.now) q.cur.now q.goal.now) (λ r. r.mv) are.0
+    (All-weaker (IsRanked (rulebook q.ctx.now) start q.cur.now q.goal.now)
+    (λ r. IsListed (rulebook q.ctx.now) q.cur.now q.goal.now r.mv) (λ r is. record { first = is.ends.first; depth = r.depth; generated = is.ends.generated; leads = is.ends.leads })
+    are.0 are.1.each))
+
+-- it holds all
+pub listed_all : (q : Question) (start : Config) (ms : List Move) → AreListed (rulebook q.ctx.now) start q.cur.now q.goal.now ms
+    → (m : Move) → IsListed (rulebook q.ctx.now) q.cur.now q.goal.now m → Contains ms m
+listed_all q start ms are m is = subst (λ l. Contains l m) (sym are.2) (are.1.all m is)

@@ -1,0 +1,62 @@
+-- What four boxes give, one after another.
+use Rattle.std.proofs.Common.{◌≡◌, ◌⊎◌, inl, inr, ℕ, List, [], ◌∷◌, ◌++◌, refl, sym, subst, All}
+use Rattle.std.specs.List.{Contains}
+use Rattle.std.proofs.lemmas.List.Elements.{Contains-append_left, Contains-append_right, All-append, All-nil, All-weaker}
+use Rattle.move_core.specs.Appends.{Appends}
+use Rattle.move_core.specs.Extensions.{IsExtension}
+use Rattle.move_core.specs.Generated.{IsGenerated}
+use Rattle.move_core.specs.Rulebook.{Rulebook}
+use Rattle.move_core.specs.Listed.{Extends, IsGeneratedMove}
+use Rattle.conf_doc.specs.declared.configuration.Config.{Config}
+use Rattle.move_core.specs.declared.moves.Generated.{Generated}
+use Rattle.move_core.specs.declared.moves.Move.{Move}
+
+-- one of four kinds
+abbrev pub OneOfFour : {A : Type 0} → (ℕ → A → Type 0) → A → Type 0
+OneOfFour P a = P 1 a ⊎ (P 2 a ⊎ (P 3 a ⊎ P 4 a))
+
+-- all that are as Q says, and no others
+pub record IsAll {A : Type 0} (Q : A → Type 0) (xs : List A) : Type 0 where
+  pub each : All Q xs
+  pub all : (a : A) → Q a → Contains xs a
+
+module _ {A : Type 0} (P : ℕ → A → Type 0) (Q : A → Type 0) (is : (k : ℕ) (a : A) → P k a → Q a) where
+  more_each : (k : ℕ) (old new : List A) → Appends (P k) old new → All Q old → All Q new
+  more_each k old new on each =
+      subst (All Q) (sym on.follows) (All-append Q old on.more each (All-weaker (P k) Q (is k) on.more on.each))
+
+  old_there : (k : ℕ) (old new : List A) → Appends (P k) old new → (a : A) → Contains old a → Contains new a
+  old_there k old new on a h = subst (λ l. Contains l a) (sym on.follows) (Contains-append_left old on.more a h)
+
+  new_there : (k : ℕ) (old new : List A) → Appends (P k) old new → (a : A) → P k a → Contains new a
+  new_there k old new on a h = subst (λ l. Contains l a) (sym on.follows) (Contains-append_right old on.more a (on.all a h))
+
+  pub gathered : ((a : A) → Q a → OneOfFour P a) → (none one two three four : List A) → none ≡ []
+      → Appends (P 1) none one → Appends (P 2) one two → Appends (P 3) two three → Appends (P 4) three four → IsAll Q four
+  gathered cases none one two three four empty a1 a2 a3 a4 = record {
+    each = more_each 4 three four a4 (more_each 3 two three a3 (more_each 2 one two a2
+        (more_each 1 none one a1 (subst (All Q) (sym empty) (All-nil Q)))));
+    all = λ a h. by a (cases a h);
+  }
+    where
+      by : (a : A) → OneOfFour P a → Contains four a
+      by a (inl h) = old_there 4 three four a4 a (old_there 3 two three a3 a (old_there 2 one two a2 a (new_there 1 none one a1 a h)))
+      by a (inr (inl h)) = old_there 4 three four a4 a (old_there 3 two three a3 a (new_there 2 one two a2 a h))
+      by a (inr (inr (inl h))) = old_there 4 three four a4 a (new_there 3 two three a3 a h)
+      by a (inr (inr (inr h))) = new_there 4 three four a4 a h
+
+-- the generators
+pub four_generated : (book : Rulebook) (cur goal : Config) (g : Generated) → IsGeneratedMove book cur goal g
+    → OneOfFour (λ k a. IsGenerated book cur goal k a) g
+four_generated book cur goal g (k, inl h) = inl (inl (refl, h.1))
+four_generated book cur goal g (k, inr (inl h)) = inr (inl (inr (inl (refl, h.1))))
+four_generated book cur goal g (k, inr (inr (inl h))) = inr (inr (inl (inr (inr (inl (refl, h.1))))))
+four_generated book cur goal g (k, inr (inr (inr h))) = inr (inr (inr (inr (inr (inr (refl, h.1))))))
+
+-- the extenders
+pub four_extended : (book : Rulebook) (cur goal : Config) (m x : Move) → Extends book cur goal m x
+    → OneOfFour (λ k y. IsExtension book cur goal k m y) x
+four_extended book cur goal m x (k, inl h) = inl (inl (refl, h.1))
+four_extended book cur goal m x (k, inr (inl h)) = inr (inl (inr (inl (refl, h.1))))
+four_extended book cur goal m x (k, inr (inr (inl h))) = inr (inr (inl (inr (inr (inl (refl, h.1))))))
+four_extended book cur goal m x (k, inr (inr (inr h))) = inr (inr (inr (inr (inr (inr (refl, h.1))))))

@@ -1,0 +1,44 @@
+-- A route of the problem of a kit is a way, and an answer of it one about ways.
+use Rattle.std.proofs.Common.{◌≡◌, ◌≢◌, ℕ, List, [], ◌∷◌, Result, Ok, Err, refl, All}
+use Rattle.std.proofs.lemmas.List.Elements.{All-weaker}
+use Rattle.conf_doc.specs.declared.configuration.Config.{Config}
+use Rattle.move_core.specs.Contexts.{rulebook}
+use Rattle.move_core.specs.Moves.{step}
+use Rattle.move_core.specs.Plans.{IsReachable, IsWay}
+use Rattle.move_core.specs.Ways.{AreAtLeast}
+use Rattle.move_core.specs.declared.contexts.Ctx.{Ctx}
+use Rattle.move_core.specs.declared.moves.Move.{Move}
+use Rattle.plan_search.specs.Answers.{IsAnswer}
+use Rattle.plan_search.specs.Kits.{move_problem}
+use Rattle.plan_search.specs.Problems.{CanReach, CanReachBeside, IsRoute}
+use Rattle.plan_search.specs.Searches.{IsSearchAnswer}
+use Rattle.plan_search.specs.declared.errors.SearchError.{SearchError}
+use Rattle.plan_search.specs.declared.errors.SearchError.TheVariants.{Unorderable, Budget, Memory}
+
+module _ (ctx : Ctx) (start goal : Config) where
+  way_of_route : (c : Config) (ms : List Move) (x : Config)
+      → IsRoute (move_problem ctx start goal) c ms x → IsWay (rulebook ctx) goal c ms x
+  way_of_route c [] x r = r
+  way_of_route c (m ∷ ms) x r = (r.0, way_of_route (step c m) ms x r.1)
+
+  route_of_way : (c : Config) (ms : List Move) (x : Config)
+      → IsWay (rulebook ctx) goal c ms x → IsRoute (move_problem ctx start goal) c ms x
+  route_of_way c [] x w = w
+  route_of_way c (m ∷ ms) x w = (w.0, route_of_way (step c m) ms x w.1)
+
+  reachable : (x : Config) → CanReach (move_problem ctx start goal) x → IsReachable (rulebook ctx) goal start x
+  reachable x r = (r.0, way_of_route start r.0 x r.1)
+
+  can_reach : (x : Config) → IsReachable (rulebook ctx) goal start x → CanReach (move_problem ctx start goal) x
+  can_reach x w = (w.0, route_of_way start w.0 x w.1)
+
+  many : (n : ℕ) (P Q : Config → Type 0) → ((x : Config) → P x → Q x) → AreAtLeast n P → AreAtLeast n Q
+  many n P Q f h = (h.0, h.1, All-weaker P Q f h.0 h.2, h.3)
+
+  pub search_answer : (n : ℕ) (r : Result (List Move) SearchError)
+      → IsAnswer (move_problem ctx start goal) n r → IsSearchAnswer (rulebook ctx) start goal n r
+  search_answer n (Ok ms) is = (way_of_route start ms goal is.0, is.1)
+  search_answer n (Err Unorderable) is =
+      (λ w. is.0 (can_reach goal w), λ h. is.1 (many n (IsReachable (rulebook ctx) goal start) (CanReach (move_problem ctx start goal)) can_reach h))
+  search_answer n (Err (Budget b)) is = (is.0, many n (CanReachBeside (move_problem ctx start goal)) (λ x. IsReachable (rulebook ctx) goal start x × (x ≢ goal)) (λ x h. (reachable x h.0, h.1)) is.1)
+  search_answer n (Err Memory) is = tt

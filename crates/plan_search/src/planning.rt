@@ -1,0 +1,107 @@
+//! The search for a plan: the moves come from a kit.
+ghost use Rattle.std.specs.Prelude.{◌≡◌, ◌+◌, ◌<◌, length};
+ghost use Rattle.move_core.specs.Contexts.{IsNamed, IsValidIn, rulebook};
+ghost use Rattle.move_core.specs.Kinds.{AreBefore, AreOfKinds, extender_kinds, generator_kinds, rule_kinds};
+ghost use Rattle.plan_search.specs.Kits.{move_problem, moves_lawful};
+ghost use Rattle.plan_search.specs.Searches.{IsSearchAnswer};
+
+use crate::expanding::Expanding;
+use crate::listing::list_moves;
+use crate::rules::keep_rules;
+use crate::searching::find_plan;
+use crate::{SearchError, Steps};
+use conf_doc::Config;
+use host_core::Memory;
+use move_core::{Boxes, Ctx, Kit, Move, MoveExt, MoveGen, MoveRule, Plan, listed_moves_are_defined, step};
+use std::alloc::Global;
+use std::marker::PhantomData;
+use std::sync::ledger::Ledger;
+
+/// The moves from start to goal that a kit lists and allows.
+#[derive(Drop)]
+struct KitMoves<'a> {
+    ctx: &'a Ctx,
+    start: &'a Config,
+    goal: &'a Config,
+    gens: PhantomData<Vec<Box<dyn MoveGen>>>,
+    exts: PhantomData<Vec<Box<dyn MoveExt>>>,
+    rules: PhantomData<Vec<Box<dyn MoveRule>>>,
+}
+
+impl<'a> Expanding for KitMoves<'a> {
+    type Kit = Kit;
+
+    ghost problem = { λ s. move_problem s.ctx.now s.start.now s.goal.now };
+
+    ghost is_ready = { λ s kit.
+        (IsNamed s.ctx.now × IsValidIn s.ctx.now s.goal.now)
+        × (AreOfKinds (λ b. (MoveGen-box b).gen_kind b.value) generator_kinds kit.gens.items
+        × AreOfKinds (λ b. (MoveExt-box b).ext_kind b.value) extender_kinds kit.exts.items
+        × AreOfKinds (λ b. (MoveRule-box b).rule_kind b.value) rule_kinds kit.rules.items)
+        × AreBefore (length rule_kinds) (λ b. (MoveRule-box b).fits b.value s.ctx.now.models) kit.rules.items };
+
+    ghost lawful = { λ s. moves_lawful s.ctx.now s.start.now s.goal.now };
+
+    fn start(&self) -> &Config
+        ensures { result.now ≡ self.now.start.now }
+    {
+        self.start
+    }
+
+    fn goal(&self) -> &Config
+        ensures { result.now ≡ self.now.goal.now }
+    {
+        self.goal
+    }
+
+    fn list(&self, alloc: Global, kit: &mut Kit, cur: &Config) -> Result<Vec<Move>, Memory> {
+        let moves = list_moves(alloc, self.ctx, kit, self.start, cur, self.goal);
+        kit.begin(self.ctx);
+        moves
+    }
+
+    fn try_move(
+        &self,
+        alloc: Global,
+        kit: &mut Kit,
+        cur: &Config,
+        mv: &Move,
+    ) -> Result<Option<Config>, Memory> {
+        listed_moves_are_defined();
+        let _tables = cur.len();
+        let next = step(alloc, cur, mv)?;
+        if next.same(cur) {
+            return Ok(None);
+        }
+        if keep_rules(self.ctx, kit, cur, &next, self.goal, mv) {
+            Ok(Some(next))
+        } else {
+            Ok(None)
+        }
+    }
+}
+
+/// A plan from start to goal, by the moves and rules of the kit. Fewer than budget configurations are
+/// expanded, each a step.
+pub fn search<L: Ledger>(
+    alloc: Global,
+    ctx: &Ctx,
+    kit: &mut Kit,
+    start: &Config,
+    goal: &Config,
+    budget: u32,
+    steps: &mut Steps<L>,
+) -> Result<Plan, SearchError>
+    requires kinds { ⟦<Kit as Boxes>⟧.HasKinds kit.old }
+    requires named { IsNamed ctx.now }
+    requires start { IsValidIn ctx.now start.now }
+    requires goal { IsValidIn ctx.now goal.now }
+    requires budget { 0 < budget }
+    ensures kinds { ⟦<Kit as Boxes>⟧.HasKinds kit.new }
+    ensures answer { IsSearchAnswer (rulebook ctx.now) start.now goal.now budget result }
+    ensures steps { steps.new < steps.old + budget }
+{
+    kit.begin(ctx);
+    let source = KitMoves { ctx, start, goal, gens: PhantomData, exts: PhantomData, rules: PhantomData };
+    find_plan(alloc, &source, kit, budget, steps)
+}
