@@ -1,7 +1,11 @@
 //! Whole commands on a host in memory.
 use example_rows::{Fail, Table, items_at, number_at, text_bytes, written_at};
-use gcu_engine::run;
-use host_core::{Faults, MemHost, Names, Sequence, Txt};
+use gcu_engine::{Outcome, run};
+use host_core::{Faults, MemHost, Memory, Names, Sequence, Txt};
+use move_core::{Kit, MoveExt, MoveGen, MoveRule};
+use move_extend::{DeleteExt, ReferrersExt, RequiredExt, UpperExt};
+use move_gen::{FieldGen, KeyGen, SeedGen, TableGen};
+use move_rules::{CreateOnlyRule, FullRule, NoDependencyRule, NoEmptyRule, RequiredRule};
 use serde_json::Value;
 use std::alloc::Global;
 
@@ -20,13 +24,35 @@ impl Table for Commands {
     fn is_as_said(&self, alloc: Global, row: &Value) -> Result<bool, Fail> {
         let words = words_at(alloc, row)?;
         let mut host = host_at(alloc, row)?;
-        let outcome = run(alloc, words.items(), &mut host);
+        let outcome = obey(alloc, words.items(), &mut host)?;
         let same_status = u64::from(outcome.status()) == number_at(row, "status")?;
         let said = written_at(alloc, row, "output")?;
         let same_output = host.output() == said.as_slice();
         let same_files = keeps_config(alloc, row, &host)? && has_files(alloc, row, &host)?;
         Ok(same_status && same_output && same_files)
     }
+}
+
+/// Does the command with the boxes of a planner.
+fn obey(alloc: Global, words: &[Txt], host: &mut MemHost) -> Result<Outcome, Memory> {
+    let mut gens: Vec<Box<dyn MoveGen>> = Vec::new(alloc);
+    gens.push(Box::new(alloc, TableGen::new())?)?;
+    gens.push(Box::new(alloc, KeyGen::new())?)?;
+    gens.push(Box::new(alloc, FieldGen::new())?)?;
+    gens.push(Box::new(alloc, SeedGen::new())?)?;
+    let mut exts: Vec<Box<dyn MoveExt>> = Vec::new(alloc);
+    exts.push(Box::new(alloc, UpperExt::new())?)?;
+    exts.push(Box::new(alloc, DeleteExt::new())?)?;
+    exts.push(Box::new(alloc, ReferrersExt::new())?)?;
+    exts.push(Box::new(alloc, RequiredExt::new())?)?;
+    let mut rules: Vec<Box<dyn MoveRule>> = Vec::new(alloc);
+    rules.push(Box::new(alloc, FullRule::new())?)?;
+    rules.push(Box::new(alloc, NoDependencyRule::new())?)?;
+    rules.push(Box::new(alloc, NoEmptyRule::new())?)?;
+    rules.push(Box::new(alloc, CreateOnlyRule::new())?)?;
+    rules.push(Box::new(alloc, RequiredRule::new())?)?;
+    let mut kit = Kit { gens, exts, rules };
+    Ok(run(alloc, words, &mut kit, host))
 }
 
 fn words_at(alloc: Global, row: &Value) -> Result<Names, Fail> {
