@@ -1,6 +1,6 @@
 -- Chains of least rank.
-use Rattle.std.proofs.Common.{◌≡◌, ◌≢◌, ◌⊎◌, inl, inr, ℕ, zero, suc, ◌<◌, ◌≤◌, ◌+◌, Bool, true, false, List, [], ◌∷◌, ◌++◌, Option, Some, None, refl, sym, ap, subst, ◌∙◌, arith, true≢false, All, append-nil, append_assoc}
-use Rattle.std.specs.List.{AllPairs, Contains}
+use Rattle.std.proofs.Common.{◌≡◌, ◌≢◌, ◌⊎◌, inl, inr, ℕ, zero, suc, ◌<◌, ◌≤◌, Bool, true, false, List, [], Option, Some, None, refl, sym, ap, subst, ◌∙◌, arith, true≢false, All}
+use Rattle.std.specs.List.{Contains}
 use Rattle.std.specs.Cmp.{nat_cmp_total, tied_itself}
 use Rattle.std.specs.Ordering.{eq_by_cmp, nat_cmp, ordering_then}
 use Rattle.std.specs.declared.cmp.Ordering.{Ordering}
@@ -12,14 +12,14 @@ use Rattle.conf_doc.specs.declared.configuration.Config.{Config}
 use Rattle.conf_doc.specs.declared.parts.Part.{Part}
 use Rattle.move_core.specs.Contexts.{rulebook}
 use Rattle.move_core.specs.Generated.{IsRestoring}
-use Rattle.move_core.specs.Listed.{EndsChain, HasTier, chain_class, IsListed, other_tier, restoring_tier, place_class}
+use Rattle.move_core.specs.Listed.{HasTier, chain_class, IsListed, other_tier, restoring_tier, place_class}
 use Rattle.move_core.specs.ListedOrder.{move_cmp, rank_cmp}
 use Rattle.move_core.specs.declared.moves.Generated.{Generated}
 use Rattle.move_core.specs.declared.moves.Move.{Move}
 use Rattle.move_core.specs.declared.moves.Move.TheVariants.{Add, Remove, Replace}
 use Rattle.move_core.specs.declared.moves.Ranked.{Ranked}
 use Rattle.plan_search.specs.MoveKeys.{keys_decide}
-use Rattle.plan_search.specs.Questions.{FollowsIn, IsOffered, LeadsIn}
+use Rattle.plan_search.specs.Questions.{IsOffered, LeadsIn}
 use Rattle.plan_search.specs.Ranking.{AddsAlone, AddsExtended, AreChains, AreMovesOf, IsAlone, IsChain, IsExtended, IsMoveOf, IsOneAlone, Leads, LeadsEarly}
 use Rattle.plan_search.specs.Reaches.{Depths, HasMove, HasWithin, HoldsAll, IsClosed, IsFirst, IsLedTo}
 use Rattle.plan_search.specs.declared.asking.Question.{Question}
@@ -334,8 +334,7 @@ module _ (q : Question) (start : Config) (firsts : List Generated) (early late :
 pub some_chain : (q : Question) (start : Config) (m : Move) → IsListed (rulebook q.ctx.now) q.cur.now q.goal.now m
     → (r : Ranked) × IsChain q start r × (r.mv ≡ m)
 some_chain q start m is =
-    let tier = some_tier start q.goal.now is.first is.depth in
-    (
+    let tier = some_tier start q.goal.now is.first is.depth in (
       record { tier = tier.0; depth = is.depth; class = chain_class is.first is.depth m; mv = m },
       record { first = is.first; generated = is.generated; leads = is.leads; tier = tier.1; class = refl },
       refl,

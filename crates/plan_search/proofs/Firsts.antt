@@ -1,12 +1,12 @@
 -- The first chain of each move.
-use Rattle.std.proofs.Common.{◌≡◌, ◌≢◌, ◌⊎◌, inl, inr, ℕ, zero, suc, ◌<◌, ◌≤◌, Bool, true, false, List, [], ◌∷◌, ◌++◌, length, length-append, map, get_or, refl, sym, ap, subst, ◌∙◌, arith, true≢false, All}
+use Rattle.std.proofs.Common.{◌≡◌, ◌≢◌, ◌⊎◌, inl, inr, ℕ, suc, ◌<◌, false, List, [], ◌∷◌, ◌++◌, length, length-append, map, get_or, refl, sym, ap, subst, ◌∙◌, arith, true≢false, All}
 use Rattle.std.specs.Cmp.{IsTotalOrder, nat_cmp_total, on_total, then_total, tied_itself, upto}
 use Rattle.std.specs.List.{AllPairs, Contains}
 use Rattle.std.specs.List.Sorted.{IsPermutation, IsSorted}
 use Rattle.std.specs.Ordering.{is_gt, is_lt, ordering_reverse, ordering_then}
 use Rattle.std.specs.declared.cmp.Ordering.{Ordering}
 use Rattle.std.specs.declared.cmp.Ordering.TheVariants.{Less, Equal, Greater}
-use Rattle.std.proofs.lemmas.List.Elements.{Contains-append_left, Contains-append_right, Contains-get_or, Contains-push, Contains-push_cases, All-contains, All-map, All-nil, All-push, All-weaker}
+use Rattle.std.proofs.lemmas.List.Elements.{Contains-append_left, Contains-get_or, Contains-push, Contains-push_cases, All-contains, All-map, All-nil, All-push, All-weaker}
 use Rattle.std.proofs.lemmas.List.MinMax.{ranks_by}
 use Rattle.std.proofs.lemmas.List.Quantifiers.{all_pairs_push}
 use Rattle.std.proofs.lemmas.List.Sorted.{All-permutation, Contains-permutation, sorted_far}
@@ -150,9 +150,11 @@ module _ (done : List Ranked) (c : Ranked) (rest : List Ranked) (seen new : Dept
 
   -- a kept chain of a move is seen
   is_seen : (k : Ranked) (m : Move) → Contains so.kept k → k.mv ≡ m → HasMove seen m
-  is_seen k m h e =
-      (k.depth, subst (λ (l : Depths). Contains {X = Move × ℕ} l (m, k.depth)) (sym so.is)
-      (subst (λ (x : Move). Contains {X = Move × ℕ} (map entry so.kept) (x, k.depth)) e (member_map entry so.kept k h)))
+  is_seen k m h e = (
+    k.depth,
+    subst (λ (l : Depths). Contains {X = Move × ℕ} l (m, k.depth)) (sym so.is)
+        (subst (λ (x : Move). Contains {X = Move × ℕ} (map entry so.kept) (x, k.depth)) e (member_map entry so.kept k h)),
+  )
 
   -- a seen move has a kept chain
   is_kept : (m : Move) → HasMove seen m → (k : Ranked) × Contains so.kept k × (k.mv ≡ m)

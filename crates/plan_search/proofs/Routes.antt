@@ -1,5 +1,5 @@
 -- A route of the problem of a kit is a way, and an answer of it one about ways.
-use Rattle.std.proofs.Common.{◌≡◌, ◌≢◌, ℕ, List, [], ◌∷◌, Result, Ok, Err, refl, All}
+use Rattle.std.proofs.Common.{◌≢◌, ℕ, List, [], ◌∷◌, Result, Ok, Err}
 use Rattle.std.proofs.lemmas.List.Elements.{All-weaker}
 use Rattle.conf_doc.specs.declared.configuration.Config.{Config}
 use Rattle.move_core.specs.Contexts.{rulebook}

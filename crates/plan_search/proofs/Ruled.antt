@@ -1,5 +1,5 @@
 -- The rules by their kinds.
-use Rattle.std.proofs.Common.{◌≡◌, ◌⊎◌, inl, inr, ℕ, refl, arith}
+use Rattle.std.proofs.Common.{inl, inr, refl, arith}
 use Rattle.conf_doc.specs.declared.configuration.Config.{Config}
 use Rattle.move_core.specs.Plans.{KeepsRules}
 use Rattle.move_core.specs.Rulebook.{Rulebook}

@@ -1,9 +1,9 @@
 -- Moves as keys of a map: keys are equal where the moves are the same.
-use Rattle.std.proofs.Common.{◌≡◌, ℕ, true, List, [], ◌∷◌, ap, sym, subst, ◌∙◌}
+use Rattle.std.proofs.Common.{◌≡◌, ℕ, true, List, [], ◌∷◌, ap, subst}
 use Rattle.std.specs.Bool.{Decides}
 use Rattle.std.specs.Cmp.{Equal-is, IsEquivalence, IsPartialEquivalence, IsTotalOrder, eq_by_cmp_equiv, on_total, partial_equiv_from_equiv}
 use Rattle.std.specs.Hash as fed
-use Rattle.std.specs.Hash.{Alike, same_Alike}
+use Rattle.std.specs.Hash.{same_Alike}
 use Rattle.std.specs.Ordering.{eq_by_cmp}
 use Rattle.move_core.specs.ListedOrder.{move_cmp}
 use Rattle.move_core.specs.ListedOrderLaws.{listed_same, listed_total}
@@ -36,11 +36,10 @@ pub keys_per : IsPartialEquivalence (eq_by_cmp move_cmp)
 keys_per = partial_equiv_from_equiv keys_equiv
 
 pub keys_decide : (m n : Move) → Decides (eq_by_cmp move_cmp m n) (m ≡ n)
-keys_decide m n =
-    (
-      λ h. ap (λ r. r.mv) (listed_same (unranked m) (unranked n) ((Equal-is (move_cmp m n)).0 h)),
-      λ e. subst (λ x. eq_by_cmp move_cmp m x ≡ true) e (keys_equiv.refl m),
-    )
+keys_decide m n = (
+  λ h. ap (λ r. r.mv) (listed_same (unranked m) (unranked n) ((Equal-is (move_cmp m n)).0 h)),
+  λ e. subst (λ x. eq_by_cmp move_cmp m x ≡ true) e (keys_equiv.refl m),
+)
 
 pub keys_alike : (m n : Move) → eq_by_cmp move_cmp m n ≡ true → fed.str (hashed_name m) ≡ fed.str (hashed_name n)
 keys_alike = (same_Alike (λ m. fed.str (hashed_name m)) keys_decide).fed

@@ -1,5 +1,5 @@
 -- Chains and their ranks, and what is kept of them.
-use Rattle.std.specs.Prelude.{◌≡◌, ◌≢◌, ◌⊎◌, ℕ, ◌<◌, Bool, true, false, List, [], ◌∷◌, ◌++◌, map, All}
+use Rattle.std.specs.Prelude.{◌≡◌, ◌≢◌, ℕ, ◌<◌, Bool, true, false, List, ◌++◌, All}
 use Rattle.std.specs.List.{AllPairs, Contains}
 use Rattle.std.specs.declared.cmp.Ordering.TheVariants.{Greater}
 use Rattle.conf_doc.specs.declared.configuration.Config.{Config}
@@ -10,7 +10,6 @@ use Rattle.move_core.specs.ListedOrder.{listed_cmp, rank_cmp}
 use Rattle.move_core.specs.declared.moves.Generated.{Generated}
 use Rattle.move_core.specs.declared.moves.Move.{Move}
 use Rattle.move_core.specs.declared.moves.Ranked.{Ranked}
-use Rattle.plan_search.specs.Questions.{IsOffered}
 use Rattle.plan_search.specs.Reaches.{Depths}
 use Rattle.plan_search.specs.declared.asking.Question.{Question}
 

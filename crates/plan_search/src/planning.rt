@@ -12,12 +12,14 @@ use crate::searching::find_plan;
 use crate::{SearchError, Steps};
 use conf_doc::Config;
 use host_core::Memory;
-use move_core::{Boxes, Ctx, Kit, Move, MoveExt, MoveGen, MoveRule, Plan, listed_moves_are_defined, step};
+use move_core::{
+    Boxes, Ctx, Kit, Move, MoveExt, MoveGen, MoveRule, Plan, listed_moves_are_defined, step,
+};
 use std::alloc::Global;
 use std::marker::PhantomData;
 use std::sync::ledger::Ledger;
 
-/// The moves from start to goal that a kit lists and allows.
+/// The moves from start to goal that a kit lists and allows. The boxes' types are there for contracts alone.
 #[derive(Drop)]
 struct KitMoves<'a> {
     ctx: &'a Ctx,
@@ -38,7 +40,8 @@ impl<'a> Expanding for KitMoves<'a> {
         × (AreOfKinds (λ b. (MoveGen-box b).gen_kind b.value) generator_kinds kit.gens.items
         × AreOfKinds (λ b. (MoveExt-box b).ext_kind b.value) extender_kinds kit.exts.items
         × AreOfKinds (λ b. (MoveRule-box b).rule_kind b.value) rule_kinds kit.rules.items)
-        × AreBefore (length rule_kinds) (λ b. (MoveRule-box b).fits b.value s.ctx.now.models) kit.rules.items };
+        × AreBefore (length rule_kinds) (λ b. (MoveRule-box b).fits b.value s.ctx.now.models)
+        kit.rules.items };
 
     ghost lawful = { λ s. moves_lawful s.ctx.now s.start.now s.goal.now };
 
@@ -102,6 +105,13 @@ pub fn search<L: Ledger>(
     ensures steps { steps.new < steps.old + budget }
 {
     kit.begin(ctx);
-    let source = KitMoves { ctx, start, goal, gens: PhantomData, exts: PhantomData, rules: PhantomData };
+    let source = KitMoves {
+        ctx,
+        start,
+        goal,
+        gens: PhantomData,
+        exts: PhantomData,
+        rules: PhantomData,
+    };
     find_plan(alloc, &source, kit, budget, steps)
 }

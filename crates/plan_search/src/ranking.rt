@@ -14,10 +14,12 @@ use std::alloc::Global;
 
 /// The tier of a chain of a generated move alone that isn't restoring, and of one that is.
 const ALONE: u8 = 1;
+
 const RESTORING: u8 = 3;
 
 /// The tier of an extended chain from a remove or a replace that isn't restoring, and of any other.
 const EXTENDED: u8 = 2;
+
 const OTHER: u8 = 4;
 
 /// Whether the extended chains from a generated move have the lesser tier: it is a remove or a replace, and

@@ -1,4 +1,4 @@
-use Rattle.std.proofs.Common.{◌≡◌, ◌+◌, [], take, sym, ap, subst, ◌∙◌}
+use Rattle.std.proofs.Common.{◌+◌, [], take, sym, ap, subst, ◌∙◌}
 use Rattle.plan_search.specs.Ranking.{AreMovesOf, Leads}
 use Rattle.plan_search.proofs.Adding.{leads_otherwise, leads_so, moves_none, moves_past, moves_step}
 use Rattle.plan_search.proofs.ranking.first_moves.Goals as goal

@@ -1,4 +1,4 @@
-use Rattle.std.proofs.Common.{◌≡◌, List, refl, sym, ap, subst, ◌∙◌, arith, take, ◌+◌}
+use Rattle.std.proofs.Common.{refl, sym, ap, subst, ◌∙◌, arith, take, ◌+◌}
 use Rattle.move_core.specs.declared.moves.Ranked.{Ranked}
 use Rattle.plan_search.specs.Ranking.{AddsExtended}
 use Rattle.plan_search.proofs.Adding.{extended_step, unextended_step}

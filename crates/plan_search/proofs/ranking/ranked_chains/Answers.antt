@@ -1,4 +1,4 @@
-use Rattle.std.proofs.Common.{[], true, false, subst}
+use Rattle.std.proofs.Common.{true, false, subst}
 use Rattle.plan_search.specs.Ranking.{AddsAlone, AreMovesOf, Leads}
 use Rattle.plan_search.specs.Reaches.{HoldsAll}
 use Rattle.plan_search.proofs.Chains.{all_chains, early_closed, moves_first}

@@ -1,4 +1,4 @@
-use Rattle.std.proofs.Common.{◌-◌, ◌≤◌, length}
+use Rattle.std.proofs.Common.{◌-◌}
 use Rattle.move_core.specs.Kinds.{AreOfKinds, extender_kinds, generator_kinds, rule_kinds}
 use Rattle.plan_search.specs.Reaches.{AreReached}
 use Rattle.plan_search.proofs.reaches.reach_from.Given as goal
@@ -7,9 +7,9 @@ use Rattle.plan_search.proofs.reaches.reach_from.Given as goal
 abbrev pub invariant-loop-i : goal.invariant-loop-i
 invariant-loop-i g l = record {
   kinds :
-    AreOfKinds (λ b. (g.dyn-1.0.entry b.vtable).1.gen_kind b.value) generator_kinds l.kit.gens.items
-    × AreOfKinds (λ b. (g.dyn-2.0.entry b.vtable).1.ext_kind b.value) extender_kinds l.kit.exts.items
-    × AreOfKinds (λ b. (g.dyn-3.0.entry b.vtable).1.rule_kind b.value) rule_kinds l.kit.rules.items;
+      AreOfKinds (λ b. (g.dyn-1.0.entry b.vtable).1.gen_kind b.value) generator_kinds l.kit.gens.items
+      × AreOfKinds (λ b. (g.dyn-2.0.entry b.vtable).1.ext_kind b.value) extender_kinds l.kit.exts.items
+      × AreOfKinds (λ b. (g.dyn-3.0.entry b.vtable).1.rule_kind b.value) rule_kinds l.kit.rules.items;
   reached : AreReached l.question l.beside l.fn.first.items l.reached l.i;
 }
 

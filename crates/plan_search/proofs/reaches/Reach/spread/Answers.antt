@@ -1,4 +1,4 @@
-use Rattle.std.proofs.Common.{◌≡◌, ◌≤◌, OnOk, Result, Ok, Err, Some, sym, ap, ◌∙◌, arith}
+use Rattle.std.proofs.Common.{OnOk, Result, Ok, Err, arith}
 use Rattle.plan_search.proofs.Reached.{depth_at, spread_noted}
 use Rattle.plan_search.proofs.reaches.Reach.spread.Goals as goal
 
