@@ -1,0 +1,9 @@
+mod Counting
+mod Due
+mod FoldStages
+mod LastFold
+mod Moments
+mod ReadySteps
+mod StepFiles
+mod StepNames
+mod StepStages

@@ -1,12 +1,13 @@
 -- The bytes of a change that is ready, and what is known of them.
-use Rattle.std.specs.Prelude.{◌≡◌, ◌≤◌, ℕ, suc, false, List, map, length, Some, Ok, slice_get, get_or, Vec}
-use Rattle.std.specs.declared.alloc.Global.{Global}
+use Rattle.std.specs.Prelude.{◌≡◌, ◌≤◌, ℕ, suc, false, List, [], ◌∷◌, map, length, Some, Ok, slice_get}
 use Rattle.std.specs.List.{AllPass}
 use Rattle.conf_doc.specs.Texts.{file_text}
 use Rattle.conf_doc.specs.declared.configuration.Config.{Config}
 use Rattle.conf_store.specs.Files.{is_step_name, last_step, step_name}
 use Rattle.conf_store.specs.Steps.{IsStep}
 use Rattle.conf_store.specs.Stored.{config_in}
+use Rattle.patch_core.specs.Reading.{patch}
+use Rattle.move_core.specs.Operations.{op}
 use Rattle.move_core.specs.Plans.{conf}
 use Rattle.move_core.specs.declared.moves.Move.{Move}
 use Rattle.move_core.specs.declared.settings.Settings.{Settings}
@@ -32,25 +33,25 @@ count work = length work.steps
 pub record IsReadyStep (k : ℕ) (s : ReadyStep) : Type 0 where
   pub file : s.file ≡ step_name (suc k)
   pub bytes : s.bytes.items ≡ step_text s.mv
+  pub reads : patch (step_text s.mv) ≡ Ok (op s.mv ∷ [])
   pub line : s.line ≡ ack (suc k)
 
--- each step is ready, and leads from the configuration before it to the one after it
-abbrev pub AreReady : Config → List ReadyStep → Type 0
-AreReady start steps =
+-- each step is ready, and leads from the configuration before its move to the one after it
+abbrev pub AreReady : Config → List Move → List ReadyStep → Type 0
+AreReady start moves steps =
     (k : ℕ) (s : ReadyStep) → slice_get steps k ≡ Some s
-    → IsReadyStep k s
-    × IsStep (step_text s.mv) (conf start (map (λ s. s.mv) steps) k) (conf start (map (λ s. s.mv) steps) (suc k))
+    → IsReadyStep k s × IsStep (step_text s.mv) (conf start moves k) (conf start moves (suc k))
 
 -- the steps of a plan with its services are ready
 pub record AreReadySteps (start : Config) (moves : List Move) (services : List (List ℕ))
     (settings : Settings) (steps : List ReadyStep) : Type 0 where
   pub moves_are : map (λ s. s.mv) steps ≡ moves
   pub restarts_are : map (λ s. s.restarts) steps ≡ map (restarts_of settings) services
-  pub ready : AreReady start steps
+  pub ready : AreReady start moves steps
 
 -- all bytes are those of the change
 pub record IsReady (work : Work) : Type 0 where
-  pub steps_ready : AreReady work.stored.config work.steps
+  pub steps_ready : AreReady work.stored.config (change_in work).moves work.steps
   pub few : count work ≤ last_step
   pub names : AllPass is_step_name work.stored.steps
   pub stored_text : config_in work.stored_text.items ≡ Ok work.stored.config

@@ -40,8 +40,8 @@ pub(crate) fn acknowledge<H: Host>(host: &mut H, work: &Work, k: usize) -> Resul
     ensures goes { H.goes_on host.old host.new }
 {
     let line = work.steps.at(k).line.as_str();
-    if host.print(line.as_bytes()).is_err() {
-        return Err(ApplyFault::Print { step: k });
+    match host.print(line.as_bytes()) {
+        Ok(()) => Ok(()),
+        Err(_) => Err(ApplyFault::Print { step: k }),
     }
-    Ok(())
 }

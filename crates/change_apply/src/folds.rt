@@ -3,7 +3,7 @@ ghost use Rattle.std.specs.Prelude.{◌<◌, ◌≤◌, IfErr, OnOk};
 ghost use Rattle.host_core.specs.Names.{longest_plain_name};
 ghost use Rattle.change_apply.specs.Crashes.{LeavesAt};
 ghost use Rattle.change_apply.specs.Ends.{Finishes, HasCause, MayRise, Stops};
-ghost use Rattle.change_apply.specs.Stages.{AtBeginning, AtStep, CanFoldFirst, HasStage, Leads};
+ghost use Rattle.change_apply.specs.Stages.{AtBeginning, AtStep, HasStage, Leads};
 ghost use Rattle.change_apply.specs.Work.{IsReady, change_in, count};
 
 use crate::ApplyFault;
@@ -29,10 +29,10 @@ pub(crate) fn fold_first<H: Host>(host: &mut H, work: &Work) -> Result<(), Apply
     if work.stored.steps.is_empty() && !work.stored.folded {
         return Ok(());
     }
-    if fold(host, &work.stored_text, &work.stored).is_err() {
-        return Err(ApplyFault::Disk { step: 0 });
+    match fold(host, &work.stored_text, &work.stored) {
+        Ok(()) => Ok(()),
+        Err(_) => Err(ApplyFault::Disk { step: 0 }),
     }
-    Ok(())
 }
 
 /// Folds all steps.
@@ -51,9 +51,9 @@ pub(crate) fn fold_last<H: Host>(host: &mut H, work: &Work) -> Result<(), ApplyF
     ensures cause { IfErr result (HasCause (H.counts host.old) (H.counts host.new)) }
     ensures goes { H.goes_on host.old host.new }
 {
-    if fold(host, &work.goal_text, &work.goal).is_err() {
-        let step = work.steps.len();
-        return Err(ApplyFault::Disk { step });
+    let step = work.steps.len();
+    match fold(host, &work.goal_text, &work.goal) {
+        Ok(()) => Ok(()),
+        Err(_) => Err(ApplyFault::Disk { step }),
     }
-    Ok(())
 }

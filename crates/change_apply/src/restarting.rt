@@ -4,7 +4,7 @@ ghost use Rattle.change_apply.specs.Change.{restarts_at};
 ghost use Rattle.change_apply.specs.Crashes.{LeavesAt};
 ghost use Rattle.change_apply.specs.Ends.{HasCause, MayRise, Stops};
 ghost use Rattle.change_apply.specs.Stages.{AtPut, HasStage, Leads};
-ghost use Rattle.change_apply.specs.Work.{change_in, count};
+ghost use Rattle.change_apply.specs.Work.{IsReady, change_in, count};
 
 use crate::ApplyFault;
 use crate::ready::Work;
@@ -16,6 +16,7 @@ pub(crate) fn restart_services<H: Host>(
     work: &Work,
     k: usize,
 ) -> Result<(), ApplyFault>
+    requires ready { IsReady work.now }
     requires within { k < count work.now }
     requires stage { HasStage (AtPut (change_in work.now) k 0) (H.told host.old) }
     ensures ok { OnOk result (Leads (AtPut (change_in work.now) k 0)

@@ -72,8 +72,8 @@ fn put_next<H: Host>(host: &mut H, work: &Work, k: usize) -> Result<(), ApplyFau
     ensures goes { H.goes_on host.old host.new }
 {
     let step = work.steps.at(k);
-    if put_step(host, step.file.as_str(), &step.bytes).is_err() {
-        return Err(ApplyFault::Disk { step: k });
+    match put_step(host, step.file.as_str(), &step.bytes) {
+        Ok(()) => Ok(()),
+        Err(_) => Err(ApplyFault::Disk { step: k }),
     }
-    Ok(())
 }
