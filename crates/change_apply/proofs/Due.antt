@@ -24,7 +24,7 @@ use Rattle.change_apply.proofs.StepStages.{IsDue, acknowledged, can_put, left_at
 pub count_is : (work : Work) → steps (change_in work) ≡ count work
 count_is work = length-map work.steps (λ (s : ReadyStep). s.mv)
 
-get_from_slice : {A : Type 0} (xs : List A) (k : ℕ) (x d : A) → slice_get xs k ≡ Some x → get_or xs k d ≡ x
+pub get_from_slice : {A : Type 0} (xs : List A) (k : ℕ) (x d : A) → slice_get xs k ≡ Some x → get_or xs k d ≡ x
 get_from_slice [] k x d e = absurd cc
 get_from_slice (y ∷ xs) zero x d e = cc
 get_from_slice (y ∷ xs) (suc k) x d e = get_from_slice xs k x d e

@@ -1,6 +1,9 @@
 -- The steps of a plan made ready: each leads from one configuration of the plan to the next.
-use Rattle.std.proofs.Common.{◌≡◌, ◌<◌, ◌≤◌, ◌⊎◌, inl, inr, ⊎_elim, ℕ, zero, suc, ◌+◌, List, [], ◌∷◌, ◌++◌, length, map, max, take, Option, Some, None, Result, Ok, Err, refl, sym, ap, ◌∙◌, subst, arith}
-use Rattle.std.specs.Prelude.{slice_get}
+use Rattle.std.proofs.Common.{◌≡◌, ◌<◌, ◌≤◌, ◌⊎◌, inl, inr, ⊎_elim, ℕ, zero, suc, ◌+◌, List, [], ◌∷◌, ◌++◌, length, map, max, get_or, take, Option, Some, None, option_map, Result, Ok, Err, refl, sym, ap, ◌∙◌, subst, arith}
+use Rattle.std.specs.Prelude.{IfOk, Vec, slice_get}
+use Rattle.std.specs.declared.alloc.Global.{Global}
+use Rattle.std.proofs.lemmas.List.{map_more}
+use Rattle.std.proofs.lemmas.Option.{slice_get-map}
 use Rattle.host_core.specs.Answers.{◌>>=◌}
 use Rattle.conf_doc.specs.Configuration.{entry_tree, mapping, part_tree, table_tree, tree, value_tree}
 use Rattle.conf_doc.specs.Document.{Document, text, list, object, depth, items_depth, items_of, members_depth, members_of}
@@ -16,7 +19,7 @@ use Rattle.conf_doc.proofs.RoundTrip.{config_back}
 use Rattle.patch_core.specs.Apply.{apply_plain, result_of}
 use Rattle.patch_core.specs.Operation.{Operation}
 use Rattle.patch_core.specs.Reading.{patch}
-use Rattle.patch_core.specs.Writing.{most_value_levels, value_depth}
+use Rattle.patch_core.specs.Writing.{most_value_levels, patch_file, value_depth}
 use Rattle.patch_core.specs.declared.errors.ApplyError.{ApplyError}
 use Rattle.patch_core.specs.declared.errors.ApplyError.TheVariants.{Failed}
 use Rattle.patch_core.specs.declared.errors.FailWhy.{FailWhy}
@@ -27,9 +30,13 @@ use Rattle.move_core.specs.Plans.{conf}
 use Rattle.move_core.specs.declared.moves.Move.{Move}
 use Rattle.move_core.specs.declared.moves.Move.TheVariants.{Add, Remove, Replace}
 use Rattle.move_core.proofs.Operated.{plainly}
-use Rattle.change_apply.specs.Change.{AreDefined, step_text}
+use Rattle.move_core.specs.declared.settings.ServiceTie.{ServiceTie}
+use Rattle.move_core.specs.declared.settings.Settings.{Settings}
+use Rattle.change_apply.specs.Change.{AreDefined, name_at, restart_of, step_text}
 use Rattle.change_apply.specs.Work.{AreReady, IsReadyStep}
 use Rattle.change_apply.specs.declared.ready.ReadyStep.{ReadyStep}
+use Rattle.change_apply.specs.declared.ready.Restart.{Restart}
+use Rattle.change_apply.proofs.Due.{get_from_slice}
 use Rattle.change_apply.proofs.StepFiles.{conf_start}
 
 -- ---- a move's value nests four levels deep at most
@@ -125,3 +132,54 @@ ready_more start moves steps s k long so_far is defined formed ready i x e =
     (subst (λ j. IsReadyStep j s × IsStep (step_text s.mv) (conf start moves j) (conf start moves (suc j))) (sym at)
     (ready, subst (IsStep (step_text s.mv) (conf start moves k)) (sym (conf_next start moves k s.mv is)) (is_step (conf start moves k) s.mv (defined_at start moves k s.mv defined is) formed ready.reads))))
     (last_or_before steps s i x e)
+
+-- ---- what is gathered step by step
+
+pub push_more : {A B : Type 0} (f : A → B) (xs : List A) (x : A) (ys : List B) (k : ℕ) (y : B) → slice_get ys k ≡ Some y → f x ≡ y → map f xs ≡ take k ys
+    → map f (xs ++ x ∷ []) ≡ take (k + 1) ys
+push_more f xs x ys k y is same so_far =
+    map_append f xs (x ∷ []) ∙ ap (λ l. l ++ f x ∷ []) so_far ∙ ap (λ z. take k ys ++ z ∷ []) same ∙ one_more ys k y is ∙ ap (λ (n : ℕ). take n ys) (one_up k)
+  where
+    one_up : (k : ℕ) → suc k ≡ k + 1
+    one_up k = omega arith
+
+    map_append : {A B : Type 0} (f : A → B) (xs ys : List A) → map f (xs ++ ys) ≡ map f xs ++ map f ys
+    map_append f [] ys = refl
+    map_append f (x ∷ xs) ys = ap (λ l. f x ∷ l) (map_append f xs ys)
+
+    one_more : {B : Type 0} (ys : List B) (k : ℕ) (y : B) → slice_get ys k ≡ Some y → take k ys ++ y ∷ [] ≡ take (suc k) ys
+    one_more [] zero y e = absurd cc
+    one_more [] (suc k) y e = absurd cc
+    one_more (z ∷ ys) zero y e = let same : z ≡ y = cc in ap (λ w. w ∷ []) (sym same)
+    one_more (z ∷ ys) (suc k) y e = ap (λ l. z ∷ l) (one_more ys k y e)
+
+-- ---- restarts
+
+pub named_at : (settings : Settings) (j : ℕ) (tie : ServiceTie) → slice_get settings.services j ≡ Some tie → name_at settings j ≡ tie.name
+named_at settings j tie e =
+    get_from_slice (map (λ t. t.name) settings.services) j tie.name [] (slice_get-map (λ (t : ServiceTie). t.name) settings.services j ∙ ap (option_map (λ (t : ServiceTie). t.name)) e)
+
+pub restart_is : (settings : Settings) (r : Restart) (j : ℕ) → r.service ≡ j → r.name ≡ name_at settings j → r ≡ restart_of settings j
+restart_is settings r j e n = λ i. record { service = e i; name = n i }
+
+pub restart_more : (settings : Settings) (services : List ℕ) (i d : ℕ) → i < length services → (tie : ServiceTie) → slice_get settings.services (get_or services i d) ≡ Some tie
+    → (name : List ℕ) → name ≡ tie.name → (restarts : List Restart) → restarts ≡ map (restart_of settings) (take i services)
+    → restarts ++ record { service = get_or services i d; name = name } ∷ [] ≡ map (restart_of settings) (take (i + 1) services)
+restart_more settings services i d low tie at name is restarts so_far =
+    ap (λ (l : List Restart). l ++ record { service = get_or services i d; name = name } ∷ []) so_far
+    ∙ ap (λ (n : List ℕ). map (restart_of settings) (take i services) ++ record { service = get_or services i d; name = n } ∷ []) (is ∙ sym (named_at settings (get_or services i d) tie at))
+    ∙ sym (map_more (restart_of settings) services i d low)
+
+-- ---- the file of a step
+
+pub reads_of : {E : Type 0} (m : Move) (o : Operation) → o ≡ op m → (r : Result (Vec ℕ Global) E) → IfOk r (λ b. b.items ≡ patch_file (o ∷ []))
+    → IfOk r (λ b. value_depth o ≤ most_value_levels → patch b.items ≡ Ok (o ∷ [])) → IfOk r (λ b. patch (step_text m) ≡ Ok (op m ∷ []))
+reads_of m o e (Err x) is reads = tt
+reads_of m o e (Ok b) is reads =
+    subst (λ x. patch (patch_file (x ∷ [])) ≡ Ok (x ∷ [])) e
+    (ap patch (sym is) ∙ reads (subst (λ x. value_depth x ≤ most_value_levels) (sym e) (move_low m)))
+
+pub get_to_slice : {A : Type 0} (xs : List A) (k : ℕ) (x : A) → k < length xs → x ≡ get_or xs k x → slice_get xs k ≡ Some x
+get_to_slice [] k x low e = absurd (omega (arith, low))
+get_to_slice (y ∷ xs) zero x low e = ap (λ z. Some z) (sym e)
+get_to_slice (y ∷ xs) (suc k) x low e = get_to_slice xs k x (omega (arith, low)) e

@@ -1,8 +1,6 @@
 //! A change made ready: every byte that it writes and prints.
-ghost use Rattle.std.specs.Prelude.{◌≡◌, ◌≤◌, All, IfOk, OnOk, length};
+ghost use Rattle.std.specs.Prelude.{◌≡◌, ◌≤◌, All, IfOk, false, length};
 ghost use Rattle.std.specs.List.{AllPass};
-ghost use Rattle.conf_doc.specs.WellFormed.{IsConfig};
-ghost use Rattle.conf_doc.specs.declared.configuration.Config.{Config as ConfigValue};
 ghost use Rattle.conf_store.specs.Files.{is_step_name, last_step};
 ghost use Rattle.change_apply.specs.Change.{ArePositions, AreDefined, change_of};
 ghost use Rattle.change_apply.specs.Stages.{first_steps};
@@ -41,11 +39,7 @@ pub fn prepare(
     let stored_text = file_bytes(alloc, &stored.config)?;
     let stored = copy_stored(alloc, stored)?;
     let goal_text = file_bytes(alloc, &config)?;
-    let goal = Stored {
-        config,
-        steps: first_names(alloc, plan.len())?,
-        folded: false,
-    };
+    let goal = goal_of(alloc, config, plan.len())?;
     Ok(Ready {
         work: Work {
             stored,
@@ -61,14 +55,40 @@ pub fn prepare(
 fn copy_stored(alloc: Global, stored: &Stored) -> Result<Stored, Memory>
     ensures { IfOk result (λ s. s ≡ stored.now) }
 {
-    let mut steps = Names::new(alloc);
-    for i in 0..stored.steps.len() {
-        steps.push(stored.steps.at(i).copy(alloc)?)?;
-    }
+    let steps = copy_names(alloc, &stored.steps)?;
+    let config = stored.config.copy(alloc)?;
     Ok(Stored {
-        config: stored.config.copy(alloc)?,
+        config,
         steps,
         folded: stored.folded,
+    })
+}
+
+/// A copy of names.
+#[tactic(auto, using(std::proofs::lemmas::List::take_all))]
+fn copy_names(alloc: Global, names: &Names) -> Result<Names, Memory>
+    ensures { IfOk result (λ copy. copy ≡ names.now) }
+{
+    let mut copy = Names::new(alloc);
+    for i in 0..names.len() {
+        let name = names.at(i).copy(alloc)?;
+        copy.push(name)?;
+    }
+    Ok(copy)
+}
+
+/// What the folder holds behind the last step.
+fn goal_of(alloc: Global, config: Config, count: usize) -> Result<Stored, Memory>
+    requires { count ≤ last_step }
+    ensures config { IfOk result (λ s. s.config ≡ config) }
+    ensures steps { IfOk result (λ s. s.steps ≡ first_steps count) }
+    ensures unfolded { IfOk result (λ s. s.folded ≡ false) }
+{
+    let steps = first_names(alloc, count)?;
+    Ok(Stored {
+        config,
+        steps,
+        folded: false,
     })
 }
 
@@ -79,7 +99,8 @@ fn first_names(alloc: Global, count: usize) -> Result<Names, Memory>
 {
     let mut names = Names::new(alloc);
     for i in 0..count {
-        names.push(step_name(alloc, i as u32 + 1)?)?;
+        let name = step_name(alloc, i as u32 + 1)?;
+        names.push(name)?;
     }
     Ok(names)
 }

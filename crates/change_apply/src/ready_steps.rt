@@ -1,8 +1,9 @@
 //! The steps of a plan made ready.
-ghost use Rattle.std.specs.Prelude.{◌≡◌, ◌≤◌, ◌<◌, All, IfOk, length, suc};
-ghost use Rattle.conf_doc.specs.WellFormed.{IsConfig};
+ghost use Rattle.std.specs.Prelude.{◌≡◌, ◌≤◌, ◌<◌, [], ◌∷◌, All, IfOk, Ok, length};
 ghost use Rattle.conf_store.specs.Files.{last_step};
-ghost use Rattle.change_apply.specs.Change.{ArePositions, AreDefined, restarts_of};
+ghost use Rattle.patch_core.specs.Reading.{patch};
+ghost use Rattle.move_core.specs.Operations.{op};
+ghost use Rattle.change_apply.specs.Change.{ArePositions, AreDefined, restarts_of as restarts_at_positions, step_text};
 ghost use Rattle.change_apply.specs.Work.{AreReadySteps, IsReadyStep};
 ghost use Rattle.move_core.specs.Plans.{conf};
 
@@ -55,16 +56,30 @@ fn ready_step(
     requires positions { ArePositions settings.now services.now }
     ensures ready { IfOk result (IsReadyStep k) }
     ensures mv { IfOk result (λ s. s.mv ≡ mv.now) }
-    ensures restarts { IfOk result (λ s. s.restarts ≡ restarts_of settings.now services.now) }
+    ensures restarts { IfOk result
+        (λ s. s.restarts ≡ restarts_at_positions settings.now services.now) }
+{
+    let bytes = step_file(alloc, mv)?;
+    let file = step_name(alloc, k as u32 + 1)?;
+    let line = acknowledgement(alloc, k + 1)?;
+    let restarts = restarts_of(alloc, services, settings)?;
+    let mv = mv.copy(alloc)?;
+    Ok(ReadyStep {
+        mv,
+        file,
+        bytes,
+        restarts,
+        line,
+    })
+}
+
+/// The file of a step: the patch of its one operation.
+fn step_file(alloc: Global, mv: &Move) -> Result<Vec<u8>, Memory>
+    ensures text { IfOk result (λ b. b.items ≡ step_text mv.now) }
+    ensures reads { IfOk result (λ b. patch (step_text mv.now) ≡ Ok (op mv.now ∷ [])) }
 {
     let operation = operation_of(alloc, mv)?;
-    Ok(ReadyStep {
-        mv: mv.copy(alloc)?,
-        file: step_name(alloc, k as u32 + 1)?,
-        bytes: step_bytes(alloc, &operation)?,
-        restarts: restarts_of(alloc, services, settings)?,
-        line: acknowledgement(alloc, k + 1)?,
-    })
+    step_bytes(alloc, &operation)
 }
 
 /// The restarts of the services at some positions.
@@ -74,7 +89,7 @@ fn restarts_of(
     settings: &Settings,
 ) -> Result<Sequence<Restart>, Memory>
     requires { ArePositions settings.now services.now }
-    ensures { IfOk result (λ rs. rs ≡ restarts_of settings.now services.now) }
+    ensures { IfOk result (λ rs. rs ≡ restarts_at_positions settings.now services.now) }
 {
     let mut restarts = Sequence::new(alloc);
     for i in 0..services.len() {
