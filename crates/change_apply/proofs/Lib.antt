@@ -4,6 +4,7 @@ mod FoldStages
 mod LastFold
 mod Moments
 mod ReadySteps
+mod ReadyWork
 mod StepFiles
 mod StepNames
 mod StepStages

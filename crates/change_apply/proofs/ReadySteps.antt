@@ -23,6 +23,7 @@ use Rattle.patch_core.specs.Writing.{most_value_levels, patch_file, value_depth}
 use Rattle.patch_core.specs.declared.errors.ApplyError.{ApplyError}
 use Rattle.patch_core.specs.declared.errors.ApplyError.TheVariants.{Failed}
 use Rattle.patch_core.specs.declared.errors.FailWhy.{FailWhy}
+use Rattle.conf_store.specs.Files.{step_name}
 use Rattle.conf_store.specs.Steps.{IsStep}
 use Rattle.move_core.specs.Moves.{IsDefined, step}
 use Rattle.move_core.specs.Operations.{op}
@@ -33,6 +34,7 @@ use Rattle.move_core.proofs.Operated.{plainly}
 use Rattle.move_core.specs.declared.settings.ServiceTie.{ServiceTie}
 use Rattle.move_core.specs.declared.settings.Settings.{Settings}
 use Rattle.change_apply.specs.Change.{AreDefined, name_at, restart_of, step_text}
+use Rattle.change_apply.specs.Stages.{first_steps}
 use Rattle.change_apply.specs.Work.{AreReady, IsReadyStep}
 use Rattle.change_apply.specs.declared.ready.ReadyStep.{ReadyStep}
 use Rattle.change_apply.specs.declared.ready.Restart.{Restart}
@@ -135,23 +137,30 @@ ready_more start moves steps s k long so_far is defined formed ready i x e =
 
 -- ---- what is gathered step by step
 
+one_up : (k : ℕ) → suc k ≡ k + 1
+one_up k = omega arith
+
+taken : {A : Type 0} (xs : List A) (k : ℕ) (x : A) → slice_get xs k ≡ Some x → take k xs ++ x ∷ [] ≡ take (suc k) xs
+taken [] zero x e = absurd cc
+taken [] (suc k) x e = absurd cc
+taken (y ∷ xs) zero x e = let same : y ≡ x = cc in ap (λ z. z ∷ []) (sym same)
+taken (y ∷ xs) (suc k) x e = ap (λ l. y ∷ l) (taken xs k x e)
+
+pub take_next : {A : Type 0} (xs : List A) (k : ℕ) (x : A) → slice_get xs k ≡ Some x → take k xs ++ x ∷ [] ≡ take (k + 1) xs
+take_next xs k x e = taken xs k x e ∙ ap (λ (n : ℕ). take n xs) (one_up k)
+
+map_append : {A B : Type 0} (f : A → B) (xs ys : List A) → map f (xs ++ ys) ≡ map f xs ++ map f ys
+map_append f [] ys = refl
+map_append f (x ∷ xs) ys = ap (λ l. f x ∷ l) (map_append f xs ys)
+
 pub push_more : {A B : Type 0} (f : A → B) (xs : List A) (x : A) (ys : List B) (k : ℕ) (y : B) → slice_get ys k ≡ Some y → f x ≡ y → map f xs ≡ take k ys
     → map f (xs ++ x ∷ []) ≡ take (k + 1) ys
 push_more f xs x ys k y is same so_far =
-    map_append f xs (x ∷ []) ∙ ap (λ l. l ++ f x ∷ []) so_far ∙ ap (λ z. take k ys ++ z ∷ []) same ∙ one_more ys k y is ∙ ap (λ (n : ℕ). take n ys) (one_up k)
-  where
-    one_up : (k : ℕ) → suc k ≡ k + 1
-    one_up k = omega arith
+    map_append f xs (x ∷ []) ∙ ap (λ l. l ++ f x ∷ []) so_far ∙ ap (λ z. take k ys ++ z ∷ []) same ∙ take_next ys k y is
 
-    map_append : {A B : Type 0} (f : A → B) (xs ys : List A) → map f (xs ++ ys) ≡ map f xs ++ map f ys
-    map_append f [] ys = refl
-    map_append f (x ∷ xs) ys = ap (λ l. f x ∷ l) (map_append f xs ys)
-
-    one_more : {B : Type 0} (ys : List B) (k : ℕ) (y : B) → slice_get ys k ≡ Some y → take k ys ++ y ∷ [] ≡ take (suc k) ys
-    one_more [] zero y e = absurd cc
-    one_more [] (suc k) y e = absurd cc
-    one_more (z ∷ ys) zero y e = let same : z ≡ y = cc in ap (λ w. w ∷ []) (sym same)
-    one_more (z ∷ ys) (suc k) y e = ap (λ l. z ∷ l) (one_more ys k y e)
+pub first_more : (k : ℕ) (name : List ℕ) → name ≡ step_name (k + 1) → (names : List (List ℕ)) → names ≡ first_steps k → names ++ name ∷ [] ≡ first_steps (k + 1)
+first_more k name is names so_far =
+    ap (λ (l : List (List ℕ)). l ++ name ∷ []) so_far ∙ ap (λ (n : List ℕ). first_steps k ++ n ∷ []) (is ∙ sym (ap step_name (one_up k))) ∙ ap first_steps (one_up k)
 
 -- ---- restarts
 
