@@ -1,19 +1,18 @@
 -- The stages of the two folds, and of a change without steps.
-use Rattle.std.proofs.Common.{◌≡◌, ◌<◌, ◌≤◌, inl, inr, ℕ, zero, suc, true, false, List, [], ◌∷◌, ◌++◌, length, Option, Some, None, Result, Ok, Err, refl, sym, ap, ◌∙◌, subst, arith, append-nil}
+use Rattle.std.proofs.Common.{◌≡◌, ◌<◌, ◌≤◌, inl, ℕ, false, List, [], ◌++◌, Option, Some, None, Ok, refl, sym, ap, ◌∙◌, subst, arith, append-nil}
 use Rattle.std.specs.Prelude.{IfSome, is_some}
 use Rattle.std.specs.FinMap.{get}
-use Rattle.host_core.specs.Crashes.{Left, LeavesOnly, MayLeave, MayLeaveNow, Image}
+use Rattle.host_core.specs.Crashes.{Left, LeavesOnly, MayLeave, MayLeaveNow}
 use Rattle.host_core.specs.State.{Files, State, settled}
 use Rattle.conf_doc.specs.Texts.{file_text}
 use Rattle.conf_doc.specs.declared.configuration.Config.{Config}
 use Rattle.conf_store.specs.Changes.{AreLeft, Changes, IsSettled, Settles}
 use Rattle.conf_store.specs.Files.{folded_file}
-use Rattle.conf_store.specs.Folds.{IsFolded, IsOther, KeepsStored, StandsFor}
+use Rattle.conf_store.specs.Folds.{IsFolded, KeepsStored, StandsFor}
 use Rattle.conf_store.specs.Stored.{config_in, stored}
-use Rattle.conf_store.specs.declared.errors.StoredWhy.{StoredWhy}
 use Rattle.conf_store.specs.declared.loaded.Stored.{Stored}
 use Rattle.change_apply.specs.Acknowledgements.{acks}
-use Rattle.change_apply.specs.Change.{Change, conf_at, goal, names, restarted, restarts_at, steps}
+use Rattle.change_apply.specs.Change.{Change, conf_at, goal, restarted, restarts_at, steps}
 use Rattle.change_apply.specs.Crashes.{IsLeft, KeepsOthers}
 use Rattle.change_apply.specs.Ends.{Finishes, IsApplied, IsStopped, Stops, worked}
 use Rattle.change_apply.specs.Stages.{AreSteps, AtBeginning, AtStep, first_steps}
@@ -101,7 +100,7 @@ module _ (change : Change) where
         later.0,
         later.1,
         fold_stops change 0 (omega arith) s s.files (start_stands s at.2) (λ q other. refl) later.0 leads.inputs
-        (leads.output ∙ sym (append-nil s.output)) (leads.restarts ∙ sym (append-nil s.restarts)) leads.reads,
+            (leads.output ∙ sym (append-nil s.output)) (leads.restarts ∙ sym (append-nil s.restarts)) leads.reads,
       )
 
   first_leaves : (s : State) → StandsFor change.stored s.files → (left : Left) → AreLeft KeepsStored s left → IsLeft change s left

@@ -1,12 +1,12 @@
 -- The steps of a plan made ready: each leads from one configuration of the plan to the next.
-use Rattle.std.proofs.Common.{◌≡◌, ◌<◌, ◌≤◌, ◌⊎◌, inl, inr, ⊎_elim, ℕ, zero, suc, ◌+◌, List, [], ◌∷◌, ◌++◌, length, map, max, get_or, take, Option, Some, None, option_map, Result, Ok, Err, refl, sym, ap, ◌∙◌, subst, arith}
+use Rattle.std.proofs.Common.{◌≡◌, ◌<◌, ◌≤◌, ◌⊎◌, inl, inr, ⊎_elim, ℕ, zero, suc, ◌+◌, List, [], ◌∷◌, ◌++◌, length, map, get_or, take, Some, option_map, Result, Ok, Err, refl, sym, ap, ◌∙◌, subst, arith}
 use Rattle.std.specs.Prelude.{IfOk, Vec, slice_get}
 use Rattle.std.specs.declared.alloc.Global.{Global}
 use Rattle.std.proofs.lemmas.List.{map_more}
 use Rattle.std.proofs.lemmas.Option.{slice_get-map}
 use Rattle.host_core.specs.Answers.{◌>>=◌}
 use Rattle.conf_doc.specs.Configuration.{entry_tree, mapping, part_tree, table_tree, tree, value_tree}
-use Rattle.conf_doc.specs.Document.{Document, text, list, object, depth, items_depth, items_of, members_depth, members_of}
+use Rattle.conf_doc.specs.Document.{Document, text, depth, items_depth, items_of, members_depth, members_of}
 use Rattle.conf_doc.specs.WellFormed.{IsConfig}
 use Rattle.conf_doc.specs.declared.configuration.Config.{Config}
 use Rattle.conf_doc.specs.declared.configuration.Entry.{Entry}

@@ -1,5 +1,5 @@
 -- All bytes of a change made ready.
-use Rattle.std.proofs.Common.{◌≡◌, ◌≤◌, ℕ, List, length, map, false, Result, Ok, refl, sym, ap, ◌∙◌, subst, arith}
+use Rattle.std.proofs.Common.{◌≡◌, ◌≤◌, ℕ, List, length, false, Ok, sym, ap, ◌∙◌, subst, arith}
 use Rattle.std.specs.List.{AllPass}
 use Rattle.std.proofs.lemmas.List.{length-map}
 use Rattle.conf_doc.specs.Configuration.{tree}
@@ -8,7 +8,6 @@ use Rattle.conf_doc.specs.Shaping.{shaping}
 use Rattle.conf_doc.specs.Texts.{file_text}
 use Rattle.conf_doc.specs.declared.configuration.Config.{Config}
 use Rattle.conf_store.specs.Files.{is_step_name, last_step}
-use Rattle.conf_store.specs.Stored.{config_in}
 use Rattle.conf_store.specs.declared.loaded.Stored.{Stored}
 use Rattle.conf_store.proofs.FileTexts.{text_holds}
 use Rattle.move_core.specs.Plans.{conf}

@@ -1,5 +1,5 @@
 -- The files of a change, from one step to the next.
-use Rattle.std.proofs.Common.{◌≡◌, ◌<◌, ◌≤◌, ◌⊎◌, inl, inr, ⊎_elim, ℕ, zero, suc, ◌+◌, true, false, List, [], ◌∷◌, ◌++◌, length, Option, Some, None, Result, Ok, Err, refl, sym, ap, ◌∙◌, subst, arith}
+use Rattle.std.proofs.Common.{◌≡◌, ◌<◌, ◌≤◌, ◌⊎◌, inl, inr, ⊎_elim, ℕ, zero, suc, true, false, List, [], ◌∷◌, ◌++◌, length, Option, Some, None, Result, Ok, Err, refl, sym, ap, ◌∙◌, subst, arith}
 use Rattle.std.specs.Prelude.{is_some, unwrap_or, slice_get, IsSome}
 use Rattle.std.specs.FinMap.{get}
 use Rattle.std.specs.List.{AllPass}
@@ -8,16 +8,15 @@ use Rattle.std.proofs.lemmas.List.Elements.{All-nil, All-push}
 use Rattle.host_core.specs.Answers.{◌>>=◌}
 use Rattle.host_core.specs.State.{Files, with_file}
 use Rattle.conf_doc.specs.Configuration.{tree}
-use Rattle.conf_doc.specs.Document.{Document}
 use Rattle.conf_doc.specs.Shaping.{configuration}
 use Rattle.conf_doc.specs.Texts.{file_text}
 use Rattle.conf_doc.specs.declared.configuration.Config.{Config}
 use Rattle.patch_core.specs.Apply.{result_of}
 use Rattle.patch_core.specs.Reading.{patch}
 use Rattle.conf_store.specs.Files.{config_file, folded_file, is_step_name, last_step, scratch, step_name, step_names, without_scratch}
-use Rattle.conf_store.specs.Folds.{IsFolded, IsOther, KeepsStored, StandsFor}
-use Rattle.conf_store.specs.Puts.{IsPutOrNot, IsSame, put}
-use Rattle.conf_store.specs.Steps.{CanStep, IsNextStep, IsStep, IsStepPut, IsStepPutOrNot, IsStepped}
+use Rattle.conf_store.specs.Folds.{IsFolded, StandsFor}
+use Rattle.conf_store.specs.Puts.{IsPutOrNot, put}
+use Rattle.conf_store.specs.Steps.{CanStep, IsStep, IsStepPut, IsStepPutOrNot, IsStepped}
 use Rattle.conf_store.specs.Stored.{after_all_steps, after_steps, config_in, or_none, or_unfolded, stored}
 use Rattle.conf_store.specs.declared.errors.StoredWhy.{StoredWhy}
 use Rattle.conf_store.specs.declared.errors.StoredWhy.TheVariants.{NoFile}

@@ -1,8 +1,8 @@
 -- The stages of one step: its file is put, its services are restarted, it is acknowledged.
-use Rattle.std.proofs.Common.{◌≡◌, ◌<◌, ◌≤◌, inl, inr, ℕ, zero, suc, ◌+◌, List, [], ◌∷◌, ◌++◌, length, map, take, drop, get_or, Option, Some, None, Result, Ok, Err, option_map, refl, sym, ap, ◌∙◌, subst, arith, append-nil, append_assoc, drop-cons}
+use Rattle.std.proofs.Common.{◌≡◌, ◌<◌, ◌≤◌, inl, inr, ℕ, zero, suc, ◌+◌, List, [], ◌∷◌, ◌++◌, length, take, drop, get_or, Option, Some, None, option_map, refl, sym, ap, ◌∙◌, subst, arith, append-nil, append_assoc, drop-cons}
 use Rattle.std.specs.Prelude.{IfSome, flat_map, slice_get}
 use Rattle.std.specs.FinMap.{get}
-use Rattle.std.proofs.lemmas.List.{map_more, take-append-drop, take_all, take_more}
+use Rattle.std.proofs.lemmas.List.{map_more, take-append-drop, take_all}
 use Rattle.host_core.specs.Crashes.{Left, LeavesOnly, MayLeave, MayLeaveInPrint, MayLeaveNow, Image}
 use Rattle.host_core.specs.State.{Files, PrintsPart, State, after_restart, printed, settled}
 use Rattle.conf_store.specs.Changes.{AreLeft, Changes, IsSettled, Settles}
@@ -14,10 +14,10 @@ use Rattle.change_apply.specs.Acknowledgements.{HasAcknowledged, ack, acks}
 use Rattle.change_apply.specs.Change.{Change, conf_at, names, restarted, restarts_at, step_text, steps}
 use Rattle.change_apply.specs.Crashes.{HasSmallSteps, IsLeft}
 use Rattle.change_apply.specs.Ends.{Stops, worked}
-use Rattle.change_apply.specs.Stages.{AreSteps, AtPut, AtStage, AtStep, HasStage, Leads}
+use Rattle.change_apply.specs.Stages.{AreSteps, AtPut, AtStage, AtStep}
 use Rattle.change_apply.specs.declared.errors.ApplyFault.TheVariants.{Disk, Service, Print}
 use Rattle.change_apply.specs.declared.ready.Restart.{Restart}
-use Rattle.change_apply.proofs.Moments.{IsLeftOf, LeavesOf, changes}
+use Rattle.change_apply.proofs.Moments.{LeavesOf, changes}
 use Rattle.change_apply.proofs.StepFiles.{either_others, either_small, either_stands, may_step, one_more}
 
 -- ---- what is told at a stage
@@ -256,7 +256,7 @@ module _ (change : Change) (k : ℕ) (m : Move) (due : IsDue change k m) where
   acknowledged (Some s) p n at e = (
     at.0,
     e ∙ ap (option_map (printed (ack (suc k)))) at.1
-    ∙ (λ i. Some (record s { files = at.0; pending = settled; output = append_assoc s.output (acks k) (ack (suc k)) i; restarts = s.restarts ++ all_restarted i })),
+        ∙ (λ i. Some (record s { files = at.0; pending = settled; output = append_assoc s.output (acks k) (ack (suc k)) i; restarts = s.restarts ++ all_restarted i })),
     at.2,
   )
 

@@ -1,13 +1,11 @@
 -- The stages through which a change goes, each with what the host tells then.
-use Rattle.std.specs.Prelude.{◌≡◌, ◌<◌, ◌≤◌, ◌⊎◌, ℕ, zero, suc, List, [], ◌∷◌, ◌++◌, Option, Some, None, Ok, length, slice_get, take}
+use Rattle.std.specs.Prelude.{◌≡◌, ◌<◌, ◌≤◌, ℕ, zero, suc, List, [], ◌∷◌, ◌++◌, Option, Some, None, Ok, take}
 use Rattle.std.specs.FinMap.{get}
-use Rattle.host_core.specs.State.{Files, State, settled}
+use Rattle.host_core.specs.State.{Files, State}
 use Rattle.conf_store.specs.Changes.{IsSettled}
-use Rattle.conf_store.specs.Files.{config_file, folded_file, last_step, step_name, step_names}
-use Rattle.conf_store.specs.Folds.{IsOther, StandsFor}
-use Rattle.conf_store.specs.Stored.{config_in, stored}
-use Rattle.move_core.specs.declared.moves.Move.{Move}
-use Rattle.change_apply.specs.Acknowledgements.{acks}
+use Rattle.conf_store.specs.Files.{last_step, step_name, step_names}
+use Rattle.conf_store.specs.Folds.{StandsFor}
+use Rattle.conf_store.specs.Stored.{stored}
 use Rattle.change_apply.specs.Change.{Change, conf_at, names, restarted, restarts_at}
 use Rattle.change_apply.specs.Crashes.{HasSmallSteps, KeepsOthers}
 use Rattle.change_apply.specs.Ends.{worked}

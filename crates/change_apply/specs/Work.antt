@@ -12,7 +12,7 @@ use Rattle.move_core.specs.Plans.{conf}
 use Rattle.move_core.specs.declared.moves.Move.{Move}
 use Rattle.move_core.specs.declared.settings.Settings.{Settings}
 use Rattle.change_apply.specs.Acknowledgements.{ack}
-use Rattle.change_apply.specs.Change.{Change, conf_at, goal, restarts_of, step_text, steps}
+use Rattle.change_apply.specs.Change.{Change, goal, restarts_of, step_text, steps}
 use Rattle.change_apply.specs.Stages.{first_steps}
 use Rattle.change_apply.specs.declared.ready.ReadyStep.{ReadyStep}
 use Rattle.change_apply.specs.declared.ready.Work.{Work}

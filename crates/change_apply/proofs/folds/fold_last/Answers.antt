@@ -1,4 +1,3 @@
-use Rattle.change_apply.specs.Work.{change_in}
 use Rattle.change_apply.proofs.LastFold.{all_folded, fold_fails, goal_names, while_folded}
 use Rattle.change_apply.proofs.folds.fold_last.Goals as goal
 

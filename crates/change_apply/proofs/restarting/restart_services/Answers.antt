@@ -1,5 +1,4 @@
-use Rattle.std.proofs.Common.{◌≡◌, ℕ, List, suc, ◌+◌, length, arith, subst, sym, ◌∙◌, ap}
-use Rattle.host_core.specs.State.{after_restart}
+use Rattle.std.proofs.Common.{◌≡◌, List, suc, ◌+◌, length, arith, subst, sym, ◌∙◌, ap}
 use Rattle.change_apply.specs.Change.{restarts_at}
 use Rattle.change_apply.specs.Stages.{AtPut, Leads}
 use Rattle.change_apply.specs.Work.{change_in}

@@ -1,6 +1,6 @@
 use Rattle.change_apply.specs.Ends.{MayRise}
 use Rattle.change_apply.specs.Crashes.{LeavesAt}
-use Rattle.change_apply.specs.Stages.{AtPut, HasStage, Leads}
+use Rattle.change_apply.specs.Stages.{AtPut, Leads}
 use Rattle.change_apply.specs.Work.{change_in}
 use Rattle.change_apply.proofs.restarting.restart_services.Given as goal
 

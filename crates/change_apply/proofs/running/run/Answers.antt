@@ -1,9 +1,8 @@
-use Rattle.std.proofs.Common.{◌≡◌, ℕ, List, length, refl, subst, ◌∙◌, sym, ap}
+use Rattle.std.proofs.Common.{List, length, refl, subst, ◌∙◌, sym, ap}
 use Rattle.std.specs.Prelude.{IfSome}
 use Rattle.conf_store.specs.Folds.{StandsFor}
 use Rattle.change_apply.specs.Ends.{Finishes}
-use Rattle.change_apply.specs.Stages.{AtBeginning, AtStep, HasStage}
-use Rattle.change_apply.specs.Work.{change_in, count}
+use Rattle.change_apply.specs.Work.{change_in}
 use Rattle.change_apply.specs.declared.ready.ReadyStep.{ReadyStep}
 use Rattle.change_apply.proofs.Due.{count_is}
 use Rattle.change_apply.proofs.FoldStages.{at_beginning, left_at_beginning, nothing_to_do}

@@ -1,6 +1,6 @@
 use Rattle.change_apply.specs.Crashes.{LeavesAt}
 use Rattle.change_apply.specs.Ends.{MayRise}
-use Rattle.change_apply.specs.Stages.{AtStep, HasStage, Leads}
+use Rattle.change_apply.specs.Stages.{AtStep, Leads}
 use Rattle.change_apply.specs.Work.{change_in}
 use Rattle.change_apply.proofs.steps.do_steps.Given as goal
 

@@ -1,7 +1,14 @@
-use Rattle.std.proofs.Common.{◌∙◌}
+use Rattle.std.proofs.Common.{suc, ap, ◌∙◌}
+use Rattle.conf_store.specs.Files.{is_step_name}
 use Rattle.change_apply.specs.Work.{change_in}
 use Rattle.change_apply.proofs.Due.{can_be_put, due_here, is_put, isnt_put, while_put}
+use Rattle.change_apply.proofs.StepNames.{named}
 use Rattle.change_apply.proofs.steps.put_next.Goals as goal
+
+pub put_step-requires-clause-named : goal.put_step-requires-clause-named
+put_step-requires-clause-named g c =
+    let s = c.at-step.result.now in
+    ap is_step_name (c.as_str.ensures.text ∙ (c.requires.ready.steps_ready c.args.k s c.at-step.ensures).0.file) ∙ named (suc c.args.k)
 
 pub put_step-requires-clause-next : goal.put_step-requires-clause-next
 put_step-requires-clause-next g c =
