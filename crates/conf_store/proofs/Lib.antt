@@ -1,8 +1,8 @@
 mod Counting
-mod Digits
-mod Entries
+pub mod Digits
+pub mod Entries
 mod Finds
-mod FileMaps
+pub mod FileMaps
 pub mod FileTexts
 mod FoldStages
 mod KeepsShape
@@ -14,7 +14,7 @@ mod Reading
 mod ShapeWalks
 mod Shaping
 mod Stages
-mod Standing
+pub mod Standing
 mod Stepping
 mod StepWalk
 mod StepsTaken

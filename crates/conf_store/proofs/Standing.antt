@@ -54,7 +54,7 @@ same_stored f g folded config steps =
     λ i. or_unfolded (folded i) (or_none NoFile (config i) >>= λ bytes. config_in bytes >>= λ c. steps_alike f g steps last_step 1 c i)
 
 -- the folded file is what is read where it is there
-by_folded : (bytes : List ℕ) (files : Files) → get files folded_file ≡ Some bytes → stored files ≡ config_in bytes
+pub by_folded : (bytes : List ℕ) (files : Files) → get files folded_file ≡ Some bytes → stored files ≡ config_in bytes
 by_folded bytes files e = ap (λ (found : Option (List ℕ)). or_unfolded found (after_all_steps files)) e
 
 pub no_steps : (more n : ℕ) (files : Files) (c : Config) → get files (step_name n) ≡ None → after_steps more n files c ≡ Ok c
@@ -66,7 +66,7 @@ ends_there (Ok c) next ends = ends c
 ends_there (Err why) next ends = refl
 
 -- without a folded file and step files it is the other file
-by_config : (bytes : List ℕ) (files : Files) → get files folded_file ≡ None → get files config_file ≡ Some bytes
+pub by_config : (bytes : List ℕ) (files : Files) → get files folded_file ≡ None → get files config_file ≡ Some bytes
     → get files (step_name 1) ≡ None → stored files ≡ config_in bytes
 by_config bytes files folded config step =
     ap (λ (found : Option (List ℕ)). or_unfolded found (after_all_steps files)) folded

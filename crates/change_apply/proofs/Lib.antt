@@ -1,0 +1,10 @@
+mod Counting
+mod Due
+mod FoldStages
+mod LastFold
+mod Moments
+mod ReadySteps
+mod ReadyWork
+mod StepFiles
+mod StepNames
+mod StepStages

@@ -1,0 +1,38 @@
+-- What a crash leaves while a change goes on, from one call to the next.
+use Rattle.std.proofs.Common.{◌≡◌, ℕ, Option, Some, None, subst}
+use Rattle.std.specs.Prelude.{IfSome}
+use Rattle.host_core.specs.Crashes.{Elapses, Left, LeavesOnly}
+use Rattle.host_core.specs.State.{Files, State}
+use Rattle.host_core.proofs.Runs as runs
+use Rattle.conf_store.specs.Changes.{AreLeft}
+use Rattle.change_apply.specs.Change.{Change}
+use Rattle.change_apply.specs.Crashes.{IsLeft}
+
+module _ {H : Type 0} (moment : H → ℕ) (left_since : H → ℕ → Left → Type 0) (change : Change) where
+  -- a crash between the two leaves what it may, of a beginning that may not be told
+  abbrev pub LeavesOf : Option State → H → H → Type 0
+  LeavesOf o old new = IfSome o (λ s. LeavesOnly moment left_since old new (IsLeft change s))
+
+  -- the same of what is left at one moment
+  abbrev pub IsLeftOf : Option State → Left → Type 0
+  IsLeftOf o left = IfSome o (λ s. IsLeft change s left)
+
+  pub begins : (o : Option State) (old : H) → ((left : Left) → left_since old (moment old) left → IsLeftOf o left) → LeavesOf o old old
+  begins None old here = tt
+  begins (Some s) old here = runs.begins moment left_since old (IsLeft change s) here
+
+  pub goes_on : (o : Option State) (old mid new : H) (these : Left → Type 0) → LeavesOf o old mid
+      → Elapses moment left_since mid new these → ((left : Left) → these left → IsLeftOf o left) → LeavesOf o old new
+  goes_on None old mid new these so_far time here = tt
+  goes_on (Some s) old mid new these so_far time here = runs.goes_on moment left_since old mid new (IsLeft change s) these so_far time here
+
+  pub joins : (o : Option State) (old mid new : H) → LeavesOf o old mid → LeavesOf o mid new → LeavesOf o old new
+  joins None old mid new first second = tt
+  joins (Some s) old mid new first second = runs.joins moment left_since old mid new (IsLeft change s) first second
+
+  -- a call that changes files alone, and what it leaves is left of the change
+  pub changes : (P : Files → Files → Type 0) (s t : State) (old new : H) → ((left : Left) → AreLeft P t left → IsLeft change s left)
+      → (p : Option State) → p ≡ Some t → IfSome p (λ t. LeavesOnly moment left_since old new (AreLeft P t)) → LeavesOf (Some s) old new
+  changes P s t old new gives p told run =
+      runs.weaker moment left_since old new (AreLeft P t) (IsLeft change s) gives
+      (subst (λ o. IfSome o (λ t. LeavesOnly moment left_since old new (AreLeft P t))) told run)

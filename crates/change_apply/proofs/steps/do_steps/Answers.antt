@@ -1,0 +1,36 @@
+use Rattle.std.proofs.Common.{◌≡◌, suc, ◌+◌, arith, subst}
+use Rattle.change_apply.specs.Stages.{AtStep}
+use Rattle.change_apply.specs.Work.{change_in}
+use Rattle.change_apply.proofs.Counting.{rises_on, stays}
+use Rattle.change_apply.proofs.Moments.{begins, joins}
+use Rattle.change_apply.proofs.StepStages.{left_at_step}
+use Rattle.change_apply.proofs.steps.do_steps.Goals as goal
+
+pub loop-k-init : goal.loop-k-init
+loop-k-init g c = record {
+  told = λ began at. at;
+  left = λ began at.
+      begins g.H.Host.moment g.H.Host.left_since (change_in c.args.work.now) began c.args.host.now
+      (λ left since. left_at_step (change_in c.args.work.now) 0 (omega arith) began (g.H.Host.told c.args.host.now) at left (g.met.H.Host.only_now c.args.host.now left since));
+  counts = stays (g.H.Host.counts c.args.host.now);
+  goes = g.met.H.Host.begins c.args.host.now;
+}
+
+pub returns-in_err-do_step-clause-any_moment : goal.returns-in_err-do_step-clause-any_moment
+returns-in_err-do_step-clause-any_moment g c =
+    λ began at.
+    joins g.H.Host.moment g.H.Host.left_since (change_in c.args.work.now) began c.args.host.now c.loop-k.host c.do_step.new.host
+    (c.loop-k.invariant.left began at) (c.do_step.ensures.any_moment began (c.loop-k.invariant.told began at))
+
+pub loop-k-preserved : goal.loop-k-preserved
+loop-k-preserved g c =
+    let one_up : suc c.loop-k.k ≡ c.loop-k.k + 1 = omega arith in
+    record {
+      told = λ began at.
+          subst (λ j. AtStep (change_in c.args.work.now) j began (g.H.Host.told c.do_step.new.host)) one_up (c.in_ok-do_step.ensures.ok began (c.loop-k.invariant.told began at));
+      left = λ began at.
+          joins g.H.Host.moment g.H.Host.left_since (change_in c.args.work.now) began c.args.host.now c.loop-k.host c.do_step.new.host
+          (c.loop-k.invariant.left began at) (c.do_step.ensures.any_moment began (c.loop-k.invariant.told began at));
+      counts = rises_on (g.H.Host.counts c.args.host.now) (g.H.Host.counts c.loop-k.host) (g.H.Host.counts c.do_step.new.host) c.loop-k.invariant.counts c.do_step.ensures.counts;
+      goes = g.met.H.Host.continues c.args.host.now c.loop-k.host c.do_step.new.host c.loop-k.invariant.goes c.do_step.ensures.goes;
+    }

@@ -1,0 +1,55 @@
+-- What a crash at any moment of a change leaves.
+use Rattle.std.specs.Prelude.{◌≡◌, ◌<◌, ◌≤◌, ◌⊎◌, ℕ, suc, List, [], ◌++◌, Option, Some, None, Ok, IfSome, slice_get}
+use Rattle.std.specs.FinMap.{get}
+use Rattle.host_core.specs.Crashes.{Left, LeavesOnly}
+use Rattle.host_core.specs.State.{Files, State}
+use Rattle.conf_store.specs.Files.{config_file, folded_file, step_name}
+use Rattle.conf_store.specs.Folds.{IsOther}
+use Rattle.conf_store.specs.Stored.{config_in, stored}
+use Rattle.move_core.specs.declared.moves.Move.{Move}
+use Rattle.change_apply.specs.Acknowledgements.{HasAcknowledged}
+use Rattle.change_apply.specs.Change.{Change, conf_at, names, restarted, restarts_at, step_text, steps}
+use Rattle.change_apply.specs.declared.ready.Restart.{Restart}
+
+-- the files that a change has nothing to do with are as before
+abbrev pub KeepsOthers : Files → Files → Type 0
+KeepsOthers before after = (name : List ℕ) → IsOther name → get after name ≡ get before name
+
+-- the files stand for the configuration after the first k steps, or after one more
+abbrev pub StandAt : Change → ℕ → Files → Type 0
+StandAt change k files =
+    (stored files ≡ Ok (conf_at change k)) ⊎ (stored files ≡ Ok (conf_at change (suc k)))
+
+-- the one file holds the configuration from before, and each of the first k steps is a file of its own
+pub record HasSmallSteps (change : Change) (k : ℕ) (files : Files) : Type 0 where
+  pub bytes : List ℕ
+  pub config : get files config_file ≡ Some bytes
+  pub holds : config_in bytes ≡ Ok change.stored.config
+  pub steps : (i : ℕ) (m : Move) → i < k → slice_get change.moves i ≡ Some m
+      → get files (step_name (suc i)) ≡ Some (step_text m)
+  pub unfolded : get files folded_file ≡ None
+
+-- what a crash may leave: the last acknowledged configuration or the next one
+pub record IsLeft (change : Change) (before : State) (left : Left) : Type 0 where
+  -- how many steps are acknowledged
+  pub done : ℕ
+  pub within : done ≤ steps change
+  pub output : HasAcknowledged done before.output left.output
+  pub stands : StandAt change done left.files
+  -- the services that were restarted after the next step, and those that weren't
+  pub started : List Restart
+  pub due : List Restart
+  pub next : restarts_at change done ≡ started ++ due
+  pub restarts : left.restarts ≡ before.restarts ++ restarted change done ++ names started
+  -- none of them before the next step is on the disk
+  pub in_order : (started ≡ []) ⊎ (stored left.files ≡ Ok (conf_at change (suc done)))
+  pub others : KeepsOthers before.files left.files
+  pub small : 1 ≤ done → done < steps change → HasSmallSteps change done left.files
+
+-- a crash at any moment since that stage leaves this, of each beginning of the change
+abbrev pub LeavesAt :
+    {H : Type 0} → (H → ℕ) → (H → ℕ → Left → Type 0) → (H → Option State) → Change
+    → (Option State → Option State → Type 0) → H → H → Type 0
+LeavesAt moment left_since told change P old new =
+    (began : Option State) → P began (told old)
+    → IfSome began (λ s. LeavesOnly moment left_since old new (IsLeft change s))
