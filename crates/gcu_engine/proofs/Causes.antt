@@ -1,9 +1,9 @@
 -- The cause of what is answered once a refusal was printed.
-use Rattle.std.proofs.Common.{◌≡◌, ◌≤◌, ◌<◌, inl, inr, ⊎_elim, ℕ, Bool, true, false, List, refl, sym, ap, subst, arith, Option}
+use Rattle.std.proofs.Common.{◌≡◌, ◌≤◌, ◌<◌, inl, inr, ⊎_elim, ℕ, Bool, true, false, List, refl, sym, ap, subst, arith, Option, Result, Ok, Err, IfErr}
 use Rattle.host_core.specs.Counts.{Counts, DiskMayRise, NoneFell, PrintMayRise, Rose, last_count}
 use Rattle.host_core.specs.State.{State}
 use Rattle.gcu_engine.specs.Answers.{HasCause}
-use Rattle.gcu_engine.specs.Commands.{IsTold}
+use Rattle.gcu_engine.specs.Commands.{IsTold, may_have_written, outcome_of}
 use Rattle.gcu_engine.specs.Lines.{last_line}
 use Rattle.gcu_engine.specs.Preparing.{Refuses}
 use Rattle.gcu_engine.specs.Printing.{IsPrinted, IsSaid}
@@ -44,7 +44,13 @@ module _ (old mid new : Counts) (fell : NoneFell old mid) (rises : PrintMayRise 
   said_cause e before after result refuses (inl said) = printed_cause e (last_line e) before after result (later_cause e refuses) said
   said_cause e before after result refuses (inr said) = printed_cause Memory (last_line Memory) before after result tt said
 
-  pub told_cause : (fault : Bool) (e : Outcome) (before after : Option State) (result : Outcome) → Refuses old mid e
+  told_cause : (fault : Bool) (e : Outcome) (before after : Option State) (result : Outcome) → Refuses old mid e
       → IsTold fault e before after mid new result → HasCause old new result
   told_cause true e before after result refuses told = printed_cause e (last_line e) before after result (later_cause e refuses) told
   told_cause false e before after result refuses told = said_cause e before after result refuses told
+
+  -- what was done or refused is answered with its cause
+  pub ended_cause : (done : Result (Unit {0}) Outcome) (before after : Option State) (result : Outcome) → IfErr done (Refuses old mid)
+      → IsTold (may_have_written (outcome_of done)) (outcome_of done) before after mid new result → HasCause old new result
+  ended_cause (Ok u) before after result refuses told = printed_cause Done (last_line Done) before after result tt told
+  ended_cause (Err e) before after result refuses told = told_cause (may_have_written e) e before after result refuses told

@@ -40,23 +40,23 @@ models_read (Some s) texts r h told always =
 
 -- ---- the check
 
-abbrev check_of : Unit {0} → request.Request
-check_of u = request.check
+abbrev check_of : {X : Type 0} → X → request.Request
+check_of x = request.check
 
 -- there are no models
-pub no_models : (o : Option State) (e : Outcome) → Finds {X = ModelSet} o self (Err e) models_asked → Finds o check_of (Err e) check_asked
+pub no_models : (o : Option State) (e : Outcome) → Finds {X = ModelSet} o self (Err e) models_asked → Finds {X = Config} o check_of (Err e) check_asked
 no_models None e h = tt
 no_models (Some s) e h = first_refused self check_of e (models_asked s) _ h
 
 -- the folder stands for no configuration
 pub no_config : (o : Option State) (models : ModelSet) (e : Outcome) → Finds o self (Ok models) models_asked
-    → Finds {X = Config} o self (Err e) stored_asked → Finds o check_of (Err e) check_asked
+    → Finds {X = Config} o self (Err e) stored_asked → Finds {X = Config} o check_of (Err e) check_asked
 no_config None models e h f = tt
 no_config (Some s) models e h f =
     then_found self check_of models (Err e) (models_asked s) _ h (first_refused self check_of e (stored_asked s) _ f)
 
 -- what is said of the configuration
-pub judged : (o : Option State) (models : ModelSet) (config : Config) (r : Result (Unit {0}) Outcome) → Finds o self (Ok models) models_asked
+pub judged : (o : Option State) (models : ModelSet) (config : Config) (r : Result Config Outcome) → Finds o self (Ok models) models_asked
     → Finds o self (Ok config) stored_asked → IsRightBy check_of r (IsJudged models config) → IfErr r RefusesAlways
     → Finds o check_of r check_asked
 judged None models config r h f told always = tt
@@ -67,14 +67,14 @@ judged (Some s) models config r h f told always =
 -- ---- what is said
 
 -- what is printed of a valid configuration is what is asked for
-pub check_says : (o : Option State) (u : Unit {0}) → Finds o check_of (Ok u) check_asked
+pub check_says : (o : Option State) (config : Config) → Finds o check_of (Ok config) check_asked
     → IfSome o (λ s. Says (check_asked s) s s Done (last_line Done))
-check_says None u h = tt
-check_says (Some s) u h = (request.check, h.gives, refl, refl)
+check_says None config h = tt
+check_says (Some s) config h = (request.check, h.gives, refl, refl)
 
 -- what is refused of it is refused of the question
 pub check_refused : (o : Option State) (e : Outcome) (old new : Counts) → Refuses old new e
-    → Finds {X = Unit {0}} o check_of (Err e) check_asked → IfSome o (λ s. Says (check_asked s) s s e (last_line e))
+    → Finds {X = Config} o check_of (Err e) check_asked → IfSome o (λ s. Says (check_asked s) s s e (last_line e))
 check_refused None e old new h f = tt
 check_refused (Some s) e old new h f = refused_says (check_asked s) s e old new h f.stands f.gives
 

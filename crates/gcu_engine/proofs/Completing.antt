@@ -17,6 +17,7 @@ finishes : (r : Request) → Finishes r Done
 finishes (request.preview c) = refl
 finishes (request.list_checkpoints names) = refl
 finishes request.check = refl
+finishes (request.save_checkpoint name config) = refl
 finishes (request.delete_checkpoint name) = refl
 
 module _ (asking : Asking Request) (s now : State) (old new : Counts) (none : NoneRose old new) where

@@ -27,6 +27,8 @@ doing_on : (r : Request) (s : State) (left : Left) (base part : List ℕ) → Le
     → left.output ≡ base ++ part → LeftDoing r s left
 doing_on (request.delete_checkpoint name) s left base part h e =
     record { files = h.files; part = h.part ++ part; output = e ∙ ap (λ (o : List ℕ). o ++ part) h.output ∙ append_assoc s.output h.part part; restarts = h.restarts }
+doing_on (request.save_checkpoint name config) s left base part h e =
+    record { files = h.files; part = h.part ++ part; output = e ∙ ap (λ (o : List ℕ). o ++ part) h.output ∙ append_assoc s.output h.part part; restarts = h.restarts }
 doing_on other s left base part never e = absurd never
 
 -- with more output it may be left too

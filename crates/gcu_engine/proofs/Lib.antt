@@ -8,3 +8,5 @@ mod Causes
 mod Completing
 mod Deletions
 mod Listing
+mod Savings
+mod Writing

@@ -6,11 +6,11 @@ use Rattle.host_core.specs.Crashes.{Left, MayLeaveNow}
 use Rattle.host_core.specs.State.{Files, State, printed, settled, with_pending}
 use Rattle.conf_doc.specs.Texts.{file_text}
 use Rattle.conf_store.specs.Changes.{Leads}
-use Rattle.checkpoints.specs.Changes.{IsDeleted, IsDeletedOrNot}
+use Rattle.checkpoints.specs.Changes.{IsDeleted, IsDeletedOrNot, IsSaved, IsSavedOrNot}
 use Rattle.gcu_engine.specs.Asked.{asked}
 use Rattle.gcu_engine.specs.Asking.{Asking, an_input, a_file, a_settling}
 use Rattle.gcu_engine.specs.Lines.{last_line, lines}
-use Rattle.gcu_engine.specs.Request.{Request, delete_checkpoint, list_checkpoints, preview, check}
+use Rattle.gcu_engine.specs.Request.{Request, delete_checkpoint, list_checkpoints, preview, check, save_checkpoint}
 use Rattle.gcu_engine.specs.declared.outcomes.Outcome.{Outcome}
 use Rattle.gcu_engine.specs.declared.outcomes.Outcome.TheVariants.{Done, Memory, Usage, InputFault, DiskFault, PrintFault}
 
@@ -33,12 +33,17 @@ abbrev pub LeavesDone : Request → State → State → Type 0
 LeavesDone (delete_checkpoint name) before now =
     (files : Files) × (now ≡ record before { files = files; pending = settled })
     × IsDeleted name before.files files
+LeavesDone (save_checkpoint name config) before now =
+    (files : Files) × (now ≡ record before { files = files; pending = settled })
+    × IsSaved name config before.files files
 LeavesDone other before now = now ≡ before
 
 -- what a request leaves that a fault of the disk stops once it has begun to write
 abbrev pub LeavesStopped : Request → State → State → Type 0
 LeavesStopped (delete_checkpoint name) before now =
     Leads (IsDeletedOrNot name) (with_pending settled before) now
+LeavesStopped (save_checkpoint name config) before now =
+    Leads (IsSavedOrNot name config) (with_pending settled before) now
 LeavesStopped other before now = ⊥
 
 -- what a fault of the disk leaves: nothing is done, or a request that is right is stopped
@@ -54,6 +59,7 @@ abbrev pub done_output : Request → List ℕ
 done_output (preview c) = file_text c ++ last_line Done
 done_output (list_checkpoints names) = lines names ++ last_line Done
 done_output check = last_line Done
+done_output (save_checkpoint name config) = last_line Done
 done_output (delete_checkpoint name) = last_line Done
 
 -- what is there before the output with that answer, and the whole output; a fault is answered only where a
@@ -105,17 +111,19 @@ abbrev pub LeftWithOutput : Option State → Left → Type 0
 LeftWithOutput before left =
     (part : List ℕ) × MayLeaveNow (option_map (printed part) before) left
 
--- what a crash leaves while a checkpoint is deleted: its file is there or not, and all else is as before,
--- with a front of some output
-pub record LeftDeleting (name : List ℕ) (before : State) (left : Left) : Type 0 where
-  pub files : IsDeletedOrNot name before.files left.files
+-- what a crash leaves while the files are changed like this: all else is as before, with a front of some
+-- output
+pub record LeftChanging (P : Files → Files → Type 0) (before : State) (left : Left) : Type 0 where
+  pub files : P before.files left.files
   pub part : List ℕ
   pub output : left.output ≡ before.output ++ part
   pub restarts : left.restarts ≡ before.restarts
 
 -- what a crash leaves while a request writes
 abbrev pub LeftDoing : Request → State → Left → Type 0
-LeftDoing (delete_checkpoint name) before left = LeftDeleting name before left
+LeftDoing (delete_checkpoint name) before left = LeftChanging (IsDeletedOrNot name) before left
+LeftDoing (save_checkpoint name config) before left =
+    LeftChanging (IsSavedOrNot name config) before left
 LeftDoing other before left = ⊥
 
 -- what a crash leaves: what was there, or what a request leaves that is right and writes
@@ -143,6 +151,7 @@ abbrev pub Finishes : Request → Outcome → Type 0
 Finishes (preview c) result = result ≡ Done
 Finishes (list_checkpoints names) result = result ≡ Done
 Finishes check result = result ≡ Done
+Finishes (save_checkpoint name config) result = result ≡ Done
 Finishes (delete_checkpoint name) result = result ≡ Done
 
 -- the answers where nothing failed: for want of memory, the refusal, or what the request says

@@ -23,12 +23,12 @@ use Rattle.checkpoints.specs.Names.{is_good_name}
 use Rattle.checkpoints.specs.Points.{Held, points}
 use Rattle.gcu_engine.specs.Asking.{Asking, an_input, a_file, asks, follows, settles_first, ◌>>>◌}
 use Rattle.gcu_engine.specs.Checking.{check_asked}
-use Rattle.gcu_engine.specs.Form.{Form, check, delete_checkpoint, form, list_checkpoints, preview}
+use Rattle.gcu_engine.specs.Form.{Form, check, delete_checkpoint, form, list_checkpoints, preview, save_checkpoint}
 use Rattle.gcu_engine.specs.Request as request
 use Rattle.gcu_engine.specs.Request.{Request}
 use Rattle.gcu_engine.specs.StoredAsked.{stored_asked}
 use Rattle.gcu_engine.specs.declared.outcomes.Outcome.{Outcome}
-use Rattle.gcu_engine.specs.declared.outcomes.Outcome.TheVariants.{Memory, Usage, NoInput, TooBig, BadJson, BadPatch, PatchFailed, TargetShape, NoCheckpoint, BadName}
+use Rattle.gcu_engine.specs.declared.outcomes.Outcome.TheVariants.{Memory, Usage, NoInput, TooBig, BadJson, BadPatch, PatchFailed, TargetShape, NoCheckpoint, CheckpointExists, BadName}
 use Rattle.gcu_engine.specs.declared.outcomes.PointWhy.TheVariants as why
 
 -- ---- the patch
@@ -92,6 +92,16 @@ abbrev pub there_asked : List ℕ → State → Asking Request
 there_asked name s =
     asks a_file (map_ok request.delete_checkpoint (there_answer name (get (points s.files) name)))
 
+-- a checkpoint that is there is refused, whatever it holds
+abbrev pub absent_answer : List ℕ → Config → Option Held → Result Request Outcome
+absent_answer name config None = Ok (request.save_checkpoint name config)
+absent_answer name config (Some held) = Err (CheckpointExists name)
+
+-- a configuration is to be saved as the checkpoint of a name
+abbrev pub absent_asked : List ℕ → Config → State → Asking Request
+absent_asked name config s =
+    asks a_file (absent_answer name config (get (points s.files) name))
+
 -- ---- the commands
 
 -- the configuration after a patch; the stored one is read before the patch
@@ -109,6 +119,15 @@ preview_asked path s = target_asked path s >>> λ c. follows (Ok (request.previe
 abbrev pub list_asked : State → Asking Request
 list_asked s = asks a_file (Ok (request.list_checkpoints (keys (points s.files))))
 
+-- `checkpoint NAME`: the name is looked at before the folder, and the stored configuration is to be valid
+abbrev pub save_asked : List ℕ → State → Asking Request
+save_asked word s =
+    follows (name_answer word) >>> λ name.
+    settles_first >>> λ _.
+    check_asked s >>> λ _.
+    stored_asked s >>> λ start.
+    absent_asked name start s
+
 -- `delete-checkpoint NAME`: the name is looked at before the folder
 abbrev pub delete_asked : List ℕ → State → Asking Request
 delete_asked word s =
@@ -122,6 +141,7 @@ form_asked None s = follows (Err Usage)
 form_asked (Some (preview path)) s = preview_asked path s
 form_asked (Some check) s = check_asked s
 form_asked (Some list_checkpoints) s = list_asked s
+form_asked (Some (save_checkpoint name)) s = save_asked name s
 form_asked (Some (delete_checkpoint name)) s = delete_asked name s
 
 -- what the words ask of a host in this state

@@ -7,7 +7,7 @@ use Rattle.gcu_engine.specs.declared.outcomes.Outcome.{Outcome}
 pub data Source : Type 0 where
   -- an input of the command
   an_input : Source
-  -- a file of the folder, or the names of the files
+  -- the disk: a file of the folder, the names of the files, or nothing where it settles
   a_file : Source
   -- nothing: it settles what is pending
   a_settling : Source
@@ -21,9 +21,10 @@ pub record Asking (X : Type 0) : Type 1 where
 abbrev pub asks : {X : Type 0} → Source → Result X Outcome → Asking X
 asks source answer = record { Reads = λ s. source ≡ s; Gives = λ r. answer ≡ r }
 
--- what is pending is settled, which a writing command does before it reads a file
+-- what is pending is settled by a call of the disk, which a writing command makes before it reads a file
 abbrev pub settles_first : Asking (Unit {0})
-settles_first = asks a_settling (Ok tt)
+settles_first =
+    record { Reads = λ s. (a_settling ≡ s) ⊎ (a_file ≡ s); Gives = λ r. Ok tt ≡ r }
 
 -- what follows with no call, as a relation tells it
 abbrev pub follows_by : {X : Type 0} → (Result X Outcome → Type 0) → Asking X

@@ -1,15 +1,14 @@
 -- What a command leaves and answers that asks a stated question, for commands in functions of their own.
-use Rattle.std.specs.Prelude.{◌≡◌, List, ℕ, Bool, true, false, Option, Some, None, Result, Ok, Err, IfSome, ⊤}
+use Rattle.std.specs.Prelude.{◌≡◌, Bool, true, false, Option, Some, None, Result, Ok, Err, IfSome, ⊤}
 use Rattle.host_core.specs.Counts.{Counts, NoneRose}
 use Rattle.host_core.specs.Crashes.{Left}
-use Rattle.host_core.specs.State.{State}
+use Rattle.host_core.specs.State.{Files, State}
 use Rattle.conf_store.specs.Changes.{Changes}
-use Rattle.checkpoints.specs.Changes.{IsDeletedOrNot}
-use Rattle.gcu_engine.specs.Answers.{Complete, IsStopped, IsUntouched, Leaves, LeavesDone, LeftOf}
+use Rattle.gcu_engine.specs.Answers.{Complete, Leaves, LeftOf, Says}
 use Rattle.gcu_engine.specs.Asking.{Asking}
 use Rattle.gcu_engine.specs.Lines.{last_line}
 use Rattle.gcu_engine.specs.Printing.{IsPrinted, IsSaid}
-use Rattle.gcu_engine.specs.Request.{Request, delete_checkpoint}
+use Rattle.gcu_engine.specs.Request.{Request}
 use Rattle.gcu_engine.specs.declared.outcomes.Outcome.{Outcome}
 use Rattle.gcu_engine.specs.declared.outcomes.Outcome.TheVariants.{Done, DiskFault}
 
@@ -36,17 +35,28 @@ abbrev pub TellsOn : Option State → Option State → Type 0
 TellsOn None after = ⊤
 TellsOn (Some before) after = (now : State) × (after ≡ Some now)
 
--- ---- a checkpoint that is deleted
+-- ---- a command that writes
+
+-- a refusal, and where it is a fault of the disk it comes after no acknowledgement
+abbrev pub IsFirst : Outcome → Type 0
+IsFirst Done = ⊥
+IsFirst (DiskFault step) = step ≡ 0
+IsFirst other = ⊤
+
+-- the outcome of what was done or refused
+abbrev pub outcome_of : Result (Unit {0}) Outcome → Outcome
+outcome_of (Ok done) = Done
+outcome_of (Err e) = e
 
 -- a fault of the disk
 abbrev pub is_disk_fault : Outcome → Bool
 is_disk_fault (DiskFault step) = true
 is_disk_fault other = false
 
--- a fault of the disk comes after no acknowledgement
-abbrev pub IsFirst : Outcome → Type 0
-IsFirst (DiskFault step) = step ≡ 0
-IsFirst other = ⊤
+-- an answer that something may have been written before, so that its line asks for no memory
+abbrev pub may_have_written : Outcome → Bool
+may_have_written Done = true
+may_have_written other = is_disk_fault other
 
 -- the answer that is printed; for want of memory another one may be, unless none is asked for
 abbrev pub IsTold : Bool → Outcome
@@ -54,25 +64,15 @@ abbrev pub IsTold : Bool → Outcome
 IsTold true answer = IsPrinted answer (last_line answer)
 IsTold false answer = IsSaid answer (last_line answer)
 
--- the outcome of what was done or refused
-abbrev pub outcome_of : Result (Unit {0}) Outcome → Outcome
-outcome_of (Ok done) = Done
-outcome_of (Err e) = e
+-- after a fault of the disk the files are changed like this, and after another refusal nothing is changed
+abbrev pub LeavesRefused : (Files → Files → Type 0)
+    → Option State → Option State → Outcome → Type 0
+LeavesRefused P old new (DiskFault step) = Changes P old new
+LeavesRefused P old new other = new ≡ old
 
--- after a fault of the disk the checkpoint is there or not, and after another refusal nothing is changed
-abbrev pub LeavesRefused : List ℕ → Option State → Option State → Outcome → Type 0
-LeavesRefused name old new (DiskFault step) = Changes (IsDeletedOrNot name) old new
-LeavesRefused name old new other = new ≡ old
-
--- what is there before the output
-abbrev pub RemovesAs : Asking Request → List ℕ → State → State → Outcome → Type 0
-RemovesAs asking name before now Done = LeavesDone (delete_checkpoint name) before now
-RemovesAs asking name before now (DiskFault step) = IsStopped asking before now
-RemovesAs asking name before now other = IsUntouched asking before now
-
--- the same of a host that may not tell its state
-abbrev pub Removes : (State → Asking Request)
-    → List ℕ → Option State → Option State → Outcome → Type 0
-Removes asking name None after out = after ≡ None
-Removes asking name (Some before) after out =
-    (now : State) × (after ≡ Some now) × RemovesAs (asking before) name before now out
+-- what is there once nothing but the last line of an answer is left to be printed
+abbrev pub IsReady : (State → Asking Request)
+    → Option State → Option State → Outcome → Type 0
+IsReady asking None after out = after ≡ None
+IsReady asking (Some before) after out =
+    (now : State) × (after ≡ Some now) × Says (asking before) before now out (last_line out)

@@ -10,6 +10,8 @@ pub data Form : Type 0 where
   check : Form
   list_checkpoints : Form
   -- with the name of the checkpoint
+  save_checkpoint : List ℕ → Form
+  -- with the name of the checkpoint
   delete_checkpoint : List ℕ → Form
 
 -- options begin with two dashes, and any other word is positional
@@ -30,6 +32,8 @@ form_of_one command =
 abbrev pub form_of_two : List ℕ → List ℕ → Option Form
 form_of_two command word =
     if is_word command (codes "preview") && is_positional word then Some (preview word)
+    else if is_word command (codes "checkpoint") && is_positional word
+    then Some (save_checkpoint word)
     else if is_word command (codes "delete-checkpoint") && is_positional word
     then Some (delete_checkpoint word)
     else None

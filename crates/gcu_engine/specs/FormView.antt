@@ -2,7 +2,7 @@
 use Rattle.std.specs.Prelude.{Option, Some, None}
 use Rattle.gcu_engine.specs.Form as words
 use Rattle.gcu_engine.specs.declared.form.Form.{Form}
-use Rattle.gcu_engine.specs.declared.form.Form.TheVariants.{Unknown, Preview, Check, ListCheckpoints, DeleteCheckpoint}
+use Rattle.gcu_engine.specs.declared.form.Form.TheVariants.{Unknown, Preview, Check, ListCheckpoints, SaveCheckpoint, DeleteCheckpoint}
 
 -- the command that it is, or None for words that are no command
 abbrev pub form_view : Form → Option words.Form
@@ -10,4 +10,5 @@ form_view Unknown = None
 form_view (Preview patch) = Some (words.preview patch.now)
 form_view Check = Some words.check
 form_view ListCheckpoints = Some words.list_checkpoints
+form_view (SaveCheckpoint name) = Some (words.save_checkpoint name.now)
 form_view (DeleteCheckpoint name) = Some (words.delete_checkpoint name.now)

@@ -13,7 +13,7 @@ use Rattle.conf_check.specs.declared.violations.Rule.TheVariants as rules
 use Rattle.yang_text.specs.declared.errors.ModelWhy.{ModelWhy}
 use Rattle.yang_text.specs.declared.errors.ModelWhy.TheVariants as models
 use Rattle.gcu_engine.specs.declared.outcomes.Outcome.{Outcome}
-use Rattle.gcu_engine.specs.declared.outcomes.Outcome.TheVariants.{Done, Memory, Usage, InputFault, DiskFault, PrintFault, NoInput, TooBig, BadJson, BadModels, BadPatch, PatchFailed, TargetShape, CurrentInvalid, NoCheckpoint, BadName, BadStored}
+use Rattle.gcu_engine.specs.declared.outcomes.Outcome.TheVariants.{Done, Memory, Usage, InputFault, DiskFault, PrintFault, NoInput, TooBig, BadJson, BadModels, BadPatch, PatchFailed, TargetShape, CurrentInvalid, NoCheckpoint, CheckpointExists, BadName, BadStored}
 use Rattle.gcu_engine.specs.declared.outcomes.PointWhy.{PointWhy}
 use Rattle.gcu_engine.specs.declared.outcomes.PointWhy.TheVariants as point
 
@@ -33,6 +33,7 @@ number (BadPatch index why) = 13
 number (PatchFailed index why) = 14
 number (TargetShape place) = 15
 number (NoCheckpoint name why) = 22
+number (CheckpointExists name) = 23
 number (BadName name) = 24
 number (CurrentInvalid place rule) = 16
 number (BadStored why) = 25
@@ -130,6 +131,7 @@ said (BadPatch index why) = codes "bad patch " ++ decimal index ++ space ++ patc
 said (PatchFailed index why) = codes "patch failed " ++ decimal index ++ space ++ fail_why why
 said (TargetShape place) = codes "target shape " ++ quoted place
 said (NoCheckpoint name why) = codes "no checkpoint " ++ quoted name ++ space ++ point_why why
+said (CheckpointExists name) = codes "checkpoint exists " ++ quoted name
 said (BadName name) = codes "bad name " ++ quoted name
 said (CurrentInvalid place rule) =
     codes "current invalid " ++ quoted place ++ space ++ rule_name rule

@@ -10,5 +10,7 @@ pub data Request : Type 0 where
   check : Request
   -- print these names of checkpoints
   list_checkpoints : List (List ℕ) → Request
+  -- save this configuration as the checkpoint of this name
+  save_checkpoint : List ℕ → Config → Request
   -- delete the checkpoint of this name
   delete_checkpoint : List ℕ → Request

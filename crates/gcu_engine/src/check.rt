@@ -1,5 +1,5 @@
 //! `gcu check`: whether the stored configuration is valid by its models.
-ghost use Rattle.std.specs.Prelude.{◌≡◌, ◌≤◌, IfErr};
+ghost use Rattle.std.specs.Prelude.{◌≡◌, ◌≤◌, IfErr, IfOk, Ok};
 ghost use Rattle.host_core.specs.Counts.{NoneFell};
 ghost use Rattle.host_core.specs.Crashes.{Elapses, LeavesOnly, MayLeaveNow};
 ghost use Rattle.host_core.specs.Names.{longest_scoped_name};
@@ -10,6 +10,7 @@ ghost use Rattle.gcu_engine.specs.Checking.{IsJudged, check_asked};
 ghost use Rattle.gcu_engine.specs.Commands.{AnswersTo, CompleteTo, LeftTo};
 ghost use Rattle.gcu_engine.specs.Preparing.{FailsIn, Finds, IsRightBy, Refuses, RefusesAlways, refusal};
 ghost use Rattle.gcu_engine.specs.Request.{check as check_of};
+ghost use Rattle.gcu_engine.specs.StoredAsked.{stored_asked};
 ghost use Rattle.gcu_engine.specs.declared.outcomes.Outcome.TheVariants.{Usage as usage};
 
 use crate::Outcome;
@@ -38,15 +39,16 @@ pub(crate) fn check<H: Host>(alloc: Global, host: &mut H) -> Outcome
         (H.told host.old) (H.counts host.old) (H.counts host.new) result }
 {
     match judge_stored(alloc, host) {
-        Ok(()) => say(alloc, Outcome::Done, host),
+        Ok(_) => say(alloc, Outcome::Done, host),
         Err(outcome) => say(alloc, outcome, host),
     }
 }
 
-/// Ok where the stored configuration is valid.
-fn judge_stored<H: Host>(alloc: Global, host: &mut H) -> Result<(), Outcome>
+/// The stored configuration, where it is valid.
+pub(crate) fn judge_stored<H: Host>(alloc: Global, host: &mut H) -> Result<Config, Outcome>
     requires { longest_scoped_name ≤ H.longest_name }
     ensures answer { Finds (H.told host.old) (λ _. check_of) result check_asked }
+    ensures stored { IfOk result (λ c. Finds (H.told host.old) (λ _. c) (Ok c) stored_asked) }
     ensures told { H.told host.new ≡ H.told host.old }
     ensures counts { NoneFell (H.counts host.old) (H.counts host.new) }
     ensures cause { IfErr result (Refuses (H.counts host.old) (H.counts host.new)) }
@@ -55,7 +57,8 @@ fn judge_stored<H: Host>(alloc: Global, host: &mut H) -> Result<(), Outcome>
 {
     let models = input_models(alloc, host)?;
     let config = read_config(alloc, host)?;
-    judge(alloc, &models, &config)
+    judge(alloc, &models, &config)?;
+    Ok(config)
 }
 
 /// Ok where a configuration is valid.

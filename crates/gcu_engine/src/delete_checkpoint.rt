@@ -1,22 +1,22 @@
 //! `gcu delete-checkpoint NAME`: one checkpoint less.
 ghost use Rattle.std.specs.Prelude.{◌≡◌, ◌≤◌, true, IfErr, IfSome, None, OnOk};
 ghost use Rattle.std.specs.FinMap.{get};
-ghost use Rattle.host_core.specs.Counts.{DiskMayRise, NoneFell, PrintMayRise};
-ghost use Rattle.host_core.specs.Crashes.{Elapses, LeavesOnly};
+ghost use Rattle.host_core.specs.Counts.{DiskMayRise, NoneFell};
+ghost use Rattle.host_core.specs.Crashes.{LeavesOnly};
 ghost use Rattle.host_core.specs.Names.{longest_scoped_name};
 ghost use Rattle.conf_store.specs.Changes.{AreLeft, IsSettled, Settles};
 ghost use Rattle.conf_store.specs.Reads.{OnlyReads};
 ghost use Rattle.checkpoints.specs.Changes.{IsDeleted, IsDeletedOrNot};
 ghost use Rattle.checkpoints.specs.Names.{is_good_name as is_name};
 ghost use Rattle.checkpoints.specs.Points.{points};
-ghost use Rattle.gcu_engine.specs.Answers.{HasCause, LeftWithOutput};
+ghost use Rattle.gcu_engine.specs.Answers.{HasCause};
 ghost use Rattle.gcu_engine.specs.Asked.{delete_asked, there_asked};
-ghost use Rattle.gcu_engine.specs.Commands.{AnswersTo, CompleteTo, IsFirst, IsTold, LeavesRefused, LeftTo, Removes, is_disk_fault as is_fault, outcome_of};
+ghost use Rattle.gcu_engine.specs.Commands.{AnswersTo, CompleteTo, IsReady, LeavesRefused, LeftTo, outcome_of};
 ghost use Rattle.gcu_engine.specs.Preparing.{Finds, Refuses};
 ghost use Rattle.gcu_engine.specs.Request.{delete_checkpoint as deletion_of};
 ghost use Rattle.gcu_engine.specs.declared.outcomes.Outcome.TheVariants.{Usage as usage};
 
-use crate::printing::{print, say};
+use crate::printing::tell;
 use crate::{Outcome, PointWhy};
 use checkpoints::{PointError, delete, is_good_name};
 use host_core::{Host, Txt};
@@ -36,44 +36,14 @@ pub(crate) fn delete_checkpoint<H: Host>(alloc: Global, name: &Txt, host: &mut H
     ensures complete { CompleteTo (delete_asked name.now)
         (H.told host.old) (H.counts host.old) (H.counts host.new) result }
 {
-    match remove_checkpoint(alloc, name, host) {
-        Ok(()) => print(Outcome::Done, b"done\n", host),
-        Err(outcome) => tell(alloc, outcome, host),
-    }
-}
-
-/// Prints the last line of a refusal. That of a disk fault asks for no memory, as something may be deleted.
-fn tell<H: Host>(alloc: Global, outcome: Outcome, host: &mut H) -> Outcome
-    requires { IsFirst outcome }
-    ensures told { IsTold (is_fault outcome) outcome
-        (H.told host.old) (H.told host.new) (H.counts host.old) (H.counts host.new) result }
-    ensures counts { PrintMayRise (H.counts host.old) (H.counts host.new) }
-    ensures time { Elapses H.moment H.left_since host.old host.new
-        (LeftWithOutput (H.told host.old)) }
-    ensures goes { H.goes_on host.old host.new }
-{
-    if is_disk_fault(&outcome) {
-        let fault = Outcome::DiskFault { step: 0 };
-        return print(fault, b"refused 4 disk fault after 0\n", host);
-    }
-    say(alloc, outcome, host)
-}
-
-fn is_disk_fault(outcome: &Outcome) -> bool
-    ensures { result ≡ is_fault outcome.now }
-{
-    match outcome {
-        Outcome::DiskFault { .. } => true,
-        _ => false,
-    }
+    let done = remove_checkpoint(alloc, name, host);
+    tell(alloc, done, host)
 }
 
 /// Settles what is pending, and deletes the checkpoint.
 fn remove_checkpoint<H: Host>(alloc: Global, name: &Txt, host: &mut H) -> Result<(), Outcome>
     requires { longest_scoped_name ≤ H.longest_name }
-    ensures answer { Finds (H.told host.old) (λ _. deletion_of name.now) result
-        (delete_asked name.now) }
-    ensures left { Removes (delete_asked name.now) name.now
+    ensures left { IsReady (delete_asked name.now)
         (H.told host.old) (H.told host.new) (outcome_of result) }
     ensures counts { DiskMayRise (H.counts host.old) (H.counts host.new) }
     ensures cause { IfErr result (Refuses (H.counts host.old) (H.counts host.new)) }
@@ -99,7 +69,8 @@ fn delete_settled<H: Host>(alloc: Global, name: &Txt, host: &mut H) -> Result<()
     ensures answer { Finds (H.told host.old) (λ _. deletion_of name.now) result
         (there_asked name.now) }
     ensures ok { OnOk result (Settles (IsDeleted name.now) (H.told host.old) (H.told host.new)) }
-    ensures err { IfErr result (LeavesRefused name.now (H.told host.old) (H.told host.new)) }
+    ensures err { IfErr result
+        (LeavesRefused (IsDeletedOrNot name.now) (H.told host.old) (H.told host.new)) }
     ensures only_reads { IfSome (H.told host.old) (λ s. get (points s.files) name.now ≡ None
         → OnlyReads H.told H.counts H.moment H.left_since H.goes_on host.old host.new) }
     ensures any_moment { IfSome (H.told host.old)

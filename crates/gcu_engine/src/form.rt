@@ -15,6 +15,8 @@ pub(crate) enum Form<'a> {
     Check,
     /// Prints the names of all checkpoints.
     ListCheckpoints,
+    /// Saves the stored configuration as the checkpoint of this name.
+    SaveCheckpoint { name: &'a Txt },
     /// Deletes the checkpoint of this name.
     DeleteCheckpoint { name: &'a Txt },
 }
@@ -50,6 +52,9 @@ fn form_of_two<'a>(command: &'a Txt, word: &'a Txt) -> Form<'a>
     let command = command.as_str();
     if command == "preview" && is_positional(word) {
         return Form::Preview { patch: word };
+    }
+    if command == "checkpoint" && is_positional(word) {
+        return Form::SaveCheckpoint { name: word };
     }
     if command == "delete-checkpoint" && is_positional(word) {
         return Form::DeleteCheckpoint { name: word };

@@ -13,6 +13,7 @@ mod outcomes;
 mod preview;
 mod printing;
 mod run_command;
+mod save_checkpoint;
 mod stored;
 mod tree_text;
 

@@ -82,6 +82,10 @@ fn said(alloc: Global, outcome: &Outcome) -> Result<String, AllocError>
             let why = point_why_name(*why);
             no_checkpoint(alloc, name.as_str(), why)
         }
+        Outcome::CheckpointExists { name } => {
+            let name = quoted(alloc, name.as_str())?;
+            format!(in alloc; "checkpoint exists {name}")
+        }
         Outcome::BadName { name } => {
             let name = quoted(alloc, name.as_str())?;
             format!(in alloc; "bad name {name}")

@@ -48,6 +48,8 @@ pub enum Outcome {
     TargetShape { place: Txt },
     /// There is no such checkpoint, or it holds no configuration.
     NoCheckpoint { name: Txt, why: PointWhy },
+    /// There is a checkpoint of that name.
+    CheckpointExists { name: Txt },
     /// A name of a checkpoint has 1 to 64 ASCII letters, digits, `_` and `-`.
     BadName { name: Txt },
     /// The stored configuration breaks this rule at this place, an RFC 6901 pointer.
@@ -76,6 +78,7 @@ impl Outcome {
             Outcome::PatchFailed { .. } => 14,
             Outcome::TargetShape { .. } => 15,
             Outcome::NoCheckpoint { .. } => 22,
+            Outcome::CheckpointExists { .. } => 23,
             Outcome::BadName { .. } => 24,
             Outcome::CurrentInvalid { .. } => 16,
             Outcome::BadStored { .. } => 25,

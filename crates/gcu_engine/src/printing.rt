@@ -1,9 +1,10 @@
 //! How an answer is printed.
-ghost use Rattle.std.specs.Prelude.{◌≡◌, ◌++◌, IfOk};
+ghost use Rattle.std.specs.Prelude.{◌≡◌, ◌++◌, IfErr, IfOk};
 ghost use Rattle.host_core.specs.Counts.{PrintMayRise};
 ghost use Rattle.host_core.specs.Crashes.{Elapses};
 ghost use Rattle.conf_doc.specs.Trees.{document};
 ghost use Rattle.gcu_engine.specs.Answers.{LeftWithOutput};
+ghost use Rattle.gcu_engine.specs.Commands.{IsFirst, IsTold, is_disk_fault as is_fault, may_have_written, outcome_of};
 ghost use Rattle.gcu_engine.specs.Lines.{last_line};
 ghost use Rattle.gcu_engine.specs.Printing.{IsPrinted, IsSaid, text_in_lines};
 ghost use Rattle.gcu_engine.specs.declared.outcomes.Outcome.TheVariants.{Done as done, Memory as no_memory};
@@ -27,6 +28,36 @@ pub(crate) fn say<H: Host>(alloc: Global, outcome: Outcome, host: &mut H) -> Out
     match line(alloc, &outcome) {
         Ok(text) => print(outcome, text.as_bytes(), host),
         Err(_) => say_memory(host),
+    }
+}
+
+/// Prints the last line of a command that writes. Once something may have been written no memory is asked
+/// for, which is so with Done and with a disk fault.
+pub(crate) fn tell<H: Host>(alloc: Global, done: Result<(), Outcome>, host: &mut H) -> Outcome
+    requires { IfErr done IsFirst }
+    ensures told { IsTold (may_have_written (outcome_of done)) (outcome_of done)
+        (H.told host.old) (H.told host.new) (H.counts host.old) (H.counts host.new) result }
+    ensures counts { PrintMayRise (H.counts host.old) (H.counts host.new) }
+    ensures time { Elapses H.moment H.left_since host.old host.new
+        (LeftWithOutput (H.told host.old)) }
+    ensures goes { H.goes_on host.old host.new }
+{
+    match done {
+        Ok(()) => print(Outcome::Done, b"done\n", host),
+        Err(refusal) if is_disk_fault(&refusal) => {
+            let fault = Outcome::DiskFault { step: 0 };
+            print(fault, b"refused 4 disk fault after 0\n", host)
+        }
+        Err(refusal) => say(alloc, refusal, host),
+    }
+}
+
+fn is_disk_fault(outcome: &Outcome) -> bool
+    ensures { result ≡ is_fault outcome.now }
+{
+    match outcome {
+        Outcome::DiskFault { .. } => true,
+        _ => false,
     }
 }
 

@@ -15,23 +15,25 @@ use crate::form::{Form, read_form};
 use crate::list_checkpoints::list_checkpoints;
 use crate::preview::preview;
 use crate::printing::{say, show};
+use crate::save_checkpoint::save_checkpoint;
 use host_core::{Host, Txt};
 use std::alloc::Global;
 
 /// Does the command that the words are, and prints its answer. `preview PATCH` prints the stored
-/// configuration as the patch would leave it, `check` says whether it is valid, `list-checkpoints` the names of all checkpoints, and
-/// `delete-checkpoint NAME` deletes one.
+/// configuration as the patch would leave it, `check` says whether it is valid, `checkpoint NAME` saves it
+/// under a name, `list-checkpoints` prints the names of all checkpoints, and `delete-checkpoint NAME`
+/// deletes one.
 pub fn run<H: Host>(alloc: Global, words: &[Txt], host: &mut H) -> Outcome
     requires { longest_scoped_name ≤ H.longest_name }
     // The answer is the first refusal, or what the command asks for, and nothing changes but the output and
-    // a checkpoint that is deleted.
+    // a checkpoint that is saved or deleted.
     ensures answers { Answers words.now
         (H.told host.old) (H.told host.new) (H.counts host.old) (H.counts host.new) result }
     // A fault is answered only where its count rose.
     ensures cause { HasCause (H.counts host.old) (H.counts host.new) result }
     ensures counts { NoneFell (H.counts host.old) (H.counts host.new) }
-    // A crash at a moment of it leaves the folder as it was or without the checkpoint that is deleted, with a
-    // front of some output.
+    // A crash at a moment of it leaves the folder as it was, or with the checkpoint that is saved or without
+    // the one that is deleted, with a front of some output.
     ensures crash { LeavesOnly H.moment H.left_since host.old host.new
         (LeftMeanwhile words.now (H.told host.old)) }
     // What the host's calls keep is kept.
@@ -52,6 +54,7 @@ pub fn run<H: Host>(alloc: Global, words: &[Txt], host: &mut H) -> Outcome
         },
         Form::Check => check(alloc, host),
         Form::ListCheckpoints => list_checkpoints(alloc, host),
+        Form::SaveCheckpoint { name } => save_checkpoint(alloc, name, host),
         Form::DeleteCheckpoint { name } => delete_checkpoint(alloc, name, host),
     }
 }

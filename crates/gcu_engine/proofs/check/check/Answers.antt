@@ -12,10 +12,10 @@ pub returns-in-Ok-clause-answers : goal.returns-in-Ok-clause-answers
 returns-in-Ok-clause-answers g c =
     said_to check_asked (g.H.Host.told c.args.host.now) (g.H.Host.told c.say.new.host) (g.H.Host.counts c.args.host.now) (g.H.Host.counts c.judge_stored.new.host) (g.H.Host.counts c.say.new.host)
     Done (last_line Done) c.say.result (rw c.in-Ok.ensures.told at c.say.ensures.said) c.say.ensures.counts tt
-    (check_says (g.H.Host.told c.args.host.now) tt c.in-Ok.ensures.answer)
+    (check_says (g.H.Host.told c.args.host.now) _ c.in-Ok.ensures.answer)
 
-pub returns-in-Err-clause-answers : goal.returns-in-Err-clause-answers
-returns-in-Err-clause-answers g c =
+pub returns-clause-answers : goal.returns-clause-answers
+returns-clause-answers g c =
     said_to check_asked (g.H.Host.told c.args.host.now) (g.H.Host.told c.say-in-Err.new.host) (g.H.Host.counts c.args.host.now) (g.H.Host.counts c.judge_stored.new.host) (g.H.Host.counts c.say-in-Err.new.host)
     c.in-Err.outcome (last_line c.in-Err.outcome) c.say-in-Err.result (rw c.in-Err.ensures.told at c.say-in-Err.ensures.said) c.say-in-Err.ensures.counts
     (refused_cause (g.H.Host.counts c.args.host.now) (g.H.Host.counts c.judge_stored.new.host) c.in-Err.outcome c.in-Err.ensures.cause)
@@ -27,8 +27,8 @@ returns-in-Ok-clause-crash g c =
     (g.H.Host.told c.args.host.now) (g.H.Host.told c.judge_stored.new.host) c.judge_stored.ensures.told
     (λ left since. g.met.H.Host.only_now c.args.host.now left since) c.judge_stored.ensures.time c.say.ensures.time
 
-pub returns-in-Err-clause-crash : goal.returns-in-Err-clause-crash
-returns-in-Err-clause-crash g c =
+pub returns-clause-crash : goal.returns-clause-crash
+returns-clause-crash g c =
     asking_leaves_behind g.H.Host.moment g.H.Host.left_since check_asked c.args.host.now c.judge_stored.new.host c.say-in-Err.new.host
     (g.H.Host.told c.args.host.now) (g.H.Host.told c.judge_stored.new.host) c.judge_stored.ensures.told
     (λ left since. g.met.H.Host.only_now c.args.host.now left since) c.judge_stored.ensures.time c.say-in-Err.ensures.time
@@ -37,13 +37,13 @@ pub returns-in-Ok-clause-goes : goal.returns-in-Ok-clause-goes
 returns-in-Ok-clause-goes g c =
     g.met.H.Host.continues c.args.host.now c.judge_stored.new.host c.say.new.host c.judge_stored.ensures.goes c.say.ensures.goes
 
-pub returns-in-Err-clause-goes : goal.returns-in-Err-clause-goes
-returns-in-Err-clause-goes g c =
+pub returns-clause-goes : goal.returns-clause-goes
+returns-clause-goes g c =
     g.met.H.Host.continues c.args.host.now c.judge_stored.new.host c.say-in-Err.new.host c.judge_stored.ensures.goes c.say-in-Err.ensures.goes
 
-pub returns-in-Err-clause-complete : goal.returns-in-Err-clause-complete
-returns-in-Err-clause-complete g c =
+pub returns-clause-complete : goal.returns-clause-complete
+returns-clause-complete g c =
     completes check_asked (g.H.Host.told c.args.host.now) (g.H.Host.told c.say-in-Err.new.host) (g.H.Host.counts c.args.host.now) (g.H.Host.counts c.say-in-Err.new.host) c.say-in-Err.result
     (said_cause (g.H.Host.counts c.args.host.now) (g.H.Host.counts c.judge_stored.new.host) (g.H.Host.counts c.say-in-Err.new.host) c.judge_stored.ensures.counts c.say-in-Err.ensures.counts
     c.in-Err.outcome (g.H.Host.told c.judge_stored.new.host) (g.H.Host.told c.say-in-Err.new.host) c.say-in-Err.result c.in-Err.ensures.cause c.say-in-Err.ensures.said)
-    (returns-in-Err-clause-answers g c)
+    (returns-clause-answers g c)

@@ -1,8 +1,7 @@
-use Rattle.std.proofs.Common.{refl}
+use Rattle.std.proofs.Common.{Ok, Err, refl}
 use Rattle.std.proofs.lemmas.Result.{err_from_is_err_and}
 use Rattle.gcu_engine.proofs.Checked.{judged, no_config, no_models}
 use Rattle.gcu_engine.proofs.Elapsing.{elapses_unchanged}
-use Rattle.gcu_engine.proofs.Finding.{always_refuses}
 use Rattle.gcu_engine.proofs.check.judge_stored.Goals as goal
 
 -- there are no models
@@ -19,14 +18,19 @@ returns-in_err-config-clause-answer g c =
     (no_config (g.H.Host.told c.args.host.now) c.in_ok-models.models c.in_err-config.field-0.0 c.in_ok-models.ensures.answer
     (rw c.in_ok-models.ensures.told at c.in_err-config.ensures.answer))
 
--- there are models and a configuration
+-- the configuration isn't valid
+pub returns-in_err-judge-clause-answer : goal.returns-in_err-judge-clause-answer
+returns-in_err-judge-clause-answer g c =
+    let p = err_from_is_err_and c.from_residual-in_err-judge.result c.from_residual-in_err-judge.ensures.1 in
+    rw (p.1, p.2)
+    (judged (g.H.Host.told c.args.host.now) c.in_ok-models.models c.in_ok-config.config (Err c.in_err-judge.field-0.0) c.in_ok-models.ensures.answer
+    (rw c.in_ok-models.ensures.told at c.in_ok-config.ensures.answer) c.in_err-judge.ensures.answer c.in_err-judge.ensures.cause)
+
+-- it is
 pub returns-clause-answer : goal.returns-clause-answer
 returns-clause-answer g c =
-    judged (g.H.Host.told c.args.host.now) c.in_ok-models.models c.in_ok-config.config c.judge.result c.in_ok-models.ensures.answer
-    (rw c.in_ok-models.ensures.told at c.in_ok-config.ensures.answer) c.judge.ensures.answer c.judge.ensures.cause
-
-pub returns-clause-cause : goal.returns-clause-cause
-returns-clause-cause g c = always_refuses c.judge.result (g.H.Host.counts c.args.host.now) (g.H.Host.counts c.read_config.new.host) c.judge.ensures.cause
+    judged (g.H.Host.told c.args.host.now) c.in_ok-models.models c.in_ok-config.config (Ok c.in_ok-config.config) c.in_ok-models.ensures.answer
+    (rw c.in_ok-models.ensures.told at c.in_ok-config.ensures.answer) c.in_ok-judge.ensures.answer tt
 
 -- ---- time
 

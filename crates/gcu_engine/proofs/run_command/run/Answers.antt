@@ -103,6 +103,20 @@ returns-in-ListCheckpoints-clause-complete g c =
     complete_by c.args.words.now (Some list_checkpoints) (g.H.Host.told c.args.host.now) (g.H.Host.counts c.args.host.now) (g.H.Host.counts c.list_checkpoints.new.host) c.list_checkpoints.result
     c.in-ListCheckpoints.ensures c.list_checkpoints.ensures.complete
 
+pub returns-in-SaveCheckpoint-clause-answers : goal.returns-in-SaveCheckpoint-clause-answers
+returns-in-SaveCheckpoint-clause-answers g c =
+    answers_by c.args.words.now _ (g.H.Host.told c.args.host.now) (g.H.Host.told c.save_checkpoint.new.host) (g.H.Host.counts c.args.host.now) (g.H.Host.counts c.save_checkpoint.new.host) c.save_checkpoint.result
+    c.in-SaveCheckpoint.ensures c.save_checkpoint.ensures.answers
+
+pub returns-in-SaveCheckpoint-clause-crash : goal.returns-in-SaveCheckpoint-clause-crash
+returns-in-SaveCheckpoint-clause-crash g c =
+    leaves_by g.H.Host.moment g.H.Host.left_since c.args.words.now _ c.args.host.now c.save_checkpoint.new.host (g.H.Host.told c.args.host.now) c.in-SaveCheckpoint.ensures c.save_checkpoint.ensures.crash
+
+pub returns-in-SaveCheckpoint-clause-complete : goal.returns-in-SaveCheckpoint-clause-complete
+returns-in-SaveCheckpoint-clause-complete g c =
+    complete_by c.args.words.now _ (g.H.Host.told c.args.host.now) (g.H.Host.counts c.args.host.now) (g.H.Host.counts c.save_checkpoint.new.host) c.save_checkpoint.result
+    c.in-SaveCheckpoint.ensures c.save_checkpoint.ensures.complete
+
 pub returns-in-DeleteCheckpoint-clause-answers : goal.returns-in-DeleteCheckpoint-clause-answers
 returns-in-DeleteCheckpoint-clause-answers g c =
     answers_by c.args.words.now _ (g.H.Host.told c.args.host.now) (g.H.Host.told c.delete_checkpoint.new.host) (g.H.Host.counts c.args.host.now) (g.H.Host.counts c.delete_checkpoint.new.host) c.delete_checkpoint.result
