@@ -10,9 +10,10 @@ const CONFIG_FILE: &str = "config_db.json";
 const PATCH_FILE: &str = "p.json";
 
 /// A row has the `words` of a command, the stored `config` and the `patch` that is the input `p.json`
-/// where they are there, other `files` of the folder, each a name with its bytes, and the `output` and
-/// `status`. `blanks` stand after the patch. `fails` has the numbers of the calls of the host that fail,
-/// counted from 0.
+/// where they are there, other `inputs` and other `files` of the folder, each a name with its bytes, and
+/// the `output` and `status`. `blanks` stand after the patch. `fails` has the numbers of the calls of the
+/// host that fail, counted from 0. `after` has the bytes of files afterwards, or null where there is none
+/// of that name.
 pub struct Commands;
 
 impl Table for Commands {
@@ -22,7 +23,9 @@ impl Table for Commands {
         let outcome = run(alloc, words.items(), &mut host);
         let same_status = u64::from(outcome.status()) == number_at(row, "status")?;
         let said = written_at(alloc, row, "output")?;
-        Ok(same_status && host.output() == said.as_slice() && keeps_files(alloc, row, &host)?)
+        let same_output = host.output() == said.as_slice();
+        let same_files = keeps_config(alloc, row, &host)? && has_files(alloc, row, &host)?;
+        Ok(same_status && same_output && same_files)
     }
 }
 
@@ -41,18 +44,24 @@ fn host_at(alloc: Global, row: &Value) -> Result<MemHost, Fail> {
     if row.get("patch").is_some() {
         inputs.push((Txt::new(alloc, PATCH_FILE)?, input_at(alloc, row)?))?;
     }
+    push_others(alloc, row, "inputs", &mut inputs)?;
     let mut files = Vec::new(alloc);
     if row.get("config").is_some() {
         let bytes = text_bytes(alloc, row, "config")?;
         files.push((Txt::new(alloc, CONFIG_FILE)?, bytes))?;
     }
-    push_others(alloc, row, &mut files)?;
+    push_others(alloc, row, "files", &mut files)?;
     Ok(MemHost::new(alloc, inputs, files, faults_at(alloc, row)?)?)
 }
 
-/// Adds the other files of the folder.
-fn push_others(alloc: Global, row: &Value, files: &mut Vec<(Txt, Vec<u8>)>) -> Result<(), Fail> {
-    let Some(others) = row.get("files") else {
+/// Adds the other inputs, or the other files of the folder.
+fn push_others(
+    alloc: Global,
+    row: &Value,
+    which: &str,
+    files: &mut Vec<(Txt, Vec<u8>)>,
+) -> Result<(), Fail> {
+    let Some(others) = row.get(which) else {
         return Ok(());
     };
     for (name, _) in others.as_object().ok_or(Fail::Row)? {
@@ -84,11 +93,29 @@ fn faults_at(alloc: Global, row: &Value) -> Result<Faults, Fail> {
 }
 
 /// Whether the stored configuration is that from before.
-fn keeps_files(alloc: Global, row: &Value, host: &MemHost) -> Result<bool, Fail> {
+fn keeps_config(alloc: Global, row: &Value, host: &MemHost) -> Result<bool, Fail> {
     let stored = host.file(CONFIG_FILE);
     if row.get("config").is_none() {
         return Ok(stored.is_none());
     }
     let bytes = text_bytes(alloc, row, "config")?;
     Ok(stored == Some(bytes.as_slice()))
+}
+
+/// Whether the files that the row names hold what it says.
+fn has_files(alloc: Global, row: &Value, host: &MemHost) -> Result<bool, Fail> {
+    let Some(after) = row.get("after") else {
+        return Ok(true);
+    };
+    for (name, said) in after.as_object().ok_or(Fail::Row)? {
+        let same = match (said, host.file(name.as_str())) {
+            (Value::Null, found) => found.is_none(),
+            (_, None) => false,
+            (_, Some(bytes)) => bytes == written_at(alloc, after, name.as_str())?.as_slice(),
+        };
+        if !same {
+            return Ok(false);
+        }
+    }
+    Ok(true)
 }
