@@ -32,14 +32,18 @@ move_total = on_total unranked listed_total
 pub keys_equiv : IsEquivalence (eq_by_cmp move_cmp)
 keys_equiv = eq_by_cmp_equiv move_total
 
+-- where they are compared, that is an equivalence
 pub keys_per : IsPartialEquivalence (eq_by_cmp move_cmp)
 keys_per = partial_equiv_from_equiv keys_equiv
 
+-- moves are told apart by the comparison
 pub keys_decide : (m n : Move) → Decides (eq_by_cmp move_cmp m n) (m ≡ n)
 keys_decide m n = (
   λ h. ap (λ r. r.mv) (listed_same (unranked m) (unranked n) ((Equal-is (move_cmp m n)).0 h)),
   λ e. subst (λ x. eq_by_cmp move_cmp m x ≡ true) e (keys_equiv.refl m),
 )
 
-pub keys_alike : (m n : Move) → eq_by_cmp move_cmp m n ≡ true → fed.str (hashed_name m) ≡ fed.str (hashed_name n)
+-- the same moves are hashed alike
+pub keys_alike : (m n : Move) → eq_by_cmp move_cmp m n ≡ true
+    → fed.str (hashed_name m) ≡ fed.str (hashed_name n)
 keys_alike = (same_Alike (λ m. fed.str (hashed_name m)) keys_decide).fed

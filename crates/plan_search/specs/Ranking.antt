@@ -35,7 +35,8 @@ abbrev pub IsMoveOf : (Generated → Type 0) → List Generated → Move → Typ
 IsMoveOf P firsts m = (g : Generated) × Contains firsts g × P g × (g.mv ≡ m)
 
 -- the moves of those generated ones that are as P says
-pub record AreMovesOf (P : Generated → Type 0) (firsts : List Generated) (ms : List Move) : Type 0 where
+pub record AreMovesOf (P : Generated → Type 0) (firsts : List Generated) (ms : List Move)
+    : Type 0 where
   pub each : All (IsMoveOf P firsts) ms
   pub all : (g : Generated) → Contains firsts g → P g → Contains ms g.mv
 
@@ -56,7 +57,9 @@ pub record AddsAlone (start goal : Config) (firsts : List Generated) (old new : 
   pub more : List Ranked
   pub follows : new ≡ old ++ more
   pub each : All (IsOneAlone start goal firsts) more
-  pub all : (g : Generated) → Contains firsts g → (r : Ranked) × Contains more r × IsAlone start goal g r
+  pub all :
+      (g : Generated) → Contains firsts g
+      → (r : Ranked) × Contains more r × IsAlone start goal g r
 
 -- a move that was reached by extensions, in a tier
 pub record IsExtended (reached : Depths) (tier : ℕ) (r : Ranked) : Type 0 where

@@ -54,7 +54,8 @@ fn is_same(a: Option<&Table>, b: Option<&Table>) -> bool
 
 /// The lesser one of two names, where there are two.
 fn lesser<'c>(left: Option<&'c str>, right: Option<&'c str>) -> Option<&'c str>
-    ensures { IsLesser (option_copied left.entry) (option_copied right.entry) (option_copied result) }
+    ensures { IsLesser (option_copied left.entry) (option_copied right.entry)
+        (option_copied result) }
 {
     match (left, right) {
         (Some(left), Some(right)) if right < left => Some(right),
