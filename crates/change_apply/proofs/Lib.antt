@@ -8,3 +8,4 @@ mod ReadyWork
 mod StepFiles
 mod StepNames
 mod StepStages
+mod TiedServices

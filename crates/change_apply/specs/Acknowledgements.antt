@@ -11,7 +11,7 @@ abbrev pub acks : ℕ → List ℕ
 acks zero = []
 acks (suc k) = acks k ++ ack (suc k)
 
--- the lines of the first k steps were appended, and perhaps a part of the next one, but not all of it
+-- the lines of the first k steps were appended, and of the next one perhaps a part, but not all
 pub record HasAcknowledged (k : ℕ) (before after : List ℕ) : Type 0 where
   pub part : List ℕ
   pub rest : List ℕ

@@ -20,7 +20,7 @@ abbrev pub StandAt : Change → ℕ → Files → Type 0
 StandAt change k files =
     (stored files ≡ Ok (conf_at change k)) ⊎ (stored files ≡ Ok (conf_at change (suc k)))
 
--- the one file holds the configuration from before, and each of the first k steps is a file of its own
+-- the one file holds the configuration from before, and each of the first k steps has a file
 pub record HasSmallSteps (change : Change) (k : ℕ) (files : Files) : Type 0 where
   pub bytes : List ℕ
   pub config : get files config_file ≡ Some bytes

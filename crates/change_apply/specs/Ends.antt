@@ -69,7 +69,7 @@ pub record IsStoppedInRestarts (change : Change) (k service : ℕ) (before after
   pub stopped : IsStopped change k [] started before after
   pub put : stored after.files ≡ Ok (conf_at change (suc k))
 
--- stopped at the acknowledgement of the next step, which is on the disk; a front of the line is printed
+-- stopped at the acknowledgement of the next step, which is on the disk; a front of it is printed
 pub record IsStoppedInPrint (change : Change) (k : ℕ) (before after : State) : Type 0 where
   pub part : List ℕ
   pub rest : List ℕ

@@ -16,8 +16,8 @@ pub(crate) fn fold_first<H: Host>(host: &mut H, work: &Work) -> Result<(), Apply
     requires longest { longest_plain_name ≤ H.longest_name }
     requires ready { IsReady work.now }
     requires stage { HasStage (AtBeginning (change_in work.now)) (H.told host.old) }
-    ensures ok { OnOk result (Leads (AtBeginning (change_in work.now)) (AtStep (change_in work.now) 0)
-        (H.told host.old) (H.told host.new)) }
+    ensures ok { OnOk result (Leads (AtBeginning (change_in work.now))
+        (AtStep (change_in work.now) 0) (H.told host.old) (H.told host.new)) }
     ensures err { IfErr result (λ fault. Leads (AtBeginning (change_in work.now))
         (Stops (change_in work.now) fault) (H.told host.old) (H.told host.new)) }
     ensures any_moment { LeavesAt H.moment H.left_since H.told (change_in work.now)

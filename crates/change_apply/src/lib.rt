@@ -5,6 +5,7 @@
 mod acknowledging;
 mod errors;
 mod folds;
+mod laws;
 mod preparing;
 mod ready;
 mod ready_steps;
@@ -13,6 +14,7 @@ mod running;
 mod steps;
 
 pub use errors::ApplyFault;
+pub use laws::restarts_are_services;
 pub use preparing::prepare;
 pub use ready::{Ready, Restart};
 pub use running::run;
