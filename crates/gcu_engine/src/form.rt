@@ -20,7 +20,9 @@ pub(crate) enum Form<'a> {
     /// Prints the names of all checkpoints.
     ListCheckpoints,
     /// Saves the stored configuration as the checkpoint of this name.
-    SaveCheckpoint { name: &'a Txt },
+    SaveCheckpoint {
+        name: &'a Txt,
+    },
     /// Deletes the checkpoint of this name.
     DeleteCheckpoint {
         name: &'a Txt,
