@@ -28,6 +28,7 @@ unsolved_finishes (request.plan p) e h = inr h
 unsolved_finishes (request.preview c) e never = absurd never
 unsolved_finishes (request.list_checkpoints names) e never = absurd never
 unsolved_finishes request.check e never = absurd never
+unsolved_finishes (request.save_checkpoint name config) e never = absurd never
 unsolved_finishes (request.delete_checkpoint name) e never = absurd never
 
 module _ (asking : Asking Request) (s now : State) (old new : Counts) (none : NoneRose old new) where

@@ -18,7 +18,7 @@ use Rattle.gcu_engine.specs.Asking.{Asking, a_file, a_settling}
 use Rattle.gcu_engine.specs.Commands.{AnswersTo, IsFirst, IsReady, IsTold, LeavesRefused, LeftTo, TellsOn, is_disk_fault, may_have_written, outcome_of}
 use Rattle.gcu_engine.specs.Lines.{last_line}
 use Rattle.gcu_engine.specs.Preparing.{FailsIn, Finds, Found, Refuses, StandsIn, refusal}
-use Rattle.gcu_engine.specs.Printing.{IsPrinted}
+use Rattle.gcu_engine.specs.Printing.{IsPrinted, IsSaid}
 use Rattle.gcu_engine.specs.Request.{Request}
 use Rattle.gcu_engine.specs.declared.outcomes.Outcome.{Outcome}
 use Rattle.gcu_engine.specs.declared.outcomes.Outcome.TheVariants.{Done, Memory, Usage, InputFault, DiskFault, PrintFault, Unorderable, Budget}
@@ -253,6 +253,17 @@ module _ (asking : State → Asking Request) where
       by false isnt (inr memory) = ready_printed o told after old mid new Memory result (ready_instead o told e isnt ready) memory rises tt
 
 -- ---- the outcome of what was done or refused
+
+-- a refusal that is no fault of the disk comes before anything is written
+pub unwritten : (e : Outcome) → IsFirst e → is_disk_fault e ≡ false → may_have_written e ≡ false
+unwritten Done first isnt = absurd first
+unwritten other first isnt = isnt
+
+-- and its last line may ask for memory
+pub told_said : (e : Outcome) (written : Bool) → written ≡ false → (before after : Option State) (old new : Counts) (result : Outcome)
+    → IsSaid e (last_line e) before after old new result → IsTold written e before after old new result
+told_said e true isnt before after old new result said = absurd cc
+told_said e false isnt before after old new result said = said
 
 -- a refusal with its cause comes after no acknowledgement
 refused_first : (old new : Counts) (e : Outcome) → Refuses old new e → IsFirst e

@@ -3,6 +3,8 @@ use Rattle.gcu_engine.specs.Asked.{list_asked}
 use Rattle.gcu_engine.specs.Lines.{last_line, lines}
 use Rattle.gcu_engine.specs.declared.outcomes.Outcome.TheVariants.{Done}
 use Rattle.gcu_engine.proofs.Answering.{refused_cause, said_to}
+use Rattle.gcu_engine.proofs.Causes.{disk_fell, said_cause}
+use Rattle.gcu_engine.proofs.Completing.{completes}
 use Rattle.gcu_engine.proofs.Elapsing.{asking_leaves_behind}
 use Rattle.gcu_engine.proofs.Listing.{names_refused, names_say}
 use Rattle.gcu_engine.proofs.list_checkpoints.list_checkpoints.Goals as goal
@@ -39,3 +41,11 @@ returns-in-Ok-clause-goes g c =
 pub returns-in-Err-clause-goes : goal.returns-in-Err-clause-goes
 returns-in-Err-clause-goes g c =
     g.met.H.Host.continues c.args.host.now c.find_names.new.host c.say.new.host c.find_names.ensures.goes c.say.ensures.goes
+
+pub returns-in-Err-clause-complete : goal.returns-in-Err-clause-complete
+returns-in-Err-clause-complete g c =
+    completes list_asked (g.H.Host.told c.args.host.now) (g.H.Host.told c.say.new.host) (g.H.Host.counts c.args.host.now) (g.H.Host.counts c.say.new.host) c.say.result
+    (said_cause (g.H.Host.counts c.args.host.now) (g.H.Host.counts c.find_names.new.host) (g.H.Host.counts c.say.new.host)
+    (disk_fell (g.H.Host.counts c.args.host.now) (g.H.Host.counts c.find_names.new.host) c.find_names.ensures.counts) c.say.ensures.counts
+    c.in-Err.outcome (g.H.Host.told c.find_names.new.host) (g.H.Host.told c.say.new.host) c.say.result c.in-Err.ensures.cause c.say.ensures.said)
+    (returns-in-Err-clause-answers g c)
