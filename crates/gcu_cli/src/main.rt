@@ -8,9 +8,9 @@ mod real_host;
 mod tests;
 mod words;
 
-use gcu_engine::{Outcome, run};
+use gcu_engine::{Outcome, kit_extenders, kit_generators, kit_rules, run};
 use host_core::Memory;
-use move_core::{Kit, MoveExt, MoveGen, MoveRule};
+use move_core::Kit;
 use move_extend::{DeleteExt, ReferrersExt, RequiredExt, UpperExt};
 use move_gen::{FieldGen, KeyGen, SeedGen, TableGen};
 use move_rules::{CreateOnlyRule, FullRule, NoDependencyRule, NoEmptyRule, RequiredRule};
@@ -30,22 +30,28 @@ fn main(rt: HostRuntime) -> ExitCode {
 fn obey(rt: HostRuntime) -> Result<Outcome, Memory> {
     let alloc = rt.alloc();
     let words = words(&rt)?;
-    let mut gens: Vec<Box<dyn MoveGen>> = Vec::new(alloc);
-    gens.push(Box::new(alloc, TableGen::new())?)?;
-    gens.push(Box::new(alloc, KeyGen::new())?)?;
-    gens.push(Box::new(alloc, FieldGen::new())?)?;
-    gens.push(Box::new(alloc, SeedGen::new())?)?;
-    let mut exts: Vec<Box<dyn MoveExt>> = Vec::new(alloc);
-    exts.push(Box::new(alloc, UpperExt::new())?)?;
-    exts.push(Box::new(alloc, DeleteExt::new())?)?;
-    exts.push(Box::new(alloc, ReferrersExt::new())?)?;
-    exts.push(Box::new(alloc, RequiredExt::new())?)?;
-    let mut rules: Vec<Box<dyn MoveRule>> = Vec::new(alloc);
-    rules.push(Box::new(alloc, FullRule::new())?)?;
-    rules.push(Box::new(alloc, NoDependencyRule::new())?)?;
-    rules.push(Box::new(alloc, NoEmptyRule::new())?)?;
-    rules.push(Box::new(alloc, CreateOnlyRule::new())?)?;
-    rules.push(Box::new(alloc, RequiredRule::new())?)?;
+    let gens = kit_generators(
+        alloc,
+        Box::new(alloc, TableGen::new())?,
+        Box::new(alloc, KeyGen::new())?,
+        Box::new(alloc, FieldGen::new())?,
+        Box::new(alloc, SeedGen::new())?,
+    )?;
+    let exts = kit_extenders(
+        alloc,
+        Box::new(alloc, UpperExt::new())?,
+        Box::new(alloc, DeleteExt::new())?,
+        Box::new(alloc, ReferrersExt::new())?,
+        Box::new(alloc, RequiredExt::new())?,
+    )?;
+    let rules = kit_rules(
+        alloc,
+        Box::new(alloc, FullRule::new())?,
+        Box::new(alloc, NoDependencyRule::new())?,
+        Box::new(alloc, NoEmptyRule::new())?,
+        Box::new(alloc, CreateOnlyRule::new())?,
+        Box::new(alloc, RequiredRule::new())?,
+    )?;
     let mut kit = Kit { gens, exts, rules };
     let mut host = RealHost::new(rt);
     Ok(run(alloc, words.items(), &mut kit, &mut host))

@@ -7,6 +7,7 @@ mod dry_run;
 mod form;
 mod inputs;
 mod judging;
+mod kit_lists;
 mod lines;
 mod list_checkpoints;
 mod model_files;
@@ -24,5 +25,6 @@ mod tree_text;
 
 pub use conf_check::Rule;
 pub use conf_store::StoredWhy;
+pub use kit_lists::{kit_extenders, kit_generators, kit_rules};
 pub use outcomes::{Outcome, PointWhy};
 pub use run_command::run;

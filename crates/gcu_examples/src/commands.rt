@@ -1,8 +1,8 @@
 //! Whole commands on a host in memory.
 use example_rows::{Fail, Table, items_at, number_at, text_bytes, written_at};
-use gcu_engine::{Outcome, run};
+use gcu_engine::{Outcome, kit_extenders, kit_generators, kit_rules, run};
 use host_core::{Faults, MemHost, Memory, Names, Sequence, Txt};
-use move_core::{Kit, MoveExt, MoveGen, MoveRule};
+use move_core::Kit;
 use move_extend::{DeleteExt, ReferrersExt, RequiredExt, UpperExt};
 use move_gen::{FieldGen, KeyGen, SeedGen, TableGen};
 use move_rules::{CreateOnlyRule, FullRule, NoDependencyRule, NoEmptyRule, RequiredRule};
@@ -35,22 +35,28 @@ impl Table for Commands {
 
 /// Does the command with the boxes of a planner.
 fn obey(alloc: Global, words: &[Txt], host: &mut MemHost) -> Result<Outcome, Memory> {
-    let mut gens: Vec<Box<dyn MoveGen>> = Vec::new(alloc);
-    gens.push(Box::new(alloc, TableGen::new())?)?;
-    gens.push(Box::new(alloc, KeyGen::new())?)?;
-    gens.push(Box::new(alloc, FieldGen::new())?)?;
-    gens.push(Box::new(alloc, SeedGen::new())?)?;
-    let mut exts: Vec<Box<dyn MoveExt>> = Vec::new(alloc);
-    exts.push(Box::new(alloc, UpperExt::new())?)?;
-    exts.push(Box::new(alloc, DeleteExt::new())?)?;
-    exts.push(Box::new(alloc, ReferrersExt::new())?)?;
-    exts.push(Box::new(alloc, RequiredExt::new())?)?;
-    let mut rules: Vec<Box<dyn MoveRule>> = Vec::new(alloc);
-    rules.push(Box::new(alloc, FullRule::new())?)?;
-    rules.push(Box::new(alloc, NoDependencyRule::new())?)?;
-    rules.push(Box::new(alloc, NoEmptyRule::new())?)?;
-    rules.push(Box::new(alloc, CreateOnlyRule::new())?)?;
-    rules.push(Box::new(alloc, RequiredRule::new())?)?;
+    let gens = kit_generators(
+        alloc,
+        Box::new(alloc, TableGen::new())?,
+        Box::new(alloc, KeyGen::new())?,
+        Box::new(alloc, FieldGen::new())?,
+        Box::new(alloc, SeedGen::new())?,
+    )?;
+    let exts = kit_extenders(
+        alloc,
+        Box::new(alloc, UpperExt::new())?,
+        Box::new(alloc, DeleteExt::new())?,
+        Box::new(alloc, ReferrersExt::new())?,
+        Box::new(alloc, RequiredExt::new())?,
+    )?;
+    let rules = kit_rules(
+        alloc,
+        Box::new(alloc, FullRule::new())?,
+        Box::new(alloc, NoDependencyRule::new())?,
+        Box::new(alloc, NoEmptyRule::new())?,
+        Box::new(alloc, CreateOnlyRule::new())?,
+        Box::new(alloc, RequiredRule::new())?,
+    )?;
     let mut kit = Kit { gens, exts, rules };
     Ok(run(alloc, words, &mut kit, host))
 }
