@@ -147,6 +147,7 @@ impl Kit {
         ensures err { let Is = IsGenerated (rulebook ctx.now) cur.now goal.now (i + 1) in
             OnErr result (AppendsSome Is out.old.items out.new.items) }
         ensures kinds { ⟦<Kit as Boxes>⟧.HasKinds self.new }
+        ensures rules { self.new.rules ≡ self.old.rules }
     {
         ask_generator(alloc, &mut self.gens[i], ctx, cur, goal, out)
     }
@@ -173,6 +174,7 @@ impl Kit {
         ensures err { let Is = IsExtension (rulebook ctx.now) cur.now goal.now (i + 1) mv.now in
             OnErr result (AppendsSome Is out.old.items out.new.items) }
         ensures kinds { ⟦<Kit as Boxes>⟧.HasKinds self.new }
+        ensures rules { self.new.rules ≡ self.old.rules }
     {
         ask_extender(alloc, &mut self.exts[i], ctx, cur, goal, mv, out)
     }
