@@ -155,9 +155,10 @@ fn unsorted_names<R: Files + AllocGlobal + Clone + Drop>(
 
 fn open_folder<R: Files + AllocGlobal + Clone + Drop>(rt: &R) -> io::Result<ReadDir<R>> {
     for _ in 0..u64::MAX {
-        let answer = fs::read_dir(rt, FOLDER);
-        if !is_interrupted(&answer) {
-            return answer;
+        match fs::read_dir(rt, FOLDER) {
+            Ok(entries) => return Ok(entries),
+            Err(error) if is_interrupted(&error) => {}
+            Err(error) => return Err(error),
         }
     }
     Err(io::Error::from(ErrorKind::Interrupted))
@@ -178,19 +179,17 @@ fn again<T: Drop, F: Fn() -> io::Result<T>>(call: F) -> io::Result<T>
     requires { F.IsAlwaysCallable call }
 {
     for _ in 0..u64::MAX {
-        let answer = call();
-        if !is_interrupted(&answer) {
-            return answer;
+        match call() {
+            Ok(value) => return Ok(value),
+            Err(error) if is_interrupted(&error) => {}
+            Err(error) => return Err(error),
         }
     }
     Err(io::Error::from(ErrorKind::Interrupted))
 }
 
-fn is_interrupted<T>(answer: &io::Result<T>) -> bool {
-    match answer {
-        Ok(_) => false,
-        Err(error) => error.kind() == ErrorKind::Interrupted,
-    }
+fn is_interrupted(error: &io::Error) -> bool {
+    error.kind() == ErrorKind::Interrupted
 }
 
 fn done(answer: io::Result<()>) -> Result<(), Failed> {
@@ -206,5 +205,5 @@ fn is_plain(name: &str) -> bool {
 }
 
 fn is_missing(error: &io::Error) -> bool {
-    matches!(error.kind(), ErrorKind::NotFound | ErrorKind::NotADirectory)
+    error.kind() == ErrorKind::NotFound || error.kind() == ErrorKind::NotADirectory
 }
