@@ -1,22 +1,14 @@
 //! The program `gcu`: works on the configuration of a switch that stands in the working folder.
 #![tactic(auto)]
 
-mod folder;
-mod reading;
-mod real_host;
-#[cfg(test)]
-mod tests;
-mod words;
-
 use gcu_engine::{Outcome, kit_extenders, kit_generators, kit_rules, run};
 use host_core::Memory;
 use move_core::Kit;
 use move_extend::{DeleteExt, ReferrersExt, RequiredExt, UpperExt};
 use move_gen::{FieldGen, KeyGen, SeedGen, TableGen};
 use move_rules::{CreateOnlyRule, FullRule, NoDependencyRule, NoEmptyRule, RequiredRule};
-use real_host::RealHost;
+use real_host::{RealHost, words};
 use std::process::ExitCode;
-use words::words;
 
 fn main(rt: HostRuntime) -> ExitCode {
     match obey(rt) {

@@ -1,18 +1,19 @@
 //! Reading, the words of the command line and the host, over fakes of the system and in a real folder.
+use crate::as_host::RealHost;
+use crate::command_line::{words, words_of};
 use crate::reading::read_input;
-use crate::real_host::RealHost;
-use crate::words::{words, words_of};
 use host_core::{Host, HostError, Input, Names};
 use std::alloc::{Allocator, Global};
 use std::cell::Cell;
 use std::env::{Env, FillError};
 use std::fmt::Display;
-use std::fs::{File, Metadata, OpenOptions};
-use std::io;
+use std::fs::{File, Metadata, OpenOptions, Permissions};
 use std::io::{ErrorKind, Read};
+use std::os::unix::fs::PermissionsExt;
 use std::process::Abort;
 use std::rt::Files;
 use std::test::Fail;
+use std::{env, fs, io};
 
 // A file whose reads end as listed: with some bytes, or with an error.
 #[derive(Drop)]
@@ -231,15 +232,15 @@ fn name_of_names(names: Result<Names, HostError>) -> &'static str {
 #[test]
 fn an_error_of_the_system_is_a_missing_file_or_a_failed_call(rt: HostRuntime) {
     let alloc = rt.alloc();
-    for (kind, interruptions, file, names) in [
-        (ErrorKind::NotFound, 0, "absent", "failed"),
-        (ErrorKind::NotADirectory, 2, "absent", "failed"),
-        (ErrorKind::IsADirectory, 0, "failed", "failed"),
-        (ErrorKind::PermissionDenied, 1, "failed", "failed"),
-        (ErrorKind::StorageFull, 0, "failed", "failed"),
-        (ErrorKind::OutOfMemory, 0, "failed", "memory"),
+    for (kind, file, names) in [
+        (ErrorKind::NotFound, "absent", "failed"),
+        (ErrorKind::NotADirectory, "absent", "failed"),
+        (ErrorKind::IsADirectory, "failed", "failed"),
+        (ErrorKind::PermissionDenied, "failed", "failed"),
+        (ErrorKind::StorageFull, "failed", "failed"),
+        (ErrorKind::OutOfMemory, "failed", "memory"),
     ] {
-        let count = Cell::new(interruptions);
+        let count = Cell::new(0);
         let system = Broken {
             kind,
             interruptions: &count,
@@ -247,6 +248,7 @@ fn an_error_of_the_system_is_a_missing_file_or_a_failed_call(rt: HostRuntime) {
         let mut host = RealHost::new((system, alloc));
         assert_eq!(rt; name_of(host.input(alloc, "p.json", 4)), file);
         assert_eq!(rt; name_of_file(host.read(alloc, "a")), file);
+        count.set(2);
         assert_eq!(rt; name_of_names(host.list(alloc)), names);
     }
 }
@@ -261,8 +263,12 @@ fn each_call_that_changes_something_fails_with_the_system(rt: HostRuntime) {
     let mut host = RealHost::new((system, rt.alloc()));
     assert!(rt; host.write("a", b"abcd").is_err());
     assert!(rt; host.sync("a").is_err());
+    count.set(1);
     assert!(rt; host.rename("a", "b").is_err());
+    assert_eq!(rt; count.get(), 0);
+    count.set(1);
     assert!(rt; host.remove("a").is_err());
+    assert_eq!(rt; count.get(), 0);
     assert!(rt; host.settle().is_err());
     assert!(rt; host.print(b"abcd").is_err());
     assert!(rt; host.restart("bgp").is_err());
@@ -318,6 +324,31 @@ fn restarts_are_appended_to_their_log(rt: HostRuntime) -> Result<(), Fail> {
     host.remove("restarts.log")?;
     let lines = log.ok_or("no log")?;
     assert!(rt; lines.as_slice().ends_with(b"restart bgp\nrestart snmp\n"));
+    Ok(())
+}
+
+// The folder that is sealed has mode 0555. Root writes there all the same, so for root nothing is shown;
+// rt ci runs the tests as nobody.
+#[test]
+fn in_a_folder_that_is_not_writable_what_changes_it_fails(rt: HostRuntime) -> Result<(), Fail> {
+    let alloc = rt.alloc();
+    rt.create_dir("sealed")?;
+    fs::write(&rt, "sealed/edge.json", b"abcd")?;
+    fs::set_permissions(&rt, "sealed", Permissions::from_mode(0o555))?;
+    env::set_current_dir(&rt, "sealed")?;
+    let mut host = RealHost::new(&rt);
+    if host.write("edge.tmp.new", b"abcd").is_err() {
+        assert!(rt; host.rename("edge.json", "other.json").is_err());
+        assert!(rt; host.remove("edge.json").is_err());
+        assert!(rt; host.restart("bgp").is_err());
+        assert_eq!(rt; host.list(alloc)?.len(), 1);
+        assert_eq!(rt; name_of_file(host.read(alloc, "edge.json")), "abcd");
+        host.sync("edge.json")?;
+        host.settle()?;
+    }
+    env::set_current_dir(&rt, "..")?;
+    fs::set_permissions(&rt, "sealed", Permissions::from_mode(0o755))?;
+    fs::remove_dir_all(&rt, "sealed")?;
     Ok(())
 }
 

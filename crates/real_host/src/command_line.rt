@@ -17,7 +17,7 @@ pub fn words<R: Env + AllocGlobal>(rt: &R) -> Result<Names, Memory> {
 
 /// The words of a command line: those after the first one, or none where they could not be read for
 /// another reason than memory.
-pub fn words_of(alloc: Global, line: io::Result<Args>) -> Result<Names, Memory>
+pub(crate) fn words_of(alloc: Global, line: io::Result<Args>) -> Result<Names, Memory>
     ensures read { IfOk line
         (λ all. IfOk result (λ words. words ≡ map string_bytes (drop 1 (into_iter_items all)))) }
     ensures unread { OnErr line (IfOk result (λ words. words ≡ [])) }

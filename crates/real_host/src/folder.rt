@@ -1,6 +1,7 @@
-//! The files of the working folder. A call that a signal interrupts is tried again.
+//! The files of the working folder. A call that a signal interrupts is tried again: here where std does
+//! not do so itself, which opens, reads, writes and syncs again.
 
-use crate::reading::{read_input, read_whole};
+use crate::reading::{host_error, read_input, read_whole};
 use host_core::{Failed, HostError, Input, Names, Sequence, Txt};
 use std::alloc::Global;
 use std::fs::{File, OpenFile, OpenOptions, ReadDir};
@@ -18,7 +19,7 @@ const SCRATCH_END: &str = "tmp.new";
 const FOLDER: &str = ".";
 
 /// What the input at a path holds.
-pub fn input_bytes<R: Files>(
+pub(crate) fn input_bytes<R: Files>(
     rt: &R,
     alloc: Global,
     path: &str,
@@ -31,7 +32,7 @@ pub fn input_bytes<R: Files>(
 }
 
 /// The bytes of the file of a name, where there is one.
-pub fn file_bytes<R: Files>(
+pub(crate) fn file_bytes<R: Files>(
     rt: &R,
     alloc: Global,
     name: &str,
@@ -46,7 +47,7 @@ pub fn file_bytes<R: Files>(
 }
 
 /// The names in the folder that are UTF-8, in the order of their bytes.
-pub fn file_names<R: Files + AllocGlobal + Clone + Drop>(
+pub(crate) fn file_names<R: Files + AllocGlobal + Clone + Drop>(
     rt: &R,
     alloc: Global,
 ) -> Result<Names, HostError> {
@@ -60,26 +61,26 @@ pub fn file_names<R: Files + AllocGlobal + Clone + Drop>(
 }
 
 /// Writes a file whole.
-pub fn write_file<R: Files>(rt: &R, name: &str, bytes: &[u8]) -> Result<(), Failed> {
+pub(crate) fn write_file<R: Files>(rt: &R, name: &str, bytes: &[u8]) -> Result<(), Failed> {
     if !is_plain(name) {
         return Err(Failed);
     }
-    done(again(|| fs::write(rt, name, bytes)))
+    done(fs::write(rt, name, bytes))
 }
 
 /// Syncs the bytes of a file.
-pub fn sync_file<R: Files>(rt: &R, name: &str) -> Result<(), Failed> {
+pub(crate) fn sync_file<R: Files>(rt: &R, name: &str) -> Result<(), Failed> {
     if !is_plain(name) {
         return Err(Failed);
     }
-    match again(|| OpenOptions::new().write(true).open(rt, name)) {
-        Ok(file) => done(again(|| file.sync_all())),
+    match OpenOptions::new().write(true).open(rt, name) {
+        Ok(file) => done(file.sync_all()),
         Err(_) => Err(Failed),
     }
 }
 
 /// Gives a file another name.
-pub fn rename_file<R: Files>(rt: &R, from: &str, to: &str) -> Result<(), Failed> {
+pub(crate) fn rename_file<R: Files>(rt: &R, from: &str, to: &str) -> Result<(), Failed> {
     if !is_plain(from) || !is_plain(to) {
         return Err(Failed);
     }
@@ -87,7 +88,7 @@ pub fn rename_file<R: Files>(rt: &R, from: &str, to: &str) -> Result<(), Failed>
 }
 
 /// Removes a file.
-pub fn remove_file<R: Files>(rt: &R, name: &str) -> Result<(), Failed> {
+pub(crate) fn remove_file<R: Files>(rt: &R, name: &str) -> Result<(), Failed> {
     if !is_plain(name) {
         return Err(Failed);
     }
@@ -95,7 +96,7 @@ pub fn remove_file<R: Files>(rt: &R, name: &str) -> Result<(), Failed> {
 }
 
 /// Syncs each file that may have been written and not synced, and then the folder.
-pub fn settle_files<R: Files + AllocGlobal + Clone + Drop>(rt: &R) -> Result<(), Failed> {
+pub(crate) fn settle_files<R: Files + AllocGlobal + Clone + Drop>(rt: &R) -> Result<(), Failed> {
     let Ok(names) = unsorted_names(rt, rt.alloc()) else {
         return Err(Failed);
     };
@@ -104,23 +105,22 @@ pub fn settle_files<R: Files + AllocGlobal + Clone + Drop>(rt: &R) -> Result<(),
             sync_file(rt, name.as_str())?;
         }
     }
-    match again(|| File::open(rt, FOLDER)) {
-        Ok(folder) => done(again(|| folder.sync_all())),
+    match File::open(rt, FOLDER) {
+        Ok(folder) => done(folder.sync_all()),
         Err(_) => Err(Failed),
     }
 }
 
 /// Appends the request of a restart to the log.
-pub fn log_restart<R: Files + AllocGlobal>(rt: &R, service: &str) -> Result<(), Failed> {
+pub(crate) fn log_restart<R: Files + AllocGlobal>(rt: &R, service: &str) -> Result<(), Failed> {
     let Ok(line) = restart_line(rt.alloc(), service) else {
         return Err(Failed);
     };
-    match again(|| {
-        OpenOptions::new()
-            .append(true)
-            .create(true)
-            .open(rt, RESTARTS_LOG)
-    }) {
+    match OpenOptions::new()
+        .append(true)
+        .create(true)
+        .open(rt, RESTARTS_LOG)
+    {
         Ok(mut log) => done(log.write_all(line.as_bytes())),
         Err(_) => Err(Failed),
     }
@@ -156,8 +156,9 @@ fn unsorted_names<R: Files + AllocGlobal + Clone + Drop>(
 fn open_folder<R: Files + AllocGlobal + Clone + Drop>(rt: &R) -> io::Result<ReadDir<R>> {
     for _ in 0..u64::MAX {
         match fs::read_dir(rt, FOLDER) {
-            Err(error) if error.kind() == ErrorKind::Interrupted => {}
-            answer => return answer,
+            Ok(entries) => return Ok(entries),
+            Err(error) if is_interrupted(&error) => {}
+            Err(error) => return Err(error),
         }
     }
     Err(io::Error::from(ErrorKind::Interrupted))
@@ -166,7 +167,7 @@ fn open_folder<R: Files + AllocGlobal + Clone + Drop>(rt: &R) -> io::Result<Read
 /// The file at a path, or None where there is none: where the path names nothing, or leads through
 /// something that is no folder.
 fn open_there<R: Files>(rt: &R, path: &str) -> Result<Option<R::File>, HostError> {
-    match again(|| File::open(rt, path)) {
+    match File::open(rt, path) {
         Ok(file) => Ok(Some(file)),
         Err(error) if is_missing(&error) => Ok(None),
         Err(_) => Err(HostError::Failed),
@@ -179,11 +180,16 @@ fn again<T: Drop, F: Fn() -> io::Result<T>>(call: F) -> io::Result<T>
 {
     for _ in 0..u64::MAX {
         match call() {
-            Err(error) if error.kind() == ErrorKind::Interrupted => {}
-            answer => return answer,
+            Ok(value) => return Ok(value),
+            Err(error) if is_interrupted(&error) => {}
+            Err(error) => return Err(error),
         }
     }
     Err(io::Error::from(ErrorKind::Interrupted))
+}
+
+fn is_interrupted(error: &io::Error) -> bool {
+    error.kind() == ErrorKind::Interrupted
 }
 
 fn done(answer: io::Result<()>) -> Result<(), Failed> {
@@ -199,13 +205,5 @@ fn is_plain(name: &str) -> bool {
 }
 
 fn is_missing(error: &io::Error) -> bool {
-    matches!(error.kind(), ErrorKind::NotFound | ErrorKind::NotADirectory)
-}
-
-fn host_error(error: &io::Error) -> HostError {
-    if error.kind() == ErrorKind::OutOfMemory {
-        HostError::Memory
-    } else {
-        HostError::Failed
-    }
+    error.kind() == ErrorKind::NotFound || error.kind() == ErrorKind::NotADirectory
 }

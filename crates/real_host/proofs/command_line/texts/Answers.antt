@@ -3,7 +3,7 @@ use Rattle.std.specs.Vec.Iter.{into_iter_items, into_iter_len}
 use Rattle.std.proofs.lemmas.List.{map-id}
 use Rattle.std.proofs.lemmas.Iterator.Adapters.{YieldsList-from_vec}
 use Rattle.std.proofs.lemmas.Iterator.Consumers.{YieldsList-end}
-use Rattle.gcu_cli.proofs.words.texts.Goals as goal
+use Rattle.real_host.proofs.command_line.texts.Goals as goal
 
 -- at the end every word was taken
 pub returns : goal.returns

@@ -1,0 +1,12 @@
+//! The working folder, standard output and `restarts.log` as a host, and the words of the command line.
+#![tactic(auto)]
+
+mod as_host;
+mod command_line;
+mod folder;
+mod reading;
+#[cfg(test)]
+mod tests;
+
+pub use as_host::RealHost;
+pub use command_line::words;
