@@ -1,7 +1,7 @@
 -- The whole list as one part.
-use Rattle.std.proofs.Common.{◌≡◌, ◌≢◌, ℕ, ◌+◌, suc, ◌<◌, List, [], ◌∷◌, length, get_or, refl, sym, ap, subst, ◌∙◌, add-one, All, zero, arith}
+use Rattle.std.proofs.Common.{◌≡◌, ◌≢◌, ℕ, suc, ◌<◌, List, [], ◌∷◌, get_or, refl, sym, ap, subst, ◌∙◌, add-one, All, zero, arith}
 use Rattle.std.specs.Cmp.{tied_itself}
-use Rattle.std.specs.List.{AllPairs, Contains}
+use Rattle.std.specs.List.{AllPairs}
 use Rattle.std.specs.Ordering.{ordering_then}
 use Rattle.std.specs.declared.cmp.Ordering.{Ordering}
 use Rattle.std.specs.declared.cmp.Ordering.TheVariants.{Less, Equal, Greater}
@@ -9,11 +9,10 @@ use Rattle.std.proofs.lemmas.List.Elements.{All-contains, All-head, All-map, All
 use Rattle.std.proofs.lemmas.List.Kept.{AllPairs-cons}
 use Rattle.conf_doc.specs.declared.configuration.Config.{Config}
 use Rattle.move_core.specs.Contexts.{rulebook}
-use Rattle.move_core.specs.Listed.{AreListed, EndsChain, IsListed, IsRanked, moves_of}
+use Rattle.move_core.specs.Listed.{AreListed, IsRanked, moves_of}
 use Rattle.move_core.specs.ListedOrder.{listed_cmp, move_cmp, rank_cmp}
 use Rattle.move_core.specs.ListedOrderLaws.{listed_same, listed_total}
 use Rattle.move_core.specs.Rulebook.{Rulebook}
-use Rattle.move_core.specs.declared.contexts.Ctx.{Ctx}
 use Rattle.move_core.specs.declared.moves.Move.{Move}
 use Rattle.move_core.specs.declared.moves.Ranked.{Ranked}
 use Rattle.plan_search.specs.FirstWays.{StandsBefore}

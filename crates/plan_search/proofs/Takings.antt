@@ -1,12 +1,12 @@
 -- What stays true when a move is taken, a part is made, or a configuration is dropped.
-use Rattle.std.proofs.Common.{◌≡◌, ◌≢◌, ◌⊎◌, inl, inr, ℕ, ◌+◌, ◌<◌, ◌≤◌, List, [], ◌∷◌, ◌++◌, length, reverse, None, Some, refl, sym, ap, subst, ◌∙◌, arith}
+use Rattle.std.proofs.Common.{◌≡◌, ◌⊎◌, inl, inr, ◌<◌, List, [], ◌∷◌, ◌++◌, length, reverse, None, Some, refl, sym, ap, subst, ◌∙◌, arith}
 use Rattle.std.specs.List.{All, AllPairs, Contains}
 use Rattle.std.proofs.lemmas.List.Elements.{All-head, All-tail}
 use Rattle.conf_doc.specs.declared.configuration.Config.{Config}
 use Rattle.move_core.specs.Moves.{step}
 use Rattle.move_core.specs.declared.moves.Move.{Move}
-use Rattle.plan_search.specs.Problems.{Problem, IsLawful, IsPart, IsSimpleRoute, PrecedesLater, part_count}
-use Rattle.plan_search.specs.Searching.{AreAsked, Awaits, Begins, IsAsked, IsLeft, IsPassed, IsStanding, IsTrail, IsTrying, IsUnderWay, Waits, weight}
+use Rattle.plan_search.specs.Problems.{Problem, IsLawful, IsPart, PrecedesLater, part_count}
+use Rattle.plan_search.specs.Searching.{Awaits, Begins, IsAsked, IsLeft, IsPassed, IsStanding, IsTrail, IsTrying, IsUnderWay, Waits, weight}
 use Rattle.plan_search.specs.Stacks.{Spot, IsAfterTop, IsSpent, IsTop, but_first, next_spot, rest_length, rest_spot}
 use Rattle.plan_search.proofs.Members.{is_member, member_cases, no_member}
 use Rattle.plan_search.proofs.Pairs.{pairs_first, pairs_tail}

@@ -1,5 +1,5 @@
 -- A trail is a route from start, which passes the configurations of the stack.
-use Rattle.std.proofs.Common.{◌≡◌, ◌≢◌, ◌⊎◌, inl, inr, ℕ, suc, List, [], ◌∷◌, ◌++◌, length, reverse, refl, sym, ap, subst, ◌∙◌, append_assoc}
+use Rattle.std.proofs.Common.{◌≡◌, ◌≢◌, ◌⊎◌, inl, inr, suc, List, [], ◌∷◌, ◌++◌, length, reverse, refl, sym, ap, subst, ◌∙◌, append_assoc}
 use Rattle.std.proofs.lemmas.List.{append-nil, reverse-append}
 use Rattle.std.proofs.lemmas.List.Elements.{Contains-append_cases, Contains-append_left, Contains-append_right, Contains-get_or}
 use Rattle.std.proofs.lemmas.List.Quantifiers.{all_pairs_push}
@@ -9,11 +9,11 @@ use Rattle.move_core.specs.Moves.{step}
 use Rattle.move_core.specs.Ways.{IsSimple, passed}
 use Rattle.move_core.specs.declared.moves.Move.{Move}
 use Rattle.plan_search.specs.FirstWays.{IsBefore}
-use Rattle.plan_search.specs.Problems.{Problem, IsRoute, IsSimpleRoute}
+use Rattle.plan_search.specs.Problems.{Problem, IsRoute}
 use Rattle.plan_search.specs.Searching.{AreApart, Awaits, IsOn, IsTrail}
 use Rattle.plan_search.specs.Stacks.{Spot, but_first}
 use Rattle.plan_search.proofs.Members.{first_member, no_member, member_cases}
-use Rattle.plan_search.proofs.Orders.{after, after_push, parted_before, passed_append, prefix_before}
+use Rattle.plan_search.proofs.Orders.{after, parted_before, passed_append, prefix_before}
 use Rattle.plan_search.proofs.Pairs.{pairs_one}
 
 -- the first item of a list turned round stands last

@@ -1,4 +1,4 @@
-use Rattle.std.proofs.Common.{◌≡◌, ◌≢◌, [], ◌∷◌, length, refl, sym, ap, subst, ◌∙◌, arith, true≢false, Ok}
+use Rattle.std.proofs.Common.{◌≡◌, ◌≢◌, [], ◌∷◌, length, sym, ap, subst, ◌∙◌, arith, true≢false, Ok}
 use Rattle.plan_search.specs.Answers.{IsAnswer}
 use Rattle.plan_search.specs.Searching.{AreMet, IsUnderWay}
 use Rattle.plan_search.specs.Stacks.{new_spot, spots, taken}

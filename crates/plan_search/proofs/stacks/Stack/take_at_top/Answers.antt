@@ -1,4 +1,4 @@
-use Rattle.std.proofs.Common.{◌-◌, ◌<◌, length, take, ap, refl, ◌∙◌, arith}
+use Rattle.std.proofs.Common.{◌-◌, take, ap, refl, ◌∙◌, arith}
 use Rattle.std.proofs.lemmas.List.{length-map, length-reverse}
 use Rattle.plan_search.proofs.Frames.{top_taken}
 use Rattle.plan_search.proofs.stacks.Stack.take_at_top.Goals as goal
