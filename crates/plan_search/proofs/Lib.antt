@@ -1,10 +1,17 @@
 pub mod Adding
 pub mod Chains
+pub mod Ended
 pub mod Firsts
+pub mod Frames
 pub mod Gathered
 pub mod Kept
 pub mod Members
 pub mod Noted
+pub mod OneAnswer
+pub mod Orders
+pub mod Pairs
+pub mod Parts
+pub mod Positions
 pub mod Reached
 pub mod Routes
 pub mod Ruled

@@ -5,6 +5,7 @@ mod agreeing;
 mod asking;
 mod errors;
 mod expanding;
+mod laws;
 mod listing;
 mod met_set;
 mod move_keys;
@@ -17,6 +18,7 @@ mod stacks;
 mod steps;
 
 pub use errors::SearchError;
+pub use laws::{first_ways_are_least, searches_have_one_answer};
 pub use listing::listed;
 pub use planning::search;
 pub use steps::Steps;
