@@ -1,0 +1,6 @@
+mod Firsts
+mod LeafGroups
+mod Lists
+mod Moves
+mod TextMaps
+mod Walks
