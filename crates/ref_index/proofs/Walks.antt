@@ -1,6 +1,6 @@
 -- The wants of a configuration, one after another.
-use Rattle.std.proofs.Common.{◌≡◌, ◌⊎◌, ◌↔◌, Bool, true, false, inl, inr, ℕ, List, [], ◌∷◌, ◌++◌, Option, Some, None, slice_get, refl, sym, ap, ◌∙◌, subst, arith}
-use Rattle.std.proofs.lemmas.List.Elements.{Contains-append_left, Contains-push, Contains-push_cases}
+use Rattle.std.proofs.Common.{◌≡◌, ◌⊎◌, ◌↔◌, Bool, true, false, inl, inr, ℕ, List, [], ◌∷◌, ◌++◌, Option, Some, None, slice_get, sym, ap, ◌∙◌, subst, arith}
+use Rattle.std.proofs.lemmas.List.Elements.{Contains-append_left, Contains-push_cases}
 use Rattle.conf_doc.specs.declared.configuration.Config.{Config}
 use Rattle.conf_doc.proofs.Edits.{same_Some}
 use Rattle.yang_model.specs.ModelSets.{ModelSet}
@@ -10,7 +10,7 @@ use Rattle.conf_check.specs.Wants.{Want, IsNamed, IsWantAt, field_name, want_of}
 use Rattle.conf_check.specs.declared.want_iter.WantAt.{WantAt}
 use Rattle.conf_check.specs.declared.want_iter.WantIter.{WantIter}
 use Rattle.conf_check.specs.declared.want_iter.WantPlace.{WantPlace}
-use Rattle.ref_index.specs.PlaceMaps.{AreMissing, IsListed}
+use Rattle.ref_index.specs.PlaceMaps.{IsListed}
 use Rattle.ref_index.specs.Referrers.{HasWant, IsPlaceAt, place_of}
 use Rattle.ref_index.specs.declared.places.Place.{Place}
 
@@ -97,18 +97,7 @@ module _ (models : ModelSet) (config : Config) (at : WantAt) where
     | inr other_place ↦ other_place has.at
   ]
 
--- ---- which wants are missing
-
--- those that were looked at are listed, or the second configuration has them; the others are ahead
-pub record IsCollected (models : ModelSet) (first second : Config) (s : WantIter) (found : List WantAt) : Type 0 where
-  pub by : s.models.now ≡ models
-  pub of : s.config.now ≡ first
-  pub has : (w : Want) (p : Place) → IsListed found w p → HasWant models first w p
-  pub lacks : (w : Want) (p : Place) → IsListed found w p → ¬ HasWant models second w p
-  pub rest :
-      (position : WantPlace) (w : Want) → IsWantAt models first position w
-      → IsWantAhead s position w
-      ⊎ ((p : Place) → IsPlaceAt first position p → HasWant models second w p ⊎ IsListed found w p)
+-- ---- which wants are listed
 
 pub listed_before : (found : List WantAt) (a : WantAt) (w : Want) (p : Place) → IsListed found w p → IsListed (found ++ a ∷ []) w p
 listed_before found a w p l = record { at = l.at; there = Contains-append_left found (a ∷ []) l.at l.there; wants = l.wants; stands = l.stands }
@@ -122,78 +111,3 @@ listed_cases found a w p l = elim (Contains-push_cases found a l.at l.there) [
 
 pub none_listed : (w : Want) (p : Place) → ¬ IsListed [] w p
 none_listed w p l = let lt = l.there.1 in absurd (omega arith)
-
-module _ (models : ModelSet) (one two : Config) where
-  pub collecting_begins : (s : WantIter) → s.models.now ≡ models → s.config.now ≡ one
-      → ((p : WantPlace) (w : Want) → IsWantAt models one p w → IsWantAhead s p w) → (found : List WantAt) → found ≡ [] → IsCollected models one two s found
-  collecting_begins s by of ahead found empty = subst (IsCollected models one two s) (sym empty) (record {
-    by = by;
-    of = of;
-    has = λ w p l. absurd (none_listed w p l);
-    lacks = λ w p l. absurd (none_listed w p l);
-    rest = λ p w wanted. inl (ahead p w wanted);
-  })
-
-  module _ (s u : WantIter) (a : WantAt) (found : List WantAt) (walk : IsCollected models one two s found) (gives : GivesNextWant s (Some a) u) where
-    abbrev given : GivesFirst s a u
-    given = gives.gives
-
-    named_one : IsNamed one given.place a
-    named_one = subst (λ d. IsNamed d given.place a) walk.of given.named
-
-    wanted_one : IsWantAt models one given.place (want_of a.want)
-    wanted_one =
-        subst (λ d. IsWantAt models d given.place (want_of a.want)) walk.of
-        (subst (λ ms. IsWantAt ms s.config.now given.place (want_of a.want)) walk.by given.wanted.1)
-
-    goes_on : (new : List WantAt) → ((w : Want) (p : Place) → IsListed new w p → HasWant models one w p)
-        → ((w : Want) (p : Place) → IsListed new w p → ¬ HasWant models two w p) → ((w : Want) (p : Place) → IsListed found w p → IsListed new w p)
-        → HasWant models two (want_of a.want) (place_of a) ⊎ IsListed new (want_of a.want) (place_of a) → IsCollected models one two u new
-    goes_on new has lacks more this = record {
-      by = gives.models ∙ walk.by;
-      of = gives.config ∙ walk.of;
-      has = has;
-      lacks = lacks;
-      rest = λ position w is. elim (walk.rest position w is) [
-        | inl ahead ↦ elim (given.others position w ahead) [
-          | inl same ↦ inr (λ p stands.
-              let place : p ≡ place_of a = name_is one given.place a p named_one (subst (λ q. IsPlaceAt one q p) same.0 stands) in
-              subst (λ v. HasWant models two v p ⊎ IsListed new v p) (sym same.1)
-              (subst (λ q. HasWant models two (want_of a.want) q ⊎ IsListed new (want_of a.want) q) (sym place) this))
-          | inr later ↦ inl later
-        ]
-        | inr done ↦ inr (λ p stands. elim (done p stands) [ inl has ↦ inl has | inr l ↦ inr (more w p l) ])
-      ];
-    }
-
-    -- the second configuration has it
-    pub collecting_skips : HasWant models two (want_of a.want) (place_of a) → IsCollected models one two u found
-    collecting_skips this = goes_on found walk.has walk.lacks (λ w p l. l) (inl this)
-
-    -- it hasn't
-    pub collecting_pushes : ¬ HasWant models two (want_of a.want) (place_of a) → (new : List WantAt) → new ≡ found ++ a ∷ [] → IsCollected models one two u new
-    collecting_pushes none new is = subst (IsCollected models one two u) (sym is)
-        (goes_on (found ++ a ∷ [])
-        (λ w p l. elim (listed_cases found a w p l) [
-          | inl before ↦ walk.has w p before
-          | inr this ↦ subst (λ v. HasWant models one v p) (sym this.0) (subst (HasWant models one (want_of a.want)) (sym this.1) here)
-        ])
-        (λ w p l h. elim (listed_cases found a w p l) [
-          | inl before ↦ walk.lacks w p before h
-          | inr this ↦ none (subst (λ v. HasWant models two v (place_of a)) this.0 (subst (HasWant models two w) this.1 h))
-        ])
-        (listed_before found a)
-        (inr (record { at = a; there = Contains-push found a; wants = refl; stands = refl })))
-      where
-        here : HasWant models one (want_of a.want) (place_of a)
-        here = record { position = given.place; at = named_at one given.place a named_one; wanted = wanted_one }
-
-  pub collecting_ends : (s u : WantIter) (found : List WantAt) → IsCollected models one two s found → GivesNextWant s None u → AreMissing models one two found
-  collecting_ends s u found walk gives = record {
-    has = walk.has;
-    lacks = walk.lacks;
-    all = λ w p has. elim (walk.rest has.position w has.wanted) [
-      | inl ahead ↦ absurd (gives.gives.0 has.position w ahead)
-      | inr done ↦ done p has.at
-    ];
-  }

@@ -2,4 +2,5 @@
 pub mod Referrers
 -- What only the index and private clauses cite.
 pub mod Codes
+pub mod EntryPairs
 pub mod PlaceMaps

@@ -100,8 +100,8 @@ impl RefIndex {
         Ok(index)
     }
 
-    /// Makes it the index of another configuration, at the cost of what differs. Without memory it stays
-    /// as it was. The models are those that it was built with.
+    /// Makes it the index of another configuration. Where both have the same keys, only entries that differ
+    /// are looked at. Without memory it stays as it was. The models are those that it was built with.
     pub fn move_to(&mut self, alloc: Global, models: &Models, next: &Config) -> Result<(), Memory>
         requires { self.old.models ≡ models.now }
         ensures ok { OnOk result

@@ -1,34 +1,14 @@
-use Rattle.std.proofs.Common.{subst, sym}
-use Rattle.ref_index.proofs.Walks.{IsCollected, collecting_begins, collecting_ends, collecting_pushes, collecting_skips, not_so}
+use Rattle.std.proofs.Common.{[], arith}
+use Rattle.ref_index.proofs.Collecting.{adds_all, adds_next}
 use Rattle.ref_index.proofs.differences.missing_wants.Goals as goal
 
-pub loop-at-init : goal.loop-at-init
-loop-at-init c = (
-  tt,
-  tt,
-  subst (λ s. IsCollected c.args.models.now c.args.first.now c.args.second.now s c.new-found.result.items) (sym c.into_iter-at-iterator.ensures.into_iter_gives)
-      (collecting_begins c.args.models.now c.args.first.now c.args.second.now c.wants-at-items.result
-      c.wants-at-items.ensures.models c.wants-at-items.ensures.config c.wants-at-items.ensures.ahead c.new-found.result.items c.new-found.ensures.items),
-)
-
-pub loop-at-preserved-then-has_want : goal.loop-at-preserved-then-has_want
-loop-at-preserved-then-has_want c = (
-  tt,
-  tt,
-  collecting_skips c.args.models.now c.args.first.now c.args.second.now c.loop-at.at-iterator c.next.new.self c.in-Some.at
-      c.loop-at.found.items c.loop-at.invariant.2 c.in-Some.ensures.steps (c.has_want.ensures.0 c.if-has_want.true),
-)
-
-pub loop-at-preserved : goal.loop-at-preserved
-loop-at-preserved c = (
-  tt,
-  tt,
-  collecting_pushes c.args.models.now c.args.first.now c.args.second.now c.loop-at.at-iterator c.next.new.self c.in-Some.at
-      c.loop-at.found.items c.loop-at.invariant.2 c.in-Some.ensures.steps (not_so c.has_want.result c.if-has_want.false c.has_want.ensures)
-      c.push.new.self.items c.in_ok-push.ensures.items,
-)
+pub loop-t-preserved : goal.loop-t-preserved
+loop-t-preserved c =
+    adds_next c.args.models.now c.args.first.now c.args.second.now c.loop-t.t [] c.loop-t.found.items c.add_of_table.new.found.items
+    c.loop-t.invariant c.in_ok-add_of_table.ensures
 
 pub returns : goal.returns
 returns c =
-    collecting_ends c.args.models.now c.args.first.now c.args.second.now c.loop-at.at-iterator c.next.new.self c.loop-at.found.items
-    c.loop-at.invariant.2 c.in-None.ensures.steps
+    let end = c.len-t-end.ensures.len in
+    let past = c.loop-t-test.false in
+    adds_all c.args.models.now c.args.first.now c.args.second.now c.loop-t.t c.loop-t.found.items (omega (arith, end, past)) c.loop-t.invariant

@@ -1,8 +1,6 @@
-use Rattle.ref_index.proofs.Walks.{IsCollected}
+use Rattle.std.proofs.Common.{[]}
+use Rattle.ref_index.specs.EntryPairs.{Adds, IsOfEarlier}
 use Rattle.ref_index.proofs.differences.missing_wants.Given as goal
 
-abbrev pub invariant-loop-at : goal.invariant-loop-at
-invariant-loop-at l =
-    (goal.iterator-loop-at).can_next l.at-iterator
-    × (goal.iterator-loop-at).is_finite l.at-iterator
-    × IsCollected l.models l.first l.second l.at-iterator l.found.items
+abbrev pub invariant-loop-t : goal.invariant-loop-t
+invariant-loop-t l = Adds l.models l.first l.second (IsOfEarlier l.t) [] l.found.items
