@@ -1,0 +1,9 @@
+mod Aligned
+mod Collecting
+mod Firsts
+mod LeafGroups
+mod Lists
+mod Moves
+mod SameEntries
+mod TextMaps
+mod Walks

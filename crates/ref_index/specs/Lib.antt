@@ -1,0 +1,6 @@
+-- What public clauses cite.
+pub mod Referrers
+-- What only the index and private clauses cite.
+pub mod Codes
+pub mod EntryPairs
+pub mod PlaceMaps

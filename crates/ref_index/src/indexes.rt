@@ -1,0 +1,137 @@
+//! The index of referrers of a configuration.
+ghost use Rattle.std.specs.Prelude.{◌≡◌, IfOk, OnOk, OnErr};
+ghost use Rattle.ref_index.specs.PlaceMaps.{IsMapOf, PutsAll, PutsSome, TakesAll};
+ghost use Rattle.ref_index.specs.Referrers.{AreReferrers, want_for};
+
+use crate::differences::missing_wants;
+use crate::place_maps::PlaceMap;
+use crate::places::Place;
+use conf_check::{Want, WantAt};
+use conf_doc::Config;
+use host_core::Memory;
+use std::alloc::Global;
+use std::marker::Model;
+use std::snapshot::Snapshot;
+use yang_model::Models;
+
+/// The places of a configuration by what they want. Contracts see the models that it was built with and the
+/// configuration. Of the models nothing is kept.
+#[derive(Drop)]
+pub struct RefIndex {
+    models: Snapshot<Models>,
+    config: Config,
+    places: PlaceMap,
+}
+
+impl Model for RefIndex {
+    ghost use Rattle.ref_index.specs.Referrers.{Indexed};
+
+    ghost Value = { Indexed };
+
+    ghost use Rattle.ref_index.specs.Codes.{coded_indexed};
+
+    ghost coded = { coded_indexed };
+
+    ghost use Rattle.ref_index.specs.PlaceMaps.{IsMapOf};
+
+    ghost view = { λ ix. record { models = ix.models.value; config = ix.config } };
+
+    ghost invariant = { λ ix. IsMapOf ix.models.value ix.config ix.places };
+}
+
+/// Takes the places of some wants out.
+fn take_all(places: &mut PlaceMap, wants: &[WantAt])
+    ensures { TakesAll wants.now places.old places.new }
+{
+    for at in wants {
+        places.take(at);
+    }
+}
+
+/// Adds the places of some wants. Without memory it leaves some of them added.
+fn put_all(alloc: Global, places: &mut PlaceMap, wants: &[WantAt]) -> Result<(), Memory>
+    ensures ok { OnOk result (PutsAll wants.now places.old places.new) }
+    ensures err { OnErr result (PutsSome wants.now places.old places.new) }
+{
+    for at in wants {
+        places.put(alloc, at)?;
+    }
+    Ok(())
+}
+
+/// Makes the map of a configuration that of another one: what is new is added first, and where that fails it
+/// is taken out again.
+fn move_places(
+    alloc: Global,
+    models: &Models,
+    config: &Config,
+    next: &Config,
+    places: &mut PlaceMap,
+) -> Result<(), Memory>
+    requires { IsMapOf models.now config.now places.old }
+    ensures ok { OnOk result (IsMapOf models.now next.now places.new) }
+    ensures err { OnErr result (IsMapOf models.now config.now places.new) }
+{
+    let gone = missing_wants(alloc, models, config, next)?;
+    let come = missing_wants(alloc, models, next, config)?;
+    match put_all(alloc, places, come.as_slice()) {
+        Ok(()) => {
+            take_all(places, gone.as_slice());
+            Ok(())
+        }
+        Err(error) => {
+            take_all(places, come.as_slice());
+            Err(error)
+        }
+    }
+}
+
+impl RefIndex {
+    /// The index of a configuration.
+    pub fn build(alloc: Global, models: &Models, config: &Config) -> Result<RefIndex, Memory>
+        ensures { IfOk result (λ ix. ix ≡ record { models = models.now; config = config.now }) }
+    {
+        let mut index = RefIndex {
+            models: Snapshot::of(models),
+            config: Config::new(alloc),
+            places: PlaceMap::new(alloc),
+        };
+        index.move_to(alloc, models, config)?;
+        Ok(index)
+    }
+
+    /// Makes it the index of another configuration. Where both have the same keys, only entries that differ
+    /// are looked at. Without memory it stays as it was. The models are those that it was built with.
+    pub fn move_to(&mut self, alloc: Global, models: &Models, next: &Config) -> Result<(), Memory>
+        requires { self.old.models ≡ models.now }
+        ensures ok { OnOk result
+            (self.new ≡ record { models = self.old.models; config = next.now }) }
+        ensures err { OnErr result (self.new ≡ self.old) }
+    {
+        let config = next.copy(alloc)?;
+        move_places(alloc, models, &self.config, next, &mut self.places)?;
+        self.config = config;
+        Ok(())
+    }
+
+    /// The places that want a text as a part, counted from 0, of the keys of a shape of a table. It takes
+    /// no memory.
+    pub fn referrers(&self, table: &str, shape: u32, part: u32, text: &str) -> &[Place]
+        ensures { let want = want_for table.now shape part text.now in
+            AreReferrers self.now.models self.now.config want result.now }
+    {
+        self.places.places(&Want {
+            table,
+            shape,
+            part,
+            text,
+        })
+    }
+
+    /// The configuration. It takes no memory.
+    pub fn config(&self) -> &Config
+        ensures { result.now ≡ self.now.config }
+    {
+        &self.config
+    }
+}

@@ -1,0 +1,11 @@
+//! The index of referrers: for each want of a configuration, the places that have it.
+#![tactic(auto)]
+
+mod differences;
+mod groups;
+mod indexes;
+mod place_maps;
+mod places;
+
+pub use indexes::RefIndex;
+pub use places::Place;
