@@ -19,11 +19,7 @@ use std::alloc::Global;
 const FILE_LIMIT: u64 = 4_194_304;
 
 /// The configuration that the input at a path holds.
-pub(crate) fn file_goal<H: Host>(
-    alloc: Global,
-    path: &Txt,
-    host: &mut H,
-) -> Result<Config, Outcome>
+pub(crate) fn file_goal<H: Host>(alloc: Global, path: &Txt, host: &mut H) -> Result<Config, Outcome>
     ensures answer { Finds (H.told host.old) (λ c. c) result (file_asked path.now) }
     ensures told { H.told host.new ≡ H.told host.old }
     ensures counts { InputMayRise (H.counts host.old) (H.counts host.new) }

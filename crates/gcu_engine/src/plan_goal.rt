@@ -62,7 +62,7 @@ pub(crate) fn read_goal<H: Host>(
     host: &mut H,
 ) -> Result<Config, Outcome>
     requires longest { longest_scoped_name ≤ H.longest_name }
-    requires named { HasGoodName (target_view target.entry) }
+    requires named { HasGoodName (target_view target) }
     ensures answer { Finds (H.told host.old) (λ c. c) result
         (goal_asked (target_view target.entry) ctx.now start.now) }
     ensures valid { IfOk result (IsValidIn ctx.now) }
@@ -87,7 +87,7 @@ fn make_goal<H: Host>(
     host: &mut H,
 ) -> Result<Config, Outcome>
     requires longest { longest_scoped_name ≤ H.longest_name }
-    requires named { HasGoodName (target_view target.entry) }
+    requires named { HasGoodName (target_view target) }
     ensures answer { Finds (H.told host.old) (λ c. c) result
         (made_asked (target_view target.entry) start.now) }
     ensures told { H.told host.new ≡ H.told host.old }

@@ -67,7 +67,7 @@ fn prepare<H: Host>(
     host: &mut H,
 ) -> Result<Planning, Outcome>
     requires longest { longest_scoped_name ≤ H.longest_name }
-    requires named { HasGoodName (target_view target.entry) }
+    requires named { HasGoodName (target_view target) }
     requires budget { 0 < budget }
     ensures answer { Finds (H.told host.old) request_of result
         (plan_asked (target_view target.entry) budget) }

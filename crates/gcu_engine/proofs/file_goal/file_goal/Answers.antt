@@ -13,7 +13,7 @@ returns-in_err-bytes-clause-answer g c =
 pub returns-clause-answer : goal.returns-clause-answer
 returns-clause-answer g c =
     file_found (g.H.Host.told c.args.host.now) c.args.path.now c.in_ok-bytes.bytes c.find_config.result
-    c.in_ok-bytes.ensures.answer c.find_config.ensures.answer c.find_config.ensures.cause
+    c.in_ok-bytes.ensures.answer (rw c.items.ensures at c.find_config.ensures.answer) c.find_config.ensures.cause
 
 pub returns-clause-cause : goal.returns-clause-cause
 returns-clause-cause g c = always_refuses c.find_config.result (g.H.Host.counts c.args.host.now) (g.H.Host.counts c.input_bytes.new.host) c.find_config.ensures.cause
