@@ -13,10 +13,11 @@ use Rattle.patch_core.specs.Operation.{operations}
 use Rattle.patch_core.specs.declared.patches.Patch.{Patch}
 use Rattle.yang_model.specs.ModelSets.{ModelSet}
 use Rattle.gcu_engine.specs.Answers.{HasCause}
-use Rattle.gcu_engine.specs.Asking.{Asking, follows_by}
+use Rattle.gcu_engine.specs.Asking.{Asking, follows, follows_by}
+use Rattle.gcu_engine.specs.FileAsked.{config_found, file_asked, file_limit}
 use Rattle.gcu_engine.specs.ModelFiles.{bytes_asked, models_asked}
 use Rattle.gcu_engine.specs.PatchAsked.{patch_asked, target}
-use Rattle.gcu_engine.specs.PlanAsked.{HasKeys, IsElsewhereAs, IsValidOr, goal_asked, made_asked, plan_asked, start_asked}
+use Rattle.gcu_engine.specs.PlanAsked.{HasKeys, IsElsewhereAs, IsValidOr, dry_run_asked, goal_asked, made_asked, plan_asked, start_asked, target_answer}
 use Rattle.gcu_engine.specs.PlanCommands.{IsSolved, RefusesOrEnds, SaysPlan, request_of}
 use Rattle.plan_options.specs.Targets.{Target, patched}
 use Rattle.gcu_engine.specs.Preparing.{Finds, IsRightBy, Refuses, RefusesAlways, refusal}
@@ -107,6 +108,19 @@ made_found (Some s) path start patch r h gives always =
     then_found operations self patch r (patch_asked path s) _ h
     (found_always self r (target (operations patch) start) _ (λ q same. same) gives always)
 
+-- there is no file
+pub no_file : (o : Option State) (path : List ℕ) (e : Outcome) → Finds {X = List ℕ} o self (Err e) (bytes_asked path file_limit)
+    → Finds {X = Config} o self (Err e) (file_asked path)
+no_file None path e h = tt
+no_file (Some s) path e h = first_refused self self e (bytes_asked path file_limit s) _ h
+
+-- what the file holds
+pub file_found : (o : Option State) (path bytes : List ℕ) (r : Result Config Outcome) → Finds o self (Ok bytes) (bytes_asked path file_limit)
+    → Gives self refusal r (config_found path bytes) → IfErr r RefusesAlways → Finds o self r (file_asked path)
+file_found None path bytes r h gives always = tt
+file_found (Some s) path bytes r h gives always =
+    then_found self self bytes r (bytes_asked path file_limit s) _ h (found_always self r (config_found path bytes) _ (λ q same. same) gives always)
+
 module _ (o : Option State) (from : Target) (ctx : Ctx) (start : Config) where
   -- nothing is made
   pub no_goal : (e : Outcome) → Finds {X = Config} o self (Err e) (made_asked from start) → Finds {X = Config} o self (Err e) (goal_asked from ctx start)
@@ -189,6 +203,24 @@ planning_found (Some s) from budget p same h f g =
       gives = ap (λ n. Ok (request.plan (record { ctx = p.ctx; start = p.start; goal = p.goal; budget = n }))) (sym same);
       stands = tt;
     })))
+
+-- ---- the name
+
+-- the target is by a name that no checkpoint has
+pub no_named : (o : Option State) (from : Target) (budget : ℕ) (e : Outcome) → Gives {X = Unit {0}} (λ u. from) refusal (Err e) (target_answer from)
+    → RefusesAlways e → Finds {X = code.Planning} o request_of (Err e) (dry_run_asked from budget)
+no_named None from budget e gives always = tt
+no_named (Some s) from budget e gives always =
+    first_refused {X = Unit {0}} (λ u. from) request_of e (follows (target_answer from)) _
+    (found_always {X = Unit {0}} (λ u. from) (Err e) (target_answer from) _ (λ q same. same) gives always)
+
+-- it isn't
+pub named_found : (o : Option State) (from : Target) (budget : ℕ) (u : Unit {0}) (r : Result code.Planning Outcome) → Gives (λ v. from) refusal (Ok u) (target_answer from)
+    → Finds o request_of r (plan_asked from budget) → Finds o request_of r (dry_run_asked from budget)
+named_found None from budget u r gives h = tt
+named_found (Some s) from budget u r gives h =
+    then_found (λ v. from) request_of u r (follows (target_answer from)) _
+    (found_always (λ v. from) (Ok u) (target_answer from) _ (λ q same. same) gives tt) h
 
 -- ---- what is said
 

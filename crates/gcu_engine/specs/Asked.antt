@@ -1,28 +1,24 @@
 -- What words ask of a host that tells its state: the first refusal in its order, or the request.
-use Rattle.std.specs.Prelude.{ℕ, List, if◌then◌else◌, Option, Some, None, Result, Ok, Err}
+use Rattle.std.specs.Prelude.{ℕ, List, Option, Some, None, Result, Ok, Err}
 use Rattle.std.specs.FinMap.{get, keys}
 use Rattle.host_core.specs.Answers.{map_ok}
 use Rattle.host_core.specs.State.{State}
 use Rattle.conf_doc.specs.declared.configuration.Config.{Config}
-use Rattle.checkpoints.specs.Names.{is_good_name}
 use Rattle.checkpoints.specs.Points.{Held, points}
 use Rattle.gcu_engine.specs.Asking.{Asking, a_file, asks, follows, settles_first, ◌>>>◌}
 use Rattle.gcu_engine.specs.Checking.{check_asked}
 use Rattle.gcu_engine.specs.Form.{Form, check, delete_checkpoint, form, list_checkpoints, plan, preview, save_checkpoint}
 use Rattle.gcu_engine.specs.PatchAsked.{patch_asked, target}
-use Rattle.gcu_engine.specs.PlanAsked.{plan_asked}
+use Rattle.gcu_engine.specs.PlanAsked.{dry_run_asked}
+use Rattle.gcu_engine.specs.PointAsked.{name_answer}
 use Rattle.gcu_engine.specs.Request as request
 use Rattle.gcu_engine.specs.Request.{Request}
 use Rattle.gcu_engine.specs.StoredAsked.{stored_asked}
 use Rattle.gcu_engine.specs.declared.outcomes.Outcome.{Outcome}
-use Rattle.gcu_engine.specs.declared.outcomes.Outcome.TheVariants.{Usage, NoCheckpoint, CheckpointExists, BadName}
+use Rattle.gcu_engine.specs.declared.outcomes.Outcome.TheVariants.{Usage, NoCheckpoint, CheckpointExists}
 use Rattle.gcu_engine.specs.declared.outcomes.PointWhy.TheVariants as why
 
 -- ---- checkpoints
-
--- a name that no checkpoint has is refused
-abbrev pub name_answer : List ℕ → Result (List ℕ) Outcome
-name_answer name = if is_good_name name then Ok name else Err (BadName name)
 
 -- a checkpoint that isn't there is refused, whatever one that is there holds
 abbrev pub there_answer : List ℕ → Option Held → Result (List ℕ) Outcome
@@ -85,7 +81,7 @@ form_asked (Some check) s = check_asked s
 form_asked (Some list_checkpoints) s = list_asked s
 form_asked (Some (save_checkpoint name)) s = save_asked name s
 form_asked (Some (delete_checkpoint name)) s = delete_asked name s
-form_asked (Some (plan goal budget)) s = plan_asked goal budget s
+form_asked (Some (plan goal budget)) s = dry_run_asked goal budget s
 
 -- what the words ask of a host in this state
 abbrev pub asked : List (List ℕ) → State → Asking Request

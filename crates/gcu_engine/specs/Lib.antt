@@ -3,12 +3,14 @@ pub mod Answers
 pub mod Asked
 pub mod Asking
 pub mod Checking
+pub mod FileAsked
 pub mod Form
 pub mod Lines
 pub mod ModelFiles
 pub mod PatchAsked
 pub mod PlanAsked
 pub mod Plannings
+pub mod PointAsked
 pub mod Request
 pub mod RulesAsked
 pub mod StoredAsked

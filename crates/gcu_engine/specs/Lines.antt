@@ -15,7 +15,7 @@ use Rattle.move_core.specs.declared.errors.RulesWhy.TheVariants as rules_file
 use Rattle.yang_text.specs.declared.errors.ModelWhy.{ModelWhy}
 use Rattle.yang_text.specs.declared.errors.ModelWhy.TheVariants as models
 use Rattle.gcu_engine.specs.declared.outcomes.Outcome.{Outcome}
-use Rattle.gcu_engine.specs.declared.outcomes.Outcome.TheVariants.{Done, Memory, Usage, InputFault, DiskFault, PrintFault, NoInput, TooBig, BadJson, BadModels, BadRules, BadPatch, PatchFailed, TargetShape, CurrentInvalid, TargetInvalid, NoModel, EmptyTable, Unorderable, Budget, NoCheckpoint, CheckpointExists, BadName, BadStored}
+use Rattle.gcu_engine.specs.declared.outcomes.Outcome.TheVariants.{Done, Memory, Usage, InputFault, DiskFault, PrintFault, NoInput, TooBig, BadJson, BadConfig, BadModels, BadRules, BadPatch, PatchFailed, TargetShape, CurrentInvalid, TargetInvalid, NoModel, EmptyTable, Unorderable, Budget, NoCheckpoint, CheckpointExists, BadName, BadStored}
 use Rattle.gcu_engine.specs.declared.outcomes.PointWhy.{PointWhy}
 use Rattle.gcu_engine.specs.declared.outcomes.PointWhy.TheVariants as point
 
@@ -30,6 +30,7 @@ number (PrintFault step) = 5
 number (NoInput path) = 7
 number (TooBig path limit) = 8
 number (BadJson path) = 9
+number (BadConfig path place) = 10
 number (BadModels file line why) = 11
 number (BadRules why) = 12
 number (BadPatch index why) = 13
@@ -140,6 +141,7 @@ said (PrintFault step) = codes "print fault after " ++ decimal step
 said (NoInput path) = codes "no input " ++ quoted path
 said (TooBig path limit) = codes "too big " ++ quoted path ++ space ++ decimal limit
 said (BadJson path) = codes "bad json " ++ quoted path
+said (BadConfig path place) = codes "bad config " ++ quoted path ++ space ++ quoted place
 said (BadModels file line why) =
     codes "bad models " ++ quoted file ++ space ++ decimal line ++ space ++ model_why why
 said (BadRules why) = codes "bad rules " ++ rules_why why

@@ -1,5 +1,6 @@
 -- What a command that plans asks: by what moves are judged, a valid start, and a goal that a plan may have.
 use Rattle.std.specs.Prelude.{◌≡◌, ℕ, List, Result, Ok, Err}
+use Rattle.host_core.specs.Answers.{map_ok}
 use Rattle.host_core.specs.State.{State}
 use Rattle.conf_doc.specs.declared.configuration.Config.{Config}
 use Rattle.conf_check.specs.declared.violations.Rule.{Rule}
@@ -8,8 +9,10 @@ use Rattle.move_core.specs.declared.contexts.Ctx.{Ctx}
 use Rattle.plan_targets.specs.Targets.{HasNoEmptyTable, IsFirstDifference, IsFirstEmpty}
 use Rattle.gcu_engine.specs.Asking.{Asking, follows, follows_by, ◌>>>◌}
 use Rattle.gcu_engine.specs.Checking.{IsInvalidAs}
+use Rattle.gcu_engine.specs.FileAsked.{file_asked}
 use Rattle.gcu_engine.specs.PatchAsked.{patch_asked, target}
-use Rattle.plan_options.specs.Targets.{Target, patched}
+use Rattle.gcu_engine.specs.PointAsked.{held_asked, name_answer}
+use Rattle.plan_options.specs.Targets.{Target, patched, replaced, rolled_back}
 use Rattle.gcu_engine.specs.Request.{Request, plan}
 use Rattle.gcu_engine.specs.RulesAsked.{ctx_asked}
 use Rattle.gcu_engine.specs.StoredAsked.{stored_asked}
@@ -33,6 +36,8 @@ start_asked ctx s =
 -- what the target makes of the start
 abbrev pub made_asked : Target → Config → State → Asking Config
 made_asked (patched path) start s = patch_asked path s >>> λ ops. follows (target ops start)
+made_asked (replaced path) start s = file_asked path s
+made_asked (rolled_back name) start s = held_asked name s
 
 -- the same as the start on all tables without a model, or the first one that differs is refused
 abbrev pub IsElsewhereAs : Ctx → Config → Config → Result (Unit {0}) Outcome → Type 0
@@ -62,3 +67,15 @@ plan_asked from budget s =
     start_asked ctx s >>> λ start.
     goal_asked from ctx start s >>> λ goal.
     follows (Ok (plan (record { ctx = ctx; start = start; goal = goal; budget = budget })))
+
+-- a target by a name that no checkpoint has is refused
+abbrev pub target_answer : Target → Result Target Outcome
+target_answer (patched path) = Ok (patched path)
+target_answer (replaced path) = Ok (replaced path)
+target_answer (rolled_back name) = map_ok rolled_back (name_answer name)
+
+-- the same where the plan is only printed: a name is looked at before anything is read
+abbrev pub dry_run_asked : Target → ℕ → State → Asking Request
+dry_run_asked word budget s =
+    follows (target_answer word) >>> λ from.
+    plan_asked from budget s

@@ -1,10 +1,12 @@
 -- What the parts of a command that plans give.
-use Rattle.std.specs.Prelude.{◌<◌, List, ◌++◌, Result, Ok, Err, ⊤}
+use Rattle.std.specs.Prelude.{◌≡◌, ◌<◌, true, List, ◌++◌, Result, Ok, Err, ⊤}
 use Rattle.host_core.specs.Counts.{Counts}
 use Rattle.host_core.specs.State.{State}
+use Rattle.checkpoints.specs.Names.{is_good_name}
 use Rattle.move_core.specs.Contexts.{AgreeElsewhere, IsNamed, IsValidIn}
 use Rattle.move_core.specs.Operations.{plan_text}
 use Rattle.move_core.specs.declared.moves.Move.{Move}
+use Rattle.plan_options.specs.Targets.{Target, rolled_back}
 use Rattle.gcu_engine.specs.Answers.{Says}
 use Rattle.gcu_engine.specs.Asking.{Asking}
 use Rattle.gcu_engine.specs.Lines.{last_line}
@@ -15,6 +17,11 @@ use Rattle.gcu_engine.specs.Request.{Request}
 use Rattle.gcu_engine.specs.declared.planning.Planning.{Planning}
 use Rattle.gcu_engine.specs.declared.outcomes.Outcome.{Outcome}
 use Rattle.gcu_engine.specs.declared.outcomes.Outcome.TheVariants.{Done, Memory, Unorderable, Budget}
+
+-- where the target is a checkpoint, its name is good
+abbrev pub HasGoodName : Target → Type 0
+HasGoodName (rolled_back name) = is_good_name name ≡ true
+HasGoodName other = ⊤
 
 -- what was read for a plan, as a request has it
 abbrev pub planning_of : Planning → request.Planning

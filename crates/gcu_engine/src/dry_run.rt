@@ -1,4 +1,5 @@
-//! `gcu apply-patch PATCH --dry-run`: the plan by which the patch would be done.
+//! `gcu apply-patch PATCH --dry-run`, and `replace FILE` and `rollback NAME` so: the plan by which it would be
+//! done.
 ghost use Rattle.std.specs.Prelude.{◌≡◌, ◌≤◌, ◌<◌};
 ghost use Rattle.host_core.specs.Counts.{NoneFell};
 ghost use Rattle.host_core.specs.Crashes.{LeavesOnly};
@@ -6,7 +7,7 @@ ghost use Rattle.host_core.specs.Names.{longest_scoped_name};
 ghost use Rattle.gcu_engine.specs.Answers.{HasCause};
 ghost use Rattle.gcu_engine.specs.Commands.{AnswersTo, CompleteTo, LeftTo};
 ghost use Rattle.plan_options.specs.Views.{target_view};
-ghost use Rattle.gcu_engine.specs.PlanAsked.{plan_asked};
+ghost use Rattle.gcu_engine.specs.PlanAsked.{dry_run_asked};
 ghost use Rattle.gcu_engine.specs.declared.outcomes.Outcome.TheVariants.{Usage as usage};
 
 use crate::Outcome;
@@ -29,15 +30,15 @@ pub(crate) fn dry_run<H: Host>(
     requires kinds { ⟦<Kit as Boxes>⟧.HasKinds kit.old }
     requires budget { 0 < budget }
     ensures kinds { ⟦<Kit as Boxes>⟧.HasKinds kit.new }
-    ensures answers { AnswersTo (plan_asked (target_view target.entry) budget)
+    ensures answers { AnswersTo (dry_run_asked (target_view target.entry) budget)
         (H.told host.old) (H.told host.new) (H.counts host.old) (H.counts host.new) result }
     ensures cause { HasCause (H.counts host.old) (H.counts host.new) result }
     ensures counts { NoneFell (H.counts host.old) (H.counts host.new) }
     ensures crash { LeavesOnly H.moment H.left_since host.old host.new
-        (LeftTo (plan_asked (target_view target.entry) budget) (H.told host.old)) }
+        (LeftTo (dry_run_asked (target_view target.entry) budget) (H.told host.old)) }
     ensures goes { H.goes_on host.old host.new }
     ensures form { result ≡ usage → ⊥ }
-    ensures complete { CompleteTo (plan_asked (target_view target.entry) budget)
+    ensures complete { CompleteTo (dry_run_asked (target_view target.entry) budget)
         (H.told host.old) (H.counts host.old) (H.counts host.new) result }
 {
     match solve(alloc, target, budget, kit, host) {

@@ -2,8 +2,10 @@
 #![tactic(auto)]
 
 mod check;
+mod checkpoint_goal;
 mod delete_checkpoint;
 mod dry_run;
+mod file_goal;
 mod form;
 mod inputs;
 mod judging;
@@ -13,6 +15,7 @@ mod list_checkpoints;
 mod model_files;
 mod models;
 mod outcomes;
+mod patch_goal;
 mod plan_goal;
 mod planning;
 mod preview;

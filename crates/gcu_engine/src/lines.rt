@@ -61,6 +61,11 @@ fn said(alloc: Global, outcome: &Outcome) -> Result<String, AllocError>
             let path = quoted(alloc, path.as_str())?;
             format!(in alloc; "bad json {path}")
         }
+        Outcome::BadConfig { path, place } => {
+            let path = quoted(alloc, path.as_str())?;
+            let place = quoted(alloc, place.as_str())?;
+            worded(alloc, "bad config ", path.as_str(), place.as_str())
+        }
         Outcome::BadModels { file, line, why } => {
             let file = quoted(alloc, file.as_str())?;
             let why = model_why_name(*why);

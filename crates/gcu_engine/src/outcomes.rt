@@ -39,6 +39,8 @@ pub enum Outcome {
     TooBig { path: Txt, limit: u64 },
     /// The input is no JSON text.
     BadJson { path: Txt },
+    /// The file of a configuration holds none: the first fault is at this place, an RFC 6901 pointer.
+    BadConfig { path: Txt, place: Txt },
     /// The list of the files of models, or one of these files, isn't of its profile, on that line.
     BadModels { file: Txt, line: u32, why: ModelWhy },
     /// The rules file isn't of its form.
@@ -86,6 +88,7 @@ impl Outcome {
             Outcome::NoInput { .. } => 7,
             Outcome::TooBig { .. } => 8,
             Outcome::BadJson { .. } => 9,
+            Outcome::BadConfig { .. } => 10,
             Outcome::BadModels { .. } => 11,
             Outcome::BadRules { .. } => 12,
             Outcome::BadPatch { .. } => 13,

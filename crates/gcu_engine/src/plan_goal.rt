@@ -1,27 +1,56 @@
-//! The goal of a plan: what the target makes of the start, where a plan may end with that.
-ghost use Rattle.std.specs.Prelude.{◌≡◌, IfErr, IfOk, OnOk};
+//! The goal of a plan: what the target makes of the start, where a plan may end with that. It is the same for
+//! all commands that plan but for where the target comes from, which has a file of its own for each of them.
+ghost use Rattle.std.specs.Prelude.{◌≡◌, ◌≤◌, true, IfErr, IfOk, OnOk};
 ghost use Rattle.host_core.specs.Answers.{Gives};
-ghost use Rattle.host_core.specs.Counts.{InputMayRise};
+ghost use Rattle.host_core.specs.Counts.{NoneFell};
 ghost use Rattle.host_core.specs.Crashes.{Elapses, MayLeaveNow};
-ghost use Rattle.conf_doc.specs.Trees.{document};
+ghost use Rattle.host_core.specs.Names.{longest_scoped_name};
 ghost use Rattle.move_core.specs.Contexts.{AgreeElsewhere, IsValidIn};
-ghost use Rattle.patch_core.specs.Operation.{operations};
+ghost use Rattle.checkpoints.specs.Names.{is_good_name as is_name};
 ghost use Rattle.plan_options.specs.Views.{target_view};
-ghost use Rattle.gcu_engine.specs.PatchAsked.{target, target_in, target_shape};
-ghost use Rattle.gcu_engine.specs.PlanAsked.{HasKeys, IsElsewhereAs, goal_asked, made_asked};
+ghost use Rattle.gcu_engine.specs.PlanAsked.{HasKeys, IsElsewhereAs, goal_asked, made_asked, target_answer};
+ghost use Rattle.gcu_engine.specs.PlanCommands.{HasGoodName};
+ghost use Rattle.gcu_engine.specs.PointAsked.{name_answer};
 ghost use Rattle.gcu_engine.specs.Preparing.{Finds, IsRightBy, Refuses, RefusesAlways, refusal};
-ghost use Rattle.conf_doc.specs.Shaping.{shaping};
 
 use crate::Outcome;
+use crate::checkpoint_goal::checkpoint_goal;
+use crate::file_goal::file_goal;
 use crate::judging::{End, judge};
-use crate::preview::input_patch;
-use conf_doc::{Config, ShapeError, Tree, config_of_tree, tree_of};
+use crate::patch_goal::patch_goal;
+use checkpoints::is_good_name;
+use conf_doc::Config;
 use host_core::{Host, Txt};
 use move_core::Ctx;
-use patch_core::{ApplyError, Patch, apply_owned};
 use plan_options::{Source, Target};
 use plan_targets::{difference_elsewhere, empty_table};
 use std::alloc::Global;
+
+/// Refuses a name that no checkpoint has, where the target is a checkpoint.
+pub(crate) fn test_target(alloc: Global, target: Target<'_>) -> Result<(), Outcome>
+    ensures answer { Gives (λ _. target_view target.entry) refusal result
+        (target_answer (target_view target.entry)) }
+    ensures named { OnOk result (HasGoodName (target_view target.entry)) }
+    ensures cause { IfErr result RefusesAlways }
+{
+    match target.source {
+        Source::Patch | Source::File => Ok(()),
+        Source::Checkpoint => test_name(alloc, target.word),
+    }
+}
+
+/// Refuses a name that no checkpoint has.
+fn test_name(alloc: Global, name: &Txt) -> Result<(), Outcome>
+    ensures answer { Gives (λ _. name.now) refusal result (name_answer name.now) }
+    ensures named { OnOk result (is_name name.now ≡ true) }
+    ensures cause { IfErr result RefusesAlways }
+{
+    if is_good_name(name.as_str()) {
+        return Ok(());
+    }
+    let name = name.copy(alloc)?;
+    Err(Outcome::BadName { name })
+}
 
 /// The goal of a plan from a start. It is the same on all tables without a model, has no table without keys
 /// that has a model, and is valid.
@@ -32,14 +61,16 @@ pub(crate) fn read_goal<H: Host>(
     start: &Config,
     host: &mut H,
 ) -> Result<Config, Outcome>
+    requires longest { longest_scoped_name ≤ H.longest_name }
+    requires named { HasGoodName (target_view target) }
     ensures answer { Finds (H.told host.old) (λ c. c) result
         (goal_asked (target_view target.entry) ctx.now start.now) }
     ensures valid { IfOk result (IsValidIn ctx.now) }
     ensures elsewhere { IfOk result (AgreeElsewhere ctx.now start.now) }
     ensures told { H.told host.new ≡ H.told host.old }
-    ensures counts { InputMayRise (H.counts host.old) (H.counts host.new) }
+    ensures counts { NoneFell (H.counts host.old) (H.counts host.new) }
     ensures cause { IfErr result (Refuses (H.counts host.old) (H.counts host.new)) }
-    ensures time { Elapses H.moment H.left_since host.old host.new (MayLeaveNow (H.told host.new)) }
+    ensures time { Elapses H.moment H.left_since host.old host.new (MayLeaveNow (H.told host.old)) }
     ensures goes { H.goes_on host.old host.new }
 {
     let goal = make_goal(alloc, target, start, host)?;
@@ -55,44 +86,20 @@ fn make_goal<H: Host>(
     start: &Config,
     host: &mut H,
 ) -> Result<Config, Outcome>
+    requires longest { longest_scoped_name ≤ H.longest_name }
+    requires named { HasGoodName (target_view target) }
     ensures answer { Finds (H.told host.old) (λ c. c) result
         (made_asked (target_view target.entry) start.now) }
     ensures told { H.told host.new ≡ H.told host.old }
-    ensures counts { InputMayRise (H.counts host.old) (H.counts host.new) }
+    ensures counts { NoneFell (H.counts host.old) (H.counts host.new) }
     ensures cause { IfErr result (Refuses (H.counts host.old) (H.counts host.new)) }
-    ensures time { Elapses H.moment H.left_since host.old host.new (MayLeaveNow (H.told host.new)) }
+    ensures time { Elapses H.moment H.left_since host.old host.new (MayLeaveNow (H.told host.old)) }
     ensures goes { H.goes_on host.old host.new }
 {
     match target.source {
-        Source::Patch => {
-            let patch = input_patch(alloc, target.word, host)?;
-            patched(alloc, &patch, start)
-        }
-    }
-}
-
-/// The configuration after the patch.
-fn patched(alloc: Global, patch: &Patch, start: &Config) -> Result<Config, Outcome>
-    ensures answer { Gives (λ c. c) refusal result (target (operations patch.now) start.now) }
-    ensures cause { IfErr result RefusesAlways }
-{
-    let tree = tree_of(alloc, start)?;
-    match apply_owned(alloc, patch, tree) {
-        Ok(tree) => shaped(alloc, tree),
-        Err(ApplyError::Failed { index, why }) => Err(Outcome::PatchFailed { index, why }),
-        Err(ApplyError::Memory) => Err(Outcome::Memory),
-    }
-}
-
-/// The configuration of a tree.
-fn shaped(alloc: Global, tree: Tree) -> Result<Config, Outcome>
-    ensures answer { Gives (λ c. c) refusal result (target_shape (shaping (document tree))) }
-    ensures cause { IfErr result RefusesAlways }
-{
-    match config_of_tree(alloc, tree) {
-        Ok(config) => Ok(config),
-        Err(ShapeError::Shape { place }) => Err(Outcome::TargetShape { place }),
-        Err(ShapeError::Memory) => Err(Outcome::Memory),
+        Source::Patch => patch_goal(alloc, target.word, start, host),
+        Source::File => file_goal(alloc, target.word, host),
+        Source::Checkpoint => checkpoint_goal(alloc, target.word, host),
     }
 }
 

@@ -6,13 +6,13 @@ ghost use Rattle.host_core.specs.Names.{longest_scoped_name};
 ghost use Rattle.move_core.specs.Contexts.{IsValidIn, rulebook};
 ghost use Rattle.plan_search.specs.Searches.{IsSearchAnswer};
 ghost use Rattle.plan_options.specs.Views.{target_view};
-ghost use Rattle.gcu_engine.specs.PlanAsked.{plan_asked, start_asked};
-ghost use Rattle.gcu_engine.specs.PlanCommands.{IsReadyToSearch, IsSolved, RefusesOrEnds, SaysPlan, request_of};
+ghost use Rattle.gcu_engine.specs.PlanAsked.{dry_run_asked, plan_asked, start_asked};
+ghost use Rattle.gcu_engine.specs.PlanCommands.{HasGoodName, IsReadyToSearch, IsSolved, RefusesOrEnds, SaysPlan, request_of};
 ghost use Rattle.gcu_engine.specs.Preparing.{Finds, Refuses};
 
 use crate::Outcome;
 use crate::judging::{End, judge};
-use crate::plan_goal::read_goal;
+use crate::plan_goal::{read_goal, test_target};
 use crate::rules::input_ctx;
 use crate::stored::read_config;
 use conf_doc::Config;
@@ -47,13 +47,14 @@ pub(crate) fn solve<H: Host>(
     requires budget { 0 < budget }
     ensures kinds { ⟦<Kit as Boxes>⟧.HasKinds kit.new }
     ensures says { IfSome (H.told host.old)
-        (λ s. SaysPlan (plan_asked (target_view target.entry) budget s) s result) }
+        (λ s. SaysPlan (dry_run_asked (target_view target.entry) budget s) s result) }
     ensures told { H.told host.new ≡ H.told host.old }
     ensures counts { NoneFell (H.counts host.old) (H.counts host.new) }
     ensures cause { IfErr result (RefusesOrEnds (H.counts host.old) (H.counts host.new)) }
     ensures time { Elapses H.moment H.left_since host.old host.new (MayLeaveNow (H.told host.old)) }
     ensures goes { H.goes_on host.old host.new }
 {
+    test_target(alloc, target)?;
     let planning = prepare(alloc, target, budget, host)?;
     find_plan(alloc, kit, &planning)
 }
@@ -66,6 +67,7 @@ fn prepare<H: Host>(
     host: &mut H,
 ) -> Result<Planning, Outcome>
     requires longest { longest_scoped_name ≤ H.longest_name }
+    requires named { HasGoodName (target_view target) }
     requires budget { 0 < budget }
     ensures answer { Finds (H.told host.old) request_of result
         (plan_asked (target_view target.entry) budget) }

@@ -23,8 +23,10 @@ use std::alloc::Global;
 
 /// Does the command that the words are, and prints its answer. `preview PATCH` prints the stored
 /// configuration as the patch would leave it, `check` says whether it is valid, `apply-patch PATCH --dry-run`
-/// prints a plan for the patch, `checkpoint NAME` saves the stored configuration under a name,
-/// `list-checkpoints` prints the names of all checkpoints, and `delete-checkpoint NAME` deletes one.
+/// prints a plan for the patch, `replace FILE --dry-run` one for the configuration in a file and
+/// `rollback NAME --dry-run` one for that of a checkpoint, `checkpoint NAME` saves the stored configuration
+/// under a name, `list-checkpoints` prints the names of all checkpoints, and `delete-checkpoint NAME` deletes
+/// one.
 pub fn run<H: Host>(alloc: Global, words: &[Txt], kit: &mut Kit, host: &mut H) -> Outcome
     requires longest { longest_scoped_name ≤ H.longest_name }
     requires kinds { ⟦<Kit as Boxes>⟧.HasKinds kit.old }

@@ -4,12 +4,14 @@ use Rattle.plan_options.specs.Options as given
 use Rattle.plan_options.specs.Targets as words
 use Rattle.plan_options.specs.declared.options.Options.{Options}
 use Rattle.plan_options.specs.declared.targets.Source.{Source}
-use Rattle.plan_options.specs.declared.targets.Source.TheVariants.{Patch}
+use Rattle.plan_options.specs.declared.targets.Source.TheVariants.{Patch, File, Checkpoint}
 use Rattle.plan_options.specs.declared.targets.Target.{Target}
 
 -- the target of a source with its word
 abbrev pub target_from : Source → List ℕ → words.Target
 target_from Patch word = words.patched word
+target_from File word = words.replaced word
+target_from Checkpoint word = words.rolled_back word
 
 -- the target that it is
 abbrev pub target_view : Target → words.Target

@@ -11,6 +11,10 @@ use host_core::Txt;
 pub enum Source {
     /// A patch, of the stored configuration: the word is the path of its input.
     Patch,
+    /// The configuration of an input: the word is its path.
+    File,
+    /// A checkpoint: the word is its name.
+    Checkpoint,
 }
 
 /// Where the goal of a plan comes from, with the word that tells it.
@@ -24,11 +28,21 @@ pub struct Target<'a> {
 pub fn read_target<'a>(command: &Txt, word: &'a Txt) -> Option<Target<'a>>
     ensures { option_map target_view result ≡ target_of command.now word.now }
 {
-    if command.as_str() == "apply-patch" && is_positional(word) {
-        return Some(Target {
-            source: Source::Patch,
-            word,
-        });
+    if !is_positional(word) {
+        return None;
+    }
+    let command = command.as_str();
+    if command == "apply-patch" {
+        let source = Source::Patch;
+        return Some(Target { source, word });
+    }
+    if command == "replace" {
+        let source = Source::File;
+        return Some(Target { source, word });
+    }
+    if command == "rollback" {
+        let source = Source::Checkpoint;
+        return Some(Target { source, word });
     }
     None
 }

@@ -53,7 +53,7 @@ returns-in_err-goal-clause-time g c =
     (elapses_unchanged g.H.Host.moment g.H.Host.left_since c.args.host.now c.input_ctx.new.host c.read_start.new.host
     (g.H.Host.told c.input_ctx.new.host) (g.H.Host.told c.args.host.now) c.input_ctx.ensures.told c.input_ctx.ensures.time
     (g.H.Host.told c.input_ctx.new.host) refl c.read_start.ensures.time)
-    (g.H.Host.told c.read_goal.new.host) (c.read_goal.ensures.told ∙ c.read_start.ensures.told ∙ c.input_ctx.ensures.told) c.read_goal.ensures.time
+    (g.H.Host.told c.read_start.new.host) (c.read_start.ensures.told ∙ c.input_ctx.ensures.told) c.read_goal.ensures.time
 
 pub returns-clause-time : goal.returns-clause-time
 returns-clause-time g c =
@@ -62,7 +62,7 @@ returns-clause-time g c =
     (elapses_unchanged g.H.Host.moment g.H.Host.left_since c.args.host.now c.input_ctx.new.host c.read_start.new.host
     (g.H.Host.told c.input_ctx.new.host) (g.H.Host.told c.args.host.now) c.input_ctx.ensures.told c.input_ctx.ensures.time
     (g.H.Host.told c.input_ctx.new.host) refl c.read_start.ensures.time)
-    (g.H.Host.told c.read_goal.new.host) (c.read_goal.ensures.told ∙ c.read_start.ensures.told ∙ c.input_ctx.ensures.told) c.read_goal.ensures.time
+    (g.H.Host.told c.read_start.new.host) (c.read_start.ensures.told ∙ c.input_ctx.ensures.told) c.read_goal.ensures.time
 
 pub returns-in_err-start-clause-goes : goal.returns-in_err-start-clause-goes
 returns-in_err-start-clause-goes g c =
