@@ -6,7 +6,7 @@ usage: bench/yang_model/run.py PROGRAM     PROGRAM is the built gcu, as crates/g
 
 The files are those of the example folder, and one generated module of 128 kB to 1 MB: of leaves with a type of their own, of
 typedefs that stand on one another in twos, of values of one enumeration, of imports, and of lists whose leaf refers to the
-list before. Where valgrind is there, the instructions of one run stand beside the times.
+list before. yanglint isn't run on a module whose smaller one took it a second. Where valgrind is there, the instructions of one run stand beside the times.
 """
 import pathlib, shutil, sys, tempfile
 
@@ -16,7 +16,7 @@ from demo import instructions, least_time
 
 example = pathlib.Path(__file__).resolve().parent.parent.parent / "crates" / "gcu_cli" / "data"
 program = pathlib.Path(sys.argv[1]).resolve()
-SIZES, RUNS = (1 << 17, 1 << 18, 1 << 19, 1 << 20), 7
+SIZES, RUNS, MOST_MS = (1 << 17, 1 << 18, 1 << 19, 1 << 20), 7, 1000
 LIST = "    list L { key k; leaf k { type string; }"
 
 
@@ -65,14 +65,17 @@ def module(kind, most):
         i += 1
 
 
-def row(what, folder, names):
+def row(what, folder, names, with_theirs):
+    """Prints a row, and tells yanglint's time where it was taken."""
     (folder / "models.list").write_text("".join(name + "\n" for name in names))
     (folder / "config_db.json").write_text("{}")
     size = sum((folder / name).stat().st_size for name in names)
     mine, theirs = [program, "check"], ["yanglint", "-p", ".", *names]
-    a, b = least_time(mine, folder, b"done\n", RUNS), least_time(theirs, folder, b"", RUNS)
-    count = instructions(mine, folder)
-    print(f"| {what} | {size} | {a:.1f} | {b:.1f} | {a / b:.2f} | {count} |", flush=True)
+    a, count = least_time(mine, folder, b"done\n", RUNS), instructions(mine, folder)
+    b = least_time(theirs, folder, b"", RUNS) if with_theirs else None
+    told = f"{b:.1f} | {a / b:.2f}" if b else "not run |"
+    print(f"| {what} | {size} | {a:.1f} | {told} | {count} |", flush=True)
+    return b
 
 
 print("| Models | Bytes | `gcu check`, ms | yanglint, ms | Times as long | Instructions, million |\n|---|---|---|---|---|---|")
@@ -80,10 +83,11 @@ with tempfile.TemporaryDirectory() as name:
     folder = pathlib.Path(name)
     for path in example.glob("*.yang"):
         shutil.copy(path, folder)
-    row("the example folder's", folder, (example / "models.list").read_text().split())
+    row("the example folder's", folder, (example / "models.list").read_text().split(), True)
 for kind in KINDS:
+    theirs = 0
     for size in SIZES:
         with tempfile.TemporaryDirectory() as name:
             folder = pathlib.Path(name)
             (folder / "m.yang").write_text(module(kind, size))
-            row(kind, folder, ["m.yang"])
+            theirs = row(kind, folder, ["m.yang"], theirs is not None and theirs < MOST_MS)
