@@ -1,18 +1,12 @@
 -- Which verdicts are true in the next configuration.
-use Rattle.std.proofs.Common.{◌≡◌, ◌⊎◌, ◌<◌, ℕ, List, Option, Some, None, cond, is_some, IsTrue, get_or, slice_get, Contains, refl, sym, ap, ◌∙◌, subst, inl, inr}
-use Rattle.std.specs.Prelude.{IsSomeAnd}
+use Rattle.std.proofs.Common.{◌≡◌, ℕ, List, Some, None, cond, is_some, IsTrue, get_or, slice_get, Contains, refl, sym, ap, ◌∙◌, subst, inl, inr}
 use Rattle.std.specs.List.{All}
 use Rattle.std.proofs.lemmas.List.Elements.{All-contains, Contains-get_or}
 use Rattle.conf_doc.specs.WellFormed.{IsConfig}
 use Rattle.conf_doc.specs.declared.configuration.Config.{Config}
-use Rattle.conf_doc.specs.declared.configuration.Entry.{Entry}
 use Rattle.yang_model.specs.ModelSets.{ModelSet, table_named}
-use Rattle.yang_model.specs.declared.shapes.MustRule.{MustRule}
-use Rattle.yang_model.specs.declared.shapes.Shape.{Shape}
-use Rattle.conf_check.specs.Acceptance.{IsSatisfied}
-use Rattle.conf_check.specs.Rows.{Row, row_at, row_of, HasShape, IsEntryAt, typed_text}
-use Rattle.conf_check.specs.Validity.{Breach, Breaks, IsBreach, IsBreachAt, IsFalse, IsValidAt}
-use Rattle.conf_check.specs.Wants.{Want, IsWantedText}
+use Rattle.conf_check.specs.Rows.{Row, row_at, row_of, IsEntryAt, typed_text}
+use Rattle.conf_check.specs.Validity.{Breach, Breaks, IsBreach, IsBreachAt, IsFalse}
 use Rattle.recheck.specs.Changes.{IsHandled, IsSame, IsTouched}
 use Rattle.recheck.specs.Verdicts.{IsSound, entry_of}
 use Rattle.recheck.specs.declared.verdicts.Verdict.{Verdict}

@@ -1,14 +1,12 @@
 -- A configuration is valid where each of its entries is: what is known from one entry to the next.
-use Rattle.std.proofs.Common.{◌≡◌, ◌↔◌, ◌<◌, ◌≤◌, ◌+◌, ℕ, Bool, true, false, List, Option, Some, is_some, IsTrue, length, map, slice_get, refl, sym, ap, ◌∙◌, subst, arith, inl, inr}
+use Rattle.std.proofs.Common.{◌≡◌, ◌↔◌, ◌≤◌, ◌+◌, ℕ, Bool, true, false, List, Some, is_some, IsTrue, length, slice_get, refl, sym, subst, arith, inl, inr}
 use Rattle.std.proofs.lemmas.Bool.{cases_lt}
 use Rattle.conf_doc.specs.WellFormed.{IsConfig}
 use Rattle.conf_doc.specs.declared.configuration.Config.{Config}
-use Rattle.conf_doc.specs.declared.configuration.Entry.{Entry}
 use Rattle.conf_doc.specs.declared.configuration.Table.{Table}
-use Rattle.conf_doc.specs.Pairs.{IsRising}
 use Rattle.yang_model.specs.ModelSets.{ModelSet, table_named}
 use Rattle.conf_check.specs.Rows.{IsEntryAt, row_at}
-use Rattle.conf_check.specs.Validity.{Breach, IsBreach, IsBreachAt, IsFirstViolation, IsFirstViolationAt, IsValid, IsValidAt}
+use Rattle.conf_check.specs.Validity.{IsFirstViolation, IsFirstViolationAt, IsValid, IsValidAt}
 use Rattle.conf_check.specs.declared.violations.Violation.{Violation}
 use Rattle.move_core.specs.Contexts.{rulebook}
 use Rattle.move_core.specs.Rules.{Passes}

@@ -1,6 +1,5 @@
 -- Verdicts that are left where some are dropped.
-use Rattle.std.proofs.Common.{◌≡◌, ◌⊎◌, ◌<◌, ◌≤◌, ◌+◌, ℕ, Bool, true, false, not, ◌&&◌, List, [], ◌∷◌, map, filter, length, get_or, Option, Some, None, option_map, option_and_then, slice_get, Contains, refl, sym, ap, ◌∙◌, subst, inl, inr, arith}
-use Rattle.std.specs.Prelude.{IsSomeAnd}
+use Rattle.std.proofs.Common.{◌≡◌, ◌⊎◌, ◌<◌, ◌≤◌, ◌+◌, ℕ, Bool, true, false, not, ◌&&◌, List, [], map, filter, length, get_or, Option, Some, None, option_map, option_and_then, slice_get, Contains, refl, sym, ap, ◌∙◌, subst, inl, inr, arith}
 use Rattle.std.specs.List.{All}
 use Rattle.std.proofs.lemmas.List.Elements.{All-contains, All-contains_itself, at_read, All-filter, All-weaker, Contains-get_or, filter_passes}
 use Rattle.std.proofs.lemmas.Bool.{cases_lt}
@@ -13,18 +12,15 @@ use Rattle.conf_doc.specs.declared.configuration.Config.{Config}
 use Rattle.conf_doc.specs.declared.configuration.Entry.{Entry}
 use Rattle.conf_doc.specs.declared.configuration.Table.{Table}
 use Rattle.key_split.specs.Key.{key_parts}
-use Rattle.yang_types.specs.DataType.{DataType}
-use Rattle.yang_types.specs.declared.types.Target.{Target}
 use Rattle.yang_model.specs.Belongs.{Belongs, Belongs-once}
 use Rattle.yang_model.specs.ModelSets.{ModelSet, shapes_of}
 use Rattle.yang_model.specs.declared.shapes.Shape.{Shape}
 use Rattle.conf_check.specs.Rows.{Row, row_of, IsEntryAt, texts_of, typed_text}
 use Rattle.conf_check.specs.Wants.{Want, IsWantAt, IsWantedText, field_name}
-use Rattle.conf_check.specs.declared.want_iter.WantPlace.{WantPlace}
-use Rattle.ref_index.specs.Referrers.{HasWant, IsPlaceAt, want_for}
+use Rattle.ref_index.specs.Referrers.{HasWant, want_for}
 use Rattle.ref_index.specs.declared.places.Place.{Place}
-use Rattle.recheck.specs.Changes.{AreAmong, AreElsewhere, AreHandled, AreKeysHandled, AreUntouched, IsHandled, IsOn, IsSame, IsTouched, Meets, Wants}
-use Rattle.recheck.specs.Verdicts.{AreSound, IsSound, is_elsewhere, is_on, entry_of}
+use Rattle.recheck.specs.Changes.{AreAmong, AreElsewhere, AreHandled, AreKeysHandled, AreUntouched, IsHandled, IsOn, IsSame, IsTouched, Wants}
+use Rattle.recheck.specs.Verdicts.{AreSound, IsSound, is_elsewhere}
 use Rattle.recheck.specs.declared.verdicts.Verdict.{Verdict}
 use Rattle.recheck.proofs.Changed.{all_sound}
 use Rattle.recheck.proofs.Lists.{among_all, entry_found, table_rises}

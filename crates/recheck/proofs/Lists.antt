@@ -1,9 +1,9 @@
 -- Entries by their names and by their places, and lists within one another.
-use Rattle.std.proofs.Common.{◌≡◌, ℕ, List, [], ◌∷◌, ◌++◌, zero, suc, map, filter, take, drop, Bool, Option, Some, None, option_and_then, is_some, IsTrue, slice_get, Contains, refl, sym, ap, ◌∙◌, subst}
+use Rattle.std.proofs.Common.{◌≡◌, ℕ, List, [], ◌∷◌, zero, suc, map, take, drop, Option, Some, None, option_and_then, is_some, IsTrue, slice_get, Contains, refl, sym, ap, ◌∙◌, subst}
 use Rattle.std.specs.Prelude.{IsSomeAnd}
 use Rattle.std.specs.List.{All, insert}
 use Rattle.std.specs.Option.{option_map_or}
-use Rattle.std.proofs.lemmas.List.Elements.{All-append, All-contains, All-contains_itself, All-cons, All-drop, All-filter, All-take, All-weaker}
+use Rattle.std.proofs.lemmas.List.Elements.{All-append, All-contains, All-cons, All-drop, All-take, All-weaker}
 use Rattle.conf_doc.specs.Pairs.{find, IsRising}
 use Rattle.conf_doc.specs.WellFormed.{Each, IsConfig, IsTable}
 use Rattle.conf_doc.specs.declared.configuration.Config.{Config}

@@ -9,7 +9,6 @@ use Rattle.yang_model.specs.Belongs.{Belongs-once}
 use Rattle.yang_model.specs.ModelSets.{ModelSet, TableModel, table_named, shapes_of}
 use Rattle.yang_model.specs.declared.shapes.Shape.{Shape}
 use Rattle.conf_check.specs.Rows.{Row, row_at, row_of, if_modelled, HasShape, IsShapeOf}
-use Rattle.recheck.proofs.Pairs.{some_same}
 
 -- an entry has one shape
 pub shape_once : (models : ModelSet) (table key : List ℕ) (a b : Shape) → IsShapeOf models table key a → IsShapeOf models table key b → a ≡ b

@@ -1,18 +1,16 @@
 -- An entry that is the same in another configuration, and whose wants are met there, breaks no rule there
 -- that it doesn't break in the first.
-use Rattle.std.proofs.Common.{◌≡◌, ◌⊎◌, ◌<◌, ℕ, Bool, true, false, cond, List, map, Option, Some, None, option_map, option_and_then, is_some, slice_get, slice_index_or, length, Contains, refl, sym, ap, ◌∙◌, subst, inl, inr}
+use Rattle.std.proofs.Common.{◌≡◌, ℕ, List, Option, Some, None, option_map, option_and_then, slice_get, refl, sym, subst, inl, inr}
 use Rattle.std.specs.Prelude.{IsSomeAnd}
 use Rattle.std.specs.List.{Any}
-use Rattle.conf_doc.specs.Pairs.{IsRising}
 use Rattle.conf_doc.specs.declared.configuration.Config.{Config}
-use Rattle.conf_doc.specs.declared.configuration.Entry.{Entry}
 use Rattle.conf_doc.specs.declared.configuration.Value.{Value}
 use Rattle.yang_types.specs.DataType.{DataType, text, number, length_within, value_within, matching, one_of, truth, builtin, leafref, union, DataTypes, no_types, type_and}
 use Rattle.yang_types.specs.declared.types.Target.{Target}
 use Rattle.yang_model.specs.ModelSets.{ModelSet}
 use Rattle.yang_model.specs.declared.shapes.Shape.{Shape}
 use Rattle.conf_check.specs.Acceptance.{AcceptsIn, AcceptsAnyIn, IsWanted, IsFirstWanted, IsSatisfied}
-use Rattle.conf_check.specs.Rows.{Row, row_at, HasShape, typed_text, typed_part, typed_item, texts_of}
+use Rattle.conf_check.specs.Rows.{Row, HasShape, typed_text, typed_part, texts_of}
 use Rattle.conf_check.specs.Validity.{Breaks, no_shape, of_shape, BreaksShape, IsRefused, HasBadItem, IsFalse}
 use Rattle.conf_check.specs.Wants.{Want, IsWantedText}
 use Rattle.conf_check.specs.declared.violations.Rule.{Rule}

@@ -1,7 +1,6 @@
 -- Verdicts that are found and noted on a walk.
-use Rattle.std.proofs.Common.{◌≡◌, ◌⊎◌, ◌<◌, ◌==◌, ℕ, Bool, true, false, not, List, [], Some, length, map, is_some, IsTrue, slice_get, Contains, refl, sym, ap, ◌∙◌, subst, inl, inr, arith}
+use Rattle.std.proofs.Common.{◌≡◌, ◌<◌, ◌==◌, ℕ, Bool, true, false, not, List, Some, length, map, is_some, IsTrue, slice_get, refl, sym, ap, ◌∙◌, subst, inl, inr, arith}
 use Rattle.std.specs.Bool.{OnTrue, OnFalse}
-use Rattle.std.specs.List.{All, insert}
 use Rattle.std.proofs.lemmas.Bool.{and_parts}
 use Rattle.std.proofs.lemmas.List.Elements.{All-contains}
 use Rattle.std.proofs.lemmas.Slice.Eq.{bytes_eq-Decides}
@@ -14,10 +13,10 @@ use Rattle.yang_model.specs.declared.shapes.Shape.{Shape}
 use Rattle.conf_check.specs.Rows.{IsEntryAt, IsShapeOf}
 use Rattle.conf_check.specs.Validity.{IsValidAt}
 use Rattle.recheck.specs.Rechecks.{HasVerdict, IsNoted}
-use Rattle.recheck.specs.Verdicts.{AreSound, HasNoMusts, IsSound, entry_of, is_on}
+use Rattle.recheck.specs.Verdicts.{AreSound, HasNoMusts, IsSound, entry_of}
 use Rattle.recheck.specs.declared.verdicts.Verdict.{Verdict}
 use Rattle.recheck.proofs.Lists.{all_insert, entry_found}
-use Rattle.recheck.proofs.Pairs.{holder_at, pair_at, at_contained}
+use Rattle.recheck.proofs.Pairs.{holder_at, pair_at}
 use Rattle.recheck.proofs.Rows.{shape_once}
 
 -- what is answered true or false

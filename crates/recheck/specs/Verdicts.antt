@@ -10,6 +10,7 @@ use Rattle.conf_check.specs.Validity.{IsValidAt}
 use Rattle.yang_model.specs.ModelSets.{ModelSet}
 use Rattle.yang_model.specs.declared.shapes.MustRule.{MustRule}
 use Rattle.yang_model.specs.declared.shapes.Shape.{Shape}
+use Rattle.ref_index.specs.Referrers.{Indexed}
 use Rattle.recheck.specs.declared.verdicts.Verdict.{Verdict}
 
 -- the entry at a key of a table
@@ -31,6 +32,10 @@ pub record IsSound (models : ModelSet) (config : Config) (v : Verdict) : Type 0 
 -- all of them are true
 abbrev pub AreSound : ModelSet → Config → List Verdict → Type 0
 AreSound models config verdicts = All (IsSound models config) verdicts
+
+-- all of them are true in the configuration of an index, by its models
+abbrev pub AreKept : Indexed → List Verdict → Type 0
+AreKept index verdicts = AreSound index.models index.config verdicts
 
 -- the verdict is on that entry
 abbrev pub is_on : List ℕ → List ℕ → Verdict → Bool

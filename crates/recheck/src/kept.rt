@@ -1,6 +1,6 @@
 //! What is kept between calls: an index of referrers with its configuration, and verdicts on entries of it.
 ghost use Rattle.std.specs.Prelude.{◌≡◌, ◌≤◌, ◌^◌, length, IfOk};
-ghost use Rattle.recheck.specs.Verdicts.{AreSound};
+ghost use Rattle.recheck.specs.Verdicts.{AreKept};
 ghost use Rattle.std.proofs.Props.{props};
 
 use crate::changes::drop_changed;
@@ -16,7 +16,7 @@ use yang_model::Models;
 pub(crate) struct Kept {
     pub(crate) index: RefIndex,
     pub(crate) verdicts: Vec<Verdict>,
-    pub(crate) ghost sound: { AreSound index.models index.config verdicts.items } by { Prim.hlevel props },
+    pub(crate) ghost sound: { AreKept index verdicts.items } by { Prim.hlevel props },
     pub(crate) ghost few: { length verdicts.items ≤ 4096 },
 }
 

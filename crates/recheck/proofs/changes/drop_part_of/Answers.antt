@@ -1,4 +1,4 @@
-use Rattle.std.proofs.Common.{◌≡◌, List, Some, None, sym, ◌∙◌, subst}
+use Rattle.std.proofs.Common.{◌≡◌, Some, None, sym, ◌∙◌, subst}
 use Rattle.ref_index.specs.Referrers.{HasWant, want_for}
 use Rattle.recheck.proofs.Dropped.{among_itself}
 use Rattle.recheck.proofs.Pairs.{some_same}

@@ -1,4 +1,4 @@
-use Rattle.std.proofs.Common.{◌≡◌, ◌<◌, ◌≤◌, ℕ, List, Some, length, slice_get, below_more, arith}
+use Rattle.std.proofs.Common.{◌≡◌, ◌<◌, ℕ, List, Some, length, slice_get, below_more, arith}
 use Rattle.std.proofs.lemmas.Option.{slice_get_within}
 use Rattle.key_split.specs.Key.{key_parts}
 use Rattle.ref_index.specs.Referrers.{HasWant, want_for}

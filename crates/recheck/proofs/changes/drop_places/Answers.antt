@@ -1,4 +1,4 @@
-use Rattle.std.proofs.Common.{ℕ, ◌<◌, below_more, get_or, sym, subst, arith}
+use Rattle.std.proofs.Common.{below_more, get_or, arith}
 use Rattle.ref_index.specs.declared.places.Place.{Place}
 use Rattle.recheck.specs.Changes.{AreElsewhere}
 use Rattle.recheck.specs.Verdicts.{is_elsewhere}

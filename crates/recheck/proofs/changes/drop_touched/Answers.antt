@@ -1,5 +1,4 @@
-use Rattle.std.proofs.Common.{◌≡◌, ℕ, List, Some, None, slice_get, sym, subst}
-use Rattle.std.specs.List.{All}
+use Rattle.std.proofs.Common.{◌≡◌, Some, None, slice_get, sym, subst}
 use Rattle.key_split.specs.Key.{key_parts}
 use Rattle.yang_model.specs.Belongs.{Belongs}
 use Rattle.yang_model.specs.ModelSets.{shapes_of}

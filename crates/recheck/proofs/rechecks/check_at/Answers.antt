@@ -1,5 +1,4 @@
 use Rattle.std.proofs.Common.{refl}
-use Rattle.recheck.specs.Verdicts.{AreSound}
 use Rattle.recheck.proofs.Walked.{fresh, noted, passed, same_sound, when_false, when_true}
 use Rattle.recheck.proofs.rechecks.check_at.Goals as goal
 
