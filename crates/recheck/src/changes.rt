@@ -1,6 +1,6 @@
 //! Which verdicts a change of the configuration leaves: not those on entries that differ, and not those on
 //! entries with a want that such an entry met.
-ghost use Rattle.std.specs.Prelude.{◌≡◌, ◌↔◌, ◌⊎◌, ◌<◌, ℕ, List, map, length, Some, IsTrue, option_and_then, option_map, slice_get};
+ghost use Rattle.std.specs.Prelude.{◌≡◌, ◌↔◌, ◌⊎◌, ◌<◌, ℕ, List, length, Some, IsTrue, option_and_then, option_map, slice_get};
 ghost use Rattle.std.specs.List.{All};
 ghost use Rattle.conf_doc.specs.Pairs.{find};
 ghost use Rattle.key_split.specs.Key.{key_parts};

@@ -1,10 +1,10 @@
 //! What is kept between calls: an index of referrers with its configuration, and verdicts on entries of it.
-ghost use Rattle.std.specs.Prelude.{◌≡◌, ◌≤◌, ◌^◌, length, IfOk};
+ghost use Rattle.std.specs.Prelude.{◌≡◌, ◌≤◌, length, IfOk};
 ghost use Rattle.recheck.specs.Verdicts.{AreKept};
 ghost use Rattle.std.proofs.Props.{props};
 
 use crate::changes::drop_changed;
-use crate::verdicts::{MOST_VERDICTS, Verdict};
+use crate::verdicts::Verdict;
 use conf_doc::Config;
 use host_core::Memory;
 use ref_index::RefIndex;
