@@ -59,6 +59,10 @@ abbrev pub IsRemovalOf : Change → List ℕ → WantAt → Move → Type 0
 IsRemovalOf c t at x =
     IsBroken c.models.now c.next.now t (want_of at.want) × (x ≡ Remove (place_of at))
 
+-- the place of some broken want is removed
+abbrev pub GivesOfChange : Change → List ℕ → Move → Type 0
+GivesOfChange c t = GivesRemovals c.models.now c.cur.now c.next.now t
+
 -- the place of a broken want of that entry is removed
 pub record GivesOfEntry (c : Change) (t u k : List ℕ) (x : Move) : Type 0 where
   pub given : GivesRemovals c.models.now c.cur.now c.next.now t x

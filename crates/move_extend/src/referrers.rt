@@ -10,7 +10,7 @@ ghost use Rattle.move_core.specs.Moves.{IsDefined};
 ghost use Rattle.key_split.specs.Key.{key_parts};
 ghost use Rattle.move_extend.specs.Entries.{entry_of};
 ghost use Rattle.move_extend.specs.Found.{Finds};
-ghost use Rattle.move_extend.specs.Mentions.{BreaksOnly, GivesOfEntry, GivesOfTable, IsRemovalOf, texts_of};
+ghost use Rattle.move_extend.specs.Mentions.{BreaksOnly, GivesOfChange, GivesOfEntry, GivesOfTable, IsRemovalOf, texts_of};
 ghost use Rattle.move_extend.specs.Referrers.{AddsRemoval, GivesRemovals, IsBroken, place_of};
 
 use crate::changes::Change;
@@ -207,8 +207,7 @@ fn find_in_table(
 /// that these can have.
 fn find_in_config(alloc: Global, change: &Change<'_>, gone: &Gone<'_>) -> Result<Moves, Memory>
     requires { BreaksOnly change.now gone.now.table.now (texts_of gone.now) }
-    ensures { let Gives = GivesRemovals change.now.models.now change.now.cur.now change.now.next.now in
-        IfOk result (Appends (Gives gone.now.table.now) []) }
+    ensures { IfOk result (Appends (GivesOfChange change.now gone.now.table.now) []) }
 {
     let cur = change.cur;
     let mut found = Moves::new(alloc);
@@ -234,8 +233,7 @@ fn removals_of_key(
     key: &str,
 ) -> Result<Moves, Memory>
     requires { BreaksOnly change.now table.now (key_parts key.now) }
-    ensures { let Gives = GivesRemovals change.now.models.now change.now.cur.now change.now.next.now in
-        IfOk result (Appends (Gives table.now) []) }
+    ensures { IfOk result (Appends (GivesOfChange change.now table.now) []) }
 {
     let parts = parts_of(alloc, key)?;
     let gone = Gone {

@@ -1,14 +1,7 @@
-pub mod Adding
-pub mod Chains
-pub mod Firsts
-pub mod Gathered
 pub mod Kept
 pub mod Members
-pub mod Noted
-pub mod Reached
 pub mod Routes
 pub mod Ruled
 pub mod Same
 pub mod Takings
 pub mod Trails
-pub mod Walked

@@ -1,22 +1,16 @@
-//! The list of moves at a configuration, and the search for a plan.
+//! The search for a plan over the listed moves.
 #![tactic(auto)]
 
-mod agreeing;
-mod asking;
 mod errors;
 mod expanding;
-mod listing;
 mod met_set;
-mod move_keys;
 mod planning;
-mod ranking;
-mod reaches;
 mod rules;
 mod searching;
 mod stacks;
 mod steps;
 
 pub use errors::SearchError;
-pub use listing::listed;
+pub use plan_lists::listed;
 pub use planning::search;
 pub use steps::Steps;

@@ -6,7 +6,6 @@ ghost use Rattle.plan_search.specs.Kits.{move_problem, moves_lawful};
 ghost use Rattle.plan_search.specs.Searches.{IsSearchAnswer};
 
 use crate::expanding::Expanding;
-use crate::listing::list_moves;
 use crate::rules::keep_rules;
 use crate::searching::find_plan;
 use crate::{SearchError, Steps};
@@ -15,6 +14,7 @@ use host_core::Memory;
 use move_core::{
     Boxes, Ctx, Kit, Move, MoveExt, MoveGen, MoveRule, Plan, listed_moves_are_defined, step,
 };
+use plan_lists::listed;
 use std::alloc::Global;
 use std::marker::PhantomData;
 use std::sync::ledger::Ledger;
@@ -58,9 +58,9 @@ impl<'a> Expanding for KitMoves<'a> {
     }
 
     fn list(&self, alloc: Global, kit: &mut Kit, cur: &Config) -> Result<Vec<Move>, Memory> {
-        let moves = list_moves(alloc, self.ctx, kit, self.start, cur, self.goal);
+        let moves = listed(alloc, self.ctx, kit, self.start, cur, self.goal);
         kit.begin(self.ctx);
-        moves
+        Ok(moves?.into_vec())
     }
 
     fn try_move(
