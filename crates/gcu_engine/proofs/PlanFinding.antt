@@ -1,9 +1,10 @@
 -- How what the parts of a command that plans find makes what it says.
-use Rattle.std.proofs.Common.{◌≡◌, inl, ℕ, List, refl, sym, ap, subst, Option, Some, None, Result, Ok, Err, IfErr, IfOk, IfSome}
+use Rattle.std.proofs.Common.{◌≡◌, inl, inr, ℕ, List, refl, sym, ap, subst, Option, Some, None, Result, Ok, Err, IfErr, IfOk, IfSome}
 use Rattle.host_core.specs.Answers.{Gives}
 use Rattle.host_core.specs.Counts.{Counts}
 use Rattle.host_core.specs.State.{State}
 use Rattle.conf_doc.specs.declared.configuration.Config.{Config}
+use Rattle.conf_store.specs.declared.loaded.Stored.{Stored}
 use Rattle.move_core.specs.Contexts.{AgreeElsewhere}
 use Rattle.move_core.specs.RulesFile.{rules}
 use Rattle.move_core.specs.declared.contexts.Ctx.{Ctx}
@@ -16,22 +17,26 @@ use Rattle.gcu_engine.specs.Answers.{HasCause}
 use Rattle.gcu_engine.specs.Asking.{Asking, follows_by}
 use Rattle.gcu_engine.specs.ModelFiles.{bytes_asked, models_asked}
 use Rattle.gcu_engine.specs.PatchAsked.{patch_asked, target}
-use Rattle.gcu_engine.specs.PlanAsked.{HasKeys, IsElsewhereAs, IsValidOr, goal_asked, made_asked, plan_asked, start_asked}
-use Rattle.gcu_engine.specs.PlanCommands.{IsSolved, RefusesOrEnds, SaysPlan, request_of}
+use Rattle.gcu_engine.specs.PlanAsked.{HasKeys, IsElsewhereAs, IsValidOr, goal_asked, made_asked, plan_asked, planning_asked, start_asked}
+use Rattle.gcu_engine.specs.PlanCommands.{IsSolved, RefusesOrEnds, SaysPlan, planning_of}
 use Rattle.plan_options.specs.Targets.{Target, patched}
-use Rattle.gcu_engine.specs.Preparing.{Finds, IsRightBy, Refuses, RefusesAlways, refusal}
+use Rattle.gcu_engine.specs.Preparing.{Finds, Found, IsRightBy, Refuses, RefusesAlways, refusal}
 use Rattle.gcu_engine.specs.Request as request
 use Rattle.gcu_engine.specs.Request.{Request}
 use Rattle.gcu_engine.specs.RulesAsked.{ctx_asked, rules_answer, rules_limit, rules_path, settings_asked}
 use Rattle.gcu_engine.specs.StoredAsked.{stored_asked}
 use Rattle.gcu_engine.specs.declared.outcomes.Outcome.{Outcome}
-use Rattle.gcu_engine.specs.declared.outcomes.Outcome.TheVariants.{CurrentInvalid, TargetInvalid, Done, Memory, Usage, InputFault, DiskFault, PrintFault, Unorderable, Budget}
+use Rattle.gcu_engine.specs.declared.outcomes.Outcome.TheVariants.{CurrentInvalid, TargetInvalid, Done, Memory, Usage, InputFault, DiskFault, PrintFault, ServiceFault, Unorderable, Budget}
 use Rattle.gcu_engine.specs.declared.planning.Planning as code
 use Rattle.gcu_engine.proofs.Answering.{refused_says}
 use Rattle.gcu_engine.proofs.Finding.{first_refused, found_always, found_told, then_found}
 
 abbrev self : {X : Type 0} → X → X
 self x = x
+
+-- the configuration of what was loaded
+abbrev pub config_of : Stored → Config
+config_of what = what.config
 
 -- ---- the rules file
 
@@ -78,17 +83,22 @@ ctx_found (Some s) models settings h f =
 -- ---- the start
 
 -- the folder stands for no configuration
-pub no_start : (o : Option State) (ctx : Ctx) (e : Outcome) → Finds {X = Config} o self (Err e) stored_asked
-    → Finds {X = Config} o self (Err e) (start_asked ctx)
+pub no_start : (o : Option State) (ctx : Ctx) (e : Outcome) → Finds {X = Stored} o config_of (Err e) stored_asked
+    → Finds {X = Stored} o config_of (Err e) (start_asked ctx)
 no_start None ctx e h = tt
-no_start (Some s) ctx e h = first_refused self self e (stored_asked s) _ h
+no_start (Some s) ctx e h = first_refused config_of config_of e (stored_asked s) _ h
 
 -- the stored configuration is judged
-pub start_found : (o : Option State) (ctx : Ctx) (stored : Config) (r : Result Config Outcome) → Finds o self (Ok stored) stored_asked
-    → IsRightBy self r (IsValidOr CurrentInvalid ctx stored) → IfErr r RefusesAlways → Finds o self r (start_asked ctx)
-start_found None ctx stored r h told always = tt
-start_found (Some s) ctx stored r h told always =
-    then_found self self stored r (stored_asked s) _ h (found_told self r (IsValidOr CurrentInvalid ctx stored) told always)
+pub start_found : (o : Option State) (ctx : Ctx) (what : Stored) (r : Result Stored Outcome) → Finds o config_of (Ok what) stored_asked
+    → IsRightBy config_of r (IsValidOr CurrentInvalid ctx what.config) → IfErr r RefusesAlways → Finds o config_of r (start_asked ctx)
+start_found None ctx what r h told always = tt
+start_found (Some s) ctx what r h told always =
+    then_found config_of config_of what r (stored_asked s) _ h (found_told config_of r (IsValidOr CurrentInvalid ctx what.config) told always)
+
+-- what is judged is what was loaded
+pub judged_is : (what : Stored) (r : Result Stored Outcome) (P : Stored → Type 0) → IfOk r (λ found. found ≡ what) → P what → IfOk r P
+judged_is what (Ok found) P is h = subst P (sym is) h
+judged_is what (Err e) P is h = tt
 
 -- ---- the goal
 
@@ -157,40 +167,46 @@ judged_elsewhere ctx start goal (Err e) told agree = tt
 
 -- there is nothing to judge by
 pub no_plan_ctx : (o : Option State) (from : Target) (budget : ℕ) (e : Outcome) → Finds {X = Ctx} o self (Err e) ctx_asked
-    → Finds o request_of (Err e) (plan_asked from budget)
+    → Finds o planning_of (Err e) (planning_asked from budget)
 no_plan_ctx None from budget e h = tt
-no_plan_ctx (Some s) from budget e h = first_refused self request_of e (ctx_asked s) _ h
+no_plan_ctx (Some s) from budget e h = first_refused self planning_of e (ctx_asked s) _ h
 
 -- there is no start
 pub no_plan_start : (o : Option State) (from : Target) (budget : ℕ) (ctx : Ctx) (e : Outcome) → Finds o self (Ok ctx) ctx_asked
-    → Finds {X = Config} o self (Err e) (start_asked ctx) → Finds o request_of (Err e) (plan_asked from budget)
+    → Finds {X = Stored} o config_of (Err e) (start_asked ctx) → Finds o planning_of (Err e) (planning_asked from budget)
 no_plan_start None from budget ctx e h f = tt
-no_plan_start (Some s) from budget ctx e h f = then_found self request_of ctx (Err e) (ctx_asked s) _ h (first_refused self request_of e (start_asked ctx s) _ f)
+no_plan_start (Some s) from budget ctx e h f = then_found self planning_of ctx (Err e) (ctx_asked s) _ h (first_refused config_of planning_of e (start_asked ctx s) _ f)
 
 -- there is no goal
-pub no_plan_goal : (o : Option State) (from : Target) (budget : ℕ) (ctx : Ctx) (start : Config) (e : Outcome) → Finds o self (Ok ctx) ctx_asked
-    → Finds o self (Ok start) (start_asked ctx) → Finds {X = Config} o self (Err e) (goal_asked from ctx start)
-    → Finds o request_of (Err e) (plan_asked from budget)
+pub no_plan_goal : (o : Option State) (from : Target) (budget : ℕ) (ctx : Ctx) (start : Stored) (e : Outcome) → Finds o self (Ok ctx) ctx_asked
+    → Finds o config_of (Ok start) (start_asked ctx) → Finds {X = Config} o self (Err e) (goal_asked from ctx start.config)
+    → Finds o planning_of (Err e) (planning_asked from budget)
 no_plan_goal None from budget ctx start e h f g = tt
 no_plan_goal (Some s) from budget ctx start e h f g =
-    then_found self request_of ctx (Err e) (ctx_asked s) _ h
-    (then_found self request_of start (Err e) (start_asked ctx s) _ f (first_refused self request_of e (goal_asked from ctx start s) _ g))
+    then_found self planning_of ctx (Err e) (ctx_asked s) _ h
+    (then_found config_of planning_of start (Err e) (start_asked ctx s) _ f (first_refused self planning_of e (goal_asked from ctx start.config s) _ g))
+
+abbrev planned : code.Planning → ℕ → request.Planning
+planned p n = record { ctx = p.ctx; start = p.stored.config; goal = p.goal; budget = n }
 
 -- there is all that a plan needs
 pub planning_found : (o : Option State) (from : Target) (budget : ℕ) (p : code.Planning) → p.budget ≡ budget → Finds o self (Ok p.ctx) ctx_asked
-    → Finds o self (Ok p.start) (start_asked p.ctx) → Finds o self (Ok p.goal) (goal_asked from p.ctx p.start)
-    → Finds o request_of (Ok p) (plan_asked from budget)
+    → Finds o config_of (Ok p.stored) (start_asked p.ctx) → Finds o self (Ok p.goal) (goal_asked from p.ctx p.stored.config)
+    → Finds o planning_of (Ok p) (planning_asked from budget)
 planning_found None from budget p same h f g = tt
 planning_found (Some s) from budget p same h f g =
-    then_found self request_of p.ctx (Ok p) (ctx_asked s) _ h
-    (then_found self request_of p.start (Ok p) (start_asked p.ctx s) _ f
-    (then_found self request_of p.goal (Ok p) (goal_asked from p.ctx p.start s) _ g
+    then_found self planning_of p.ctx (Ok p) (ctx_asked s) _ h
+    (then_found config_of planning_of p.stored (Ok p) (start_asked p.ctx s) _ f
+    (then_found self planning_of p.goal (Ok p) (goal_asked from p.ctx p.stored.config s) _ g
     (record {
-      gives = ap (λ n. Ok (request.plan (record { ctx = p.ctx; start = p.start; goal = p.goal; budget = n }))) (sym same);
+      gives = ap (λ (n : ℕ). Ok (planned p n)) (sym same);
       stands = tt;
     })))
 
 -- ---- what is said
+
+abbrev request_of : code.Planning → Request
+request_of p = request.plan (planning_of p)
 
 -- what a search answers is said of the request
 solved_says : (asking : Asking Request) (s : State) (p : code.Planning) (r : Result (List Move) Outcome) → asking.Gives (Ok (request_of p))
@@ -201,16 +217,18 @@ solved_says asking s p (Err Unorderable) given h = ((request_of p, given, h), in
 solved_says asking s p (Err (Budget n)) given h = ((request_of p, given, h), inl refl, refl)
 solved_says asking s p (Err other) given never = absurd never
 
-pub plan_says : (o : Option State) (asking : State → Asking Request) (p : code.Planning) (r : Result (List Move) Outcome) → Finds o request_of (Ok p) asking
-    → IsSolved p r → IfSome o (λ s. SaysPlan (asking s) s r)
-plan_says None asking p r h solved = tt
-plan_says (Some s) asking p r h solved = solved_says (asking s) s p r h.gives solved
+pub plan_says : (o : Option State) (from : Target) (budget : ℕ) (p : code.Planning) (r : Result (List Move) Outcome) → Finds o planning_of (Ok p) (planning_asked from budget)
+    → IsSolved p r → IfSome o (λ s. SaysPlan (plan_asked from budget s) s r)
+plan_says None from budget p r h solved = tt
+plan_says (Some s) from budget p r h solved = solved_says (plan_asked from budget s) s p r (inr (planning_of p, h.gives, refl)) solved
 
 -- what is refused is said of the question
-pub plan_refused : (o : Option State) (asking : State → Asking Request) (e : Outcome) (old new : Counts) → Refuses old new e
-    → Finds {X = code.Planning} o request_of (Err e) asking → IfSome o (λ s. SaysPlan (asking s) s (Err e))
-plan_refused None asking e old new h f = tt
-plan_refused (Some s) asking e old new h f = refused_says (asking s) s e old new h f.stands f.gives
+pub plan_refused : (o : Option State) (from : Target) (budget : ℕ) (e : Outcome) (old new : Counts) → Refuses old new e
+    → Finds {X = code.Planning} o planning_of (Err e) (planning_asked from budget) → IfSome o (λ s. SaysPlan (plan_asked from budget s) s (Err e))
+plan_refused None from budget e old new h f = tt
+plan_refused (Some s) from budget e old new h f =
+    let refused : Found request_of (Err e) (plan_asked from budget s) = first_refused planning_of request_of e (planning_asked from budget s) _ f in
+    refused_says (plan_asked from budget s) s e old new h refused.stands refused.gives
 
 -- a refusal is one of the ends
 pub refuses_ends : (old new : Counts) (e : Outcome) → Refuses old new e → RefusesOrEnds old new e
@@ -231,6 +249,7 @@ pub end_cause : (old new : Counts) (e : Outcome) → RefusesOrEnds old new e →
 end_cause old new Done never = absurd never
 end_cause old new Usage never = absurd never
 end_cause old new (PrintFault step) never = absurd never
+end_cause old new (ServiceFault step service) never = absurd never
 end_cause old new InputFault h = h
-end_cause old new (DiskFault step) h = h
+end_cause old new (DiskFault step) h = h.1
 end_cause old new other h = tt

@@ -1,9 +1,11 @@
 //! What the program `gcu` does: its commands, their answers and what they print.
 #![tactic(auto)]
 
+mod change;
 mod check;
 mod delete_checkpoint;
 mod dry_run;
+mod fault_lines;
 mod form;
 mod inputs;
 mod judging;

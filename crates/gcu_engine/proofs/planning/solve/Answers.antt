@@ -1,6 +1,5 @@
 use Rattle.std.proofs.lemmas.Result.{err_from_is_err_and}
 use Rattle.plan_options.specs.Views.{target_view}
-use Rattle.gcu_engine.specs.PlanAsked.{plan_asked}
 use Rattle.gcu_engine.proofs.PlanFinding.{plan_refused, plan_says, refuses_ends, solved_ends}
 use Rattle.gcu_engine.proofs.planning.solve.Goals as goal
 
@@ -9,7 +8,7 @@ pub returns-in_err-planning-clause-says : goal.returns-in_err-planning-clause-sa
 returns-in_err-planning-clause-says g c =
     let p = err_from_is_err_and c.from_residual.result c.from_residual.ensures.1 in
     rw (p.1, p.2)
-    (plan_refused (g.H.Host.told c.args.host.now) (plan_asked (target_view c.args.target) c.args.budget) c.in_err-planning.field-0.0
+    (plan_refused (g.H.Host.told c.args.host.now) (target_view c.args.target) c.args.budget c.in_err-planning.field-0.0
     (g.H.Host.counts c.args.host.now) (g.H.Host.counts c.prepare.new.host) c.in_err-planning.ensures.cause c.in_err-planning.ensures.answer)
 
 pub returns-in_err-planning-clause-cause : goal.returns-in_err-planning-clause-cause
@@ -20,7 +19,7 @@ returns-in_err-planning-clause-cause g c =
 -- a plan is searched for
 pub returns-clause-says : goal.returns-clause-says
 returns-clause-says g c =
-    plan_says (g.H.Host.told c.args.host.now) (plan_asked (target_view c.args.target) c.args.budget) c.in_ok-planning.planning c.find_plan.result
+    plan_says (g.H.Host.told c.args.host.now) (target_view c.args.target) c.args.budget c.in_ok-planning.planning c.find_plan.result
     c.in_ok-planning.ensures.answer c.find_plan.ensures.answer
 
 pub returns-clause-cause : goal.returns-clause-cause
