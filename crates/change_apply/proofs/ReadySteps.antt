@@ -99,10 +99,10 @@ is_step c m defined formed reads = record {
 
 -- ---- a plan
 
-pub defined_at : (c : Config) (ms : List Move) (k : ℕ) (m : Move) → AreDefined c ms → slice_get ms k ≡ Some m → IsDefined (conf c ms k) m
+pub defined_at : (c : Config) (ms : List Move) (k : ℕ) (m : Move) → AreDefined c ms → slice_get ms k ≡ Some m → IsConfig (conf c ms k) → IsDefined (conf c ms k) m
 defined_at c [] zero m all is = absurd cc
 defined_at c [] (suc k) m all is = absurd cc
-defined_at c (n ∷ ms) zero m all is = let same : n ≡ m = cc in subst (IsDefined c) same all.0
+defined_at c (n ∷ ms) zero m all is = let same : n ≡ m = cc in λ formed. subst (IsDefined c) same (all.0 formed)
 defined_at c (n ∷ ms) (suc k) m all is = defined_at (step c n) ms k m all.1 is
 
 pub conf_next : (c : Config) (ms : List Move) (k : ℕ) (m : Move) → slice_get ms k ≡ Some m → conf c ms (suc k) ≡ step (conf c ms k) m
@@ -125,14 +125,14 @@ ready_none start moves zero s e = absurd cc
 ready_none start moves (suc k) s e = absurd cc
 
 pub ready_more : (start : Config) (moves : List Move) (steps : List ReadyStep) (s : ReadyStep) (k : ℕ) → length steps ≡ k → AreReady start moves steps
-    → slice_get moves k ≡ Some s.mv → AreDefined start moves → IsConfig (step (conf start moves k) s.mv) → IsReadyStep k s → AreReady start moves (steps ++ s ∷ [])
+    → slice_get moves k ≡ Some s.mv → IsDefined (conf start moves k) s.mv → IsConfig (step (conf start moves k) s.mv) → IsReadyStep k s → AreReady start moves (steps ++ s ∷ [])
 ready_more start moves steps s k long so_far is defined formed ready i x e =
     ⊎_elim (so_far i x)
     (λ here.
     let at : i ≡ k = here.0 ∙ long in
     subst (λ y. IsReadyStep i y × IsStep (step_text y.mv) (conf start moves i) (conf start moves (suc i))) here.1
     (subst (λ j. IsReadyStep j s × IsStep (step_text s.mv) (conf start moves j) (conf start moves (suc j))) (sym at)
-    (ready, subst (IsStep (step_text s.mv) (conf start moves k)) (sym (conf_next start moves k s.mv is)) (is_step (conf start moves k) s.mv (defined_at start moves k s.mv defined is) formed ready.reads))))
+    (ready, subst (IsStep (step_text s.mv) (conf start moves k)) (sym (conf_next start moves k s.mv is)) (is_step (conf start moves k) s.mv defined formed ready.reads))))
     (last_or_before steps s i x e)
 
 -- ---- what is gathered step by step

@@ -1,5 +1,6 @@
 -- What a change does: the moves of a plan on what was loaded, and the restarts after each move.
 use Rattle.std.specs.Prelude.{◌<◌, ℕ, List, [], ◌∷◌, All, get_or, length, map, flat_map, take}
+use Rattle.conf_doc.specs.WellFormed.{IsConfig}
 use Rattle.conf_doc.specs.declared.configuration.Config.{Config}
 use Rattle.conf_store.specs.declared.loaded.Stored.{Stored}
 use Rattle.patch_core.specs.Writing.{patch_file}
@@ -52,10 +53,10 @@ restarted change k = flat_map names (take k change.restarts)
 
 -- ---- what it is made of
 
--- each move is defined where it stands
+-- each move is defined where it stands, on what is a configuration
 abbrev pub AreDefined : Config → List Move → Type 0
 AreDefined c [] = Unit {0}
-AreDefined c (m ∷ ms) = IsDefined c m × AreDefined (step c m) ms
+AreDefined c (m ∷ ms) = (IsConfig c → IsDefined c m) × AreDefined (step c m) ms
 
 -- each is the position of a service in the rules file
 abbrev pub ArePositions : Settings → List ℕ → Type 0

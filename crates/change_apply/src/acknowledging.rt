@@ -1,5 +1,5 @@
 //! A step acknowledged.
-ghost use Rattle.std.specs.Prelude.{◌≡◌, ◌<◌, suc, IfErr, IfOk, OnOk, length};
+ghost use Rattle.std.specs.Prelude.{◌≡◌, ◌<◌, ◌≤◌, suc, IfErr, IfOk, OnOk, length};
 ghost use Rattle.change_apply.specs.Acknowledgements.{ack};
 ghost use Rattle.change_apply.specs.Change.{restarts_at};
 ghost use Rattle.change_apply.specs.Crashes.{LeavesAt};
@@ -35,6 +35,7 @@ pub(crate) fn acknowledge<H: Host>(host: &mut H, work: &Work, k: usize) -> Resul
     ensures any_moment { LeavesAt H.moment H.left_since H.told (change_in work.now)
         (AtPut (change_in work.now) k (length (restarts_at (change_in work.now) k)))
         host.old host.new }
+    ensures later { H.moment host.old ≤ H.moment host.new }
     ensures counts { MayRise (H.counts host.old) (H.counts host.new) }
     ensures cause { IfErr result (HasCause (H.counts host.old) (H.counts host.new)) }
     ensures goes { H.goes_on host.old host.new }

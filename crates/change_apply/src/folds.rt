@@ -22,6 +22,7 @@ pub(crate) fn fold_first<H: Host>(host: &mut H, work: &Work) -> Result<(), Apply
         (Stops (change_in work.now) fault) (H.told host.old) (H.told host.new)) }
     ensures any_moment { LeavesAt H.moment H.left_since H.told (change_in work.now)
         (AtBeginning (change_in work.now)) host.old host.new }
+    ensures later { H.moment host.old ≤ H.moment host.new }
     ensures counts { MayRise (H.counts host.old) (H.counts host.new) }
     ensures cause { IfErr result (HasCause (H.counts host.old) (H.counts host.new)) }
     ensures goes { H.goes_on host.old host.new }
@@ -47,6 +48,7 @@ pub(crate) fn fold_last<H: Host>(host: &mut H, work: &Work) -> Result<(), ApplyF
         (Stops (change_in work.now) fault) (H.told host.old) (H.told host.new)) }
     ensures any_moment { LeavesAt H.moment H.left_since H.told (change_in work.now)
         (AtStep (change_in work.now) (count work.now)) host.old host.new }
+    ensures later { H.moment host.old ≤ H.moment host.new }
     ensures counts { MayRise (H.counts host.old) (H.counts host.new) }
     ensures cause { IfErr result (HasCause (H.counts host.old) (H.counts host.new)) }
     ensures goes { H.goes_on host.old host.new }

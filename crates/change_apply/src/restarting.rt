@@ -1,5 +1,5 @@
 //! The services of a step restarted.
-ghost use Rattle.std.specs.Prelude.{◌<◌, IfErr, OnOk, length};
+ghost use Rattle.std.specs.Prelude.{◌<◌, ◌≤◌, IfErr, OnOk, length};
 ghost use Rattle.change_apply.specs.Change.{restarts_at};
 ghost use Rattle.change_apply.specs.Crashes.{LeavesAt};
 ghost use Rattle.change_apply.specs.Ends.{HasCause, MayRise, Stops};
@@ -26,6 +26,7 @@ pub(crate) fn restart_services<H: Host>(
         (Stops (change_in work.now) fault) (H.told host.old) (H.told host.new)) }
     ensures any_moment { LeavesAt H.moment H.left_since H.told (change_in work.now)
         (AtPut (change_in work.now) k 0) host.old host.new }
+    ensures later { H.moment host.old ≤ H.moment host.new }
     ensures counts { MayRise (H.counts host.old) (H.counts host.new) }
     ensures cause { IfErr result (HasCause (H.counts host.old) (H.counts host.new)) }
     ensures goes { H.goes_on host.old host.new }

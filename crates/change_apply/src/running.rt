@@ -26,6 +26,7 @@ pub fn run<H: Host>(host: &mut H, ready: &Ready) -> Result<(), ApplyFault>
     // At each moment a crash leaves the last acknowledged configuration or the next.
     ensures any_moment { IfSome (H.told host.old)
         (λ s. LeavesOnly H.moment H.left_since host.old host.new (IsLeft ready.now s)) }
+    ensures later { H.moment host.old ≤ H.moment host.new }
     ensures counts { MayRise (H.counts host.old) (H.counts host.new) }
     ensures cause { IfErr result (HasCause (H.counts host.old) (H.counts host.new)) }
     ensures goes { H.goes_on host.old host.new }

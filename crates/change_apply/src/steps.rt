@@ -24,6 +24,7 @@ pub(crate) fn do_steps<H: Host>(host: &mut H, work: &Work) -> Result<(), ApplyFa
         (Stops (change_in work.now) fault) (H.told host.old) (H.told host.new)) }
     ensures any_moment { LeavesAt H.moment H.left_since H.told (change_in work.now)
         (AtStep (change_in work.now) 0) host.old host.new }
+    ensures later { H.moment host.old ≤ H.moment host.new }
     ensures counts { MayRise (H.counts host.old) (H.counts host.new) }
     ensures cause { IfErr result (HasCause (H.counts host.old) (H.counts host.new)) }
     ensures goes { H.goes_on host.old host.new }
@@ -46,6 +47,7 @@ fn do_step<H: Host>(host: &mut H, work: &Work, k: usize) -> Result<(), ApplyFaul
         (Stops (change_in work.now) fault) (H.told host.old) (H.told host.new)) }
     ensures any_moment { LeavesAt H.moment H.left_since H.told (change_in work.now)
         (AtStep (change_in work.now) k) host.old host.new }
+    ensures later { H.moment host.old ≤ H.moment host.new }
     ensures counts { MayRise (H.counts host.old) (H.counts host.new) }
     ensures cause { IfErr result (HasCause (H.counts host.old) (H.counts host.new)) }
     ensures goes { H.goes_on host.old host.new }
@@ -67,6 +69,7 @@ fn put_next<H: Host>(host: &mut H, work: &Work, k: usize) -> Result<(), ApplyFau
         (Stops (change_in work.now) fault) (H.told host.old) (H.told host.new)) }
     ensures any_moment { LeavesAt H.moment H.left_since H.told (change_in work.now)
         (AtStep (change_in work.now) k) host.old host.new }
+    ensures later { H.moment host.old ≤ H.moment host.new }
     ensures counts { MayRise (H.counts host.old) (H.counts host.new) }
     ensures cause { IfErr result (HasCause (H.counts host.old) (H.counts host.new)) }
     ensures goes { H.goes_on host.old host.new }

@@ -6,3 +6,4 @@ mod NamesOfFiles
 mod PointMaps
 mod Sorting
 mod StoredKept
+mod OtherFiles

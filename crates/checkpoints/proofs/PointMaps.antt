@@ -105,7 +105,7 @@ get_with name None files q = finmap.get-remove nat_list_cmp_total files name q
 get_with name (Some bytes) files q = finmap.get-insert nat_list_cmp_total files name bytes q
 
 -- files that answer alike for the files of good names have the same checkpoints
-alike_files : (f g : Files) → ((name : List ℕ) → is_good_name name ≡ true → get f (point_file name) ≡ get g (point_file name)) → points f ≡ points g
+pub alike_files : (f g : Files) → ((name : List ℕ) → is_good_name name ≡ true → get f (point_file name) ≡ get g (point_file name)) → points f ≡ points g
 alike_files f g alike = same_points _ _ (λ name. get_point f name ∙ by name (is_good_name name) refl ∙ sym (get_point g name))
   where
     by : (name : List ℕ) (good : Bool) → is_good_name name ≡ good → held_in name (get f (point_file name)) ≡ held_in name (get g (point_file name))
@@ -113,7 +113,7 @@ alike_files f g alike = same_points _ _ (λ name. get_point f name ∙ by name (
     by name false bad = ap (λ b. cond b (option_map held (get f (point_file name))) None) bad ∙ sym (ap (λ b. cond b (option_map held (get g (point_file name))) None) bad)
 
 -- the scratch file is no checkpoint's
-not_scratch : (name : List ℕ) → is_good_name name ≡ true → point_file name ≡ scratch → ⊥
+pub not_scratch : (name : List ℕ) → is_good_name name ≡ true → point_file name ≡ scratch → ⊥
 not_scratch name good e =
     let is : is_point_file scratch ≡ true = ap is_point_file (sym e) ∙ good_file name good in
     absurd cc

@@ -3,6 +3,7 @@
 
 mod deleting;
 mod errors;
+mod laws;
 mod listing;
 mod loading;
 mod naming;
@@ -11,6 +12,7 @@ mod saving;
 
 pub use deleting::delete;
 pub use errors::PointError;
+pub use laws::points_are_in_other_files;
 pub use listing::names;
 pub use loading::load;
 pub use naming::is_good_name;

@@ -20,7 +20,7 @@ use Rattle.gcu_engine.specs.Request.{Request}
 use Rattle.gcu_engine.specs.Trees.{preview_document}
 use Rattle.gcu_engine.proofs.Finding.{fails_before, fails_first, tree_given}
 use Rattle.gcu_engine.specs.declared.outcomes.Outcome.{Outcome}
-use Rattle.gcu_engine.specs.declared.outcomes.Outcome.TheVariants.{Done, Memory, Usage, InputFault, DiskFault, PrintFault, Unorderable, Budget}
+use Rattle.gcu_engine.specs.declared.outcomes.Outcome.TheVariants.{Done, Memory, Usage, InputFault, DiskFault, PrintFault, ServiceFault, Unorderable, Budget}
 
 -- a refusal's last line is all that it says
 pub refused_says : (asking : Asking Request) (s : State) (e : Outcome) (old new : Counts)
@@ -29,14 +29,15 @@ refused_says asking s Done old new never st f = absurd never
 refused_says asking s Memory old new h st f = (inl refl, refl)
 refused_says asking s Usage old new never st f = absurd never
 refused_says asking s InputFault old new h st f = (st, inl refl, refl)
-refused_says asking s (DiskFault step) old new h st f = (st, inl (inl refl), refl)
+refused_says asking s (DiskFault step) old new h st f = (st, inl (h.0, inl refl), refl)
 refused_says asking s (PrintFault step) old new never st f = absurd never
+refused_says asking s (ServiceFault step service) old new never st f = absurd never
 refused_says asking s Unorderable old new never st f = absurd never
 refused_says asking s (Budget n) old new never st f = absurd never
 refused_says asking s other old new h st f = (f, inl refl, refl)
 
 -- whole, it is the output of that answer
-says_prints : (asking : Asking Request) (s now : State) (old new : Counts) (r : Outcome) (output : List ℕ) → Says asking s now r output
+pub says_prints : (asking : Asking Request) (s now : State) (old new : Counts) (r : Outcome) (output : List ℕ) → Says asking s now r output
     → Prints asking s now old new r output
 says_prints asking s now old new (PrintFault step) output never = absurd never
 says_prints asking s now old new Done output h = h
@@ -47,23 +48,24 @@ says_prints asking s now old new other output h = h
 cause_stays : (old mid new : Counts) (r : Outcome) (asking : Asking Request) (s now : State) (text : List ℕ)
     → PrintMayRise mid new → HasCause old mid r → Says asking s now r text → HasCause old new r
 cause_stays old mid new InputFault asking s now text rises h says = subst (λ n. Rose old.input n) (sym (ap (λ c. c.input) rises.2)) h
-cause_stays old mid new (DiskFault step) asking s now text rises h says = (h.0, subst (λ n. Rose old.disk n) (sym (ap (λ c. c.disk) rises.2)) h.1)
+cause_stays old mid new (DiskFault step) asking s now text rises h says = subst (λ n. Rose old.disk n) (sym (ap (λ c. c.disk) rises.2)) h
+cause_stays old mid new (ServiceFault step service) asking s now text rises h says = subst (λ n. Rose old.service n) (sym (ap (λ c. c.service) rises.2)) h
 cause_stays old mid new (PrintFault step) asking s now text rises h never = absurd never
 cause_stays old mid new Done asking s now text rises h says = tt
 cause_stays old mid new other asking s now text rises h says = tt
 
 -- what one answer leaves
 pub printed_leaves : (asking : Asking Request) (s now : State) (after : Option State) (old mid new : Counts) (r : Outcome) (text : List ℕ) (result : Outcome)
-    → IsPrinted r text (Some now) after mid new result → PrintMayRise mid new → HasCause old mid r → Says asking s now r text
+    → IsPrinted r text (Some now) after mid new result → PrintMayRise mid new → HasCause old mid r → Says asking s now r text → now.output ≡ s.output
     → Leaves asking s after old new result
-printed_leaves asking s now after old mid new r text result (inl whole) rises cause says =
+printed_leaves asking s now after old mid new r text result (inl whole) rises cause says same =
     (now, text, whole.1, subst (λ x. Prints asking s now old new x text) (sym whole.0) (says_prints asking s now old new r text says))
-printed_leaves asking s now after old mid new r text result (inr part) rises cause says = (
+printed_leaves asking s now after old mid new r text result (inr part) rises cause says same = (
   now,
   part.1.0,
   part.1.3,
   subst (λ x. Prints asking s now old new x part.1.0) (sym part.0)
-      (r, part.1.1, cause_stays old mid new r asking s now text rises cause says, subst (λ t. Says asking s now r t) part.1.2 says),
+      (inl (inl (refl, same), (r, part.1.1, cause_stays old mid new r asking s now text rises cause says, subst (λ t. Says asking s now r t) part.1.2 says))),
 )
 
 -- a question whose command changes nothing but the output
@@ -74,7 +76,7 @@ module _ (asking : State → Asking Request) where
   printed_to None after old mid new r text result (inl whole) rises cause says = whole.1
   printed_to None after old mid new r text result (inr part) rises cause says = part.1.3
   printed_to (Some s) after old mid new r text result printed rises cause says =
-      printed_leaves (asking s) s s after old mid new r text result printed rises cause says
+      printed_leaves (asking s) s s after old mid new r text result printed rises cause says refl
 
   memory_says : (o : Option State) → IfSome o (λ s. Says (asking s) s s Memory (last_line Memory))
   memory_says None = tt
@@ -143,9 +145,10 @@ pub refused_cause : (old new : Counts) (e : Outcome) → Refuses old new e → H
 refused_cause old new Done never = absurd never
 refused_cause old new Usage never = absurd never
 refused_cause old new (PrintFault step) never = absurd never
+refused_cause old new (ServiceFault step service) never = absurd never
 refused_cause old new Memory h = tt
 refused_cause old new InputFault h = h
-refused_cause old new (DiskFault step) h = h
+refused_cause old new (DiskFault step) h = h.1
 refused_cause old new other h = tt
 
 -- ---- where nothing failed
@@ -155,6 +158,7 @@ refused_completes : (asking : Asking Request) (old mid new : Counts) (e : Outcom
 refused_completes asking old mid new Done rises never f none = absurd never
 refused_completes asking old mid new Usage rises never f none = absurd never
 refused_completes asking old mid new (PrintFault step) rises never f none = absurd never
+refused_completes asking old mid new (ServiceFault step service) rises never f none = absurd never
 refused_completes asking old mid new Unorderable rises never f none = absurd never
 refused_completes asking old mid new (Budget n) rises never f none = absurd never
 refused_completes asking old mid new Memory rises h f none = inl refl

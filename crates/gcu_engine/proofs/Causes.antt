@@ -9,7 +9,7 @@ use Rattle.gcu_engine.specs.PlanCommands.{RefusesOrEnds}
 use Rattle.gcu_engine.specs.Preparing.{Refuses}
 use Rattle.gcu_engine.specs.Printing.{IsPrinted, IsSaid}
 use Rattle.gcu_engine.specs.declared.outcomes.Outcome.{Outcome}
-use Rattle.gcu_engine.specs.declared.outcomes.Outcome.TheVariants.{Done, Memory, Usage, InputFault, DiskFault, PrintFault, Unorderable, Budget}
+use Rattle.gcu_engine.specs.declared.outcomes.Outcome.TheVariants.{Done, Memory, Usage, InputFault, DiskFault, PrintFault, ServiceFault, Unorderable, Budget}
 
 -- where one count may rise none falls
 pub disk_fell : (old new : Counts) → DiskMayRise old new → NoneFell old new
@@ -20,7 +20,15 @@ disk_fell old new rises =
     let service : new.service ≡ old.service = ap (λ (c : Counts). c.service) rises.2 in
     record { input = omega arith; disk = omega (arith, rises.1); print = omega arith; service = omega arith }
 
-rose_from : (a b c : ℕ) → a ≤ b → Rose b c → Rose a c
+pub print_fell : (old new : Counts) → PrintMayRise old new → NoneFell old new
+print_fell old new rises =
+    let input : new.input ≡ old.input = ap (λ (c : Counts). c.input) rises.2 in
+    let disk : new.disk ≡ old.disk = ap (λ (c : Counts). c.disk) rises.2 in
+    let print : new.print ≡ rises.0 = ap (λ (c : Counts). c.print) rises.2 in
+    let service : new.service ≡ old.service = ap (λ (c : Counts). c.service) rises.2 in
+    record { input = omega arith; disk = omega arith; print = omega (arith, rises.1); service = omega arith }
+
+pub rose_from : (a b c : ℕ) → a ≤ b → Rose b c → Rose a c
 rose_from a b c le rose = ⊎_elim (λ (less : b < c). inl (omega arith)) (λ (last : c ≡ last_count). inr last) rose
 
 module _ (old mid new : Counts) (fell : NoneFell old mid) (rises : PrintMayRise mid new) where
@@ -29,16 +37,17 @@ module _ (old mid new : Counts) (fell : NoneFell old mid) (rises : PrintMayRise 
   later_cause Done never = absurd never
   later_cause Usage never = absurd never
   later_cause (PrintFault step) never = absurd never
+  later_cause (ServiceFault step service) never = absurd never
   later_cause Memory h = tt
   later_cause InputFault h = subst (λ n. Rose old.input n) (sym (ap (λ (c : Counts). c.input) rises.2)) h
-  later_cause (DiskFault step) h = (h.0, subst (λ n. Rose old.disk n) (sym (ap (λ (c : Counts). c.disk) rises.2)) h.1)
+  later_cause (DiskFault step) h = subst (λ n. Rose old.disk n) (sym (ap (λ (c : Counts). c.disk) rises.2)) h.1
   later_cause other h = tt
 
   printed_cause : (r : Outcome) (text : List ℕ) (before after : Option State) (result : Outcome) → HasCause old new r
       → IsPrinted r text before after mid new result → HasCause old new result
   printed_cause r text before after result cause (inl whole) = subst (HasCause old new) (sym whole.0) cause
   printed_cause r text before after result cause (inr part) =
-      subst (HasCause old new) (sym part.0) (refl, rose_from old.print mid.print new.print fell.print part.2)
+      subst (HasCause old new) (sym part.0) (rose_from old.print mid.print new.print fell.print part.2)
 
   pub said_cause : (e : Outcome) (before after : Option State) (result : Outcome) → Refuses old mid e
       → IsSaid e (last_line e) before after mid new result → HasCause old new result

@@ -11,7 +11,7 @@ use Rattle.gcu_engine.specs.Plannings.{IsUnsolved}
 use Rattle.gcu_engine.specs.Request as request
 use Rattle.gcu_engine.specs.Request.{Request}
 use Rattle.gcu_engine.specs.declared.outcomes.Outcome.{Outcome}
-use Rattle.gcu_engine.specs.declared.outcomes.Outcome.TheVariants.{Done, Memory, InputFault, DiskFault, PrintFault, Unorderable, Budget}
+use Rattle.gcu_engine.specs.declared.outcomes.Outcome.TheVariants.{Done, Memory, InputFault, DiskFault, PrintFault, ServiceFault, Unorderable, Budget}
 
 -- what is done is finished
 finishes : (r : Request) → Finishes r Done
@@ -21,10 +21,12 @@ finishes request.check = refl
 finishes (request.save_checkpoint name config) = refl
 finishes (request.delete_checkpoint name) = refl
 finishes (request.plan p) = inl refl
+finishes (request.change p) = inl refl
 
 -- so is a plan that isn't found
 unsolved_finishes : (r : Request) (e : Outcome) → IsUnsolved r e → Finishes r e
 unsolved_finishes (request.plan p) e h = inr h
+unsolved_finishes (request.change p) e h = inr h
 unsolved_finishes (request.preview c) e never = absurd never
 unsolved_finishes (request.list_checkpoints names) e never = absurd never
 unsolved_finishes request.check e never = absurd never
@@ -36,14 +38,15 @@ module _ (asking : Asking Request) (s now : State) (old new : Counts) (none : No
   says_completes Done output cause says = inr (inr (says.0, says.1, finishes says.0))
   says_completes Memory output cause says = inl refl
   says_completes InputFault output cause says = absurd (none.input cause)
-  says_completes (DiskFault step) output cause says = absurd (none.disk cause.1)
-  says_completes (PrintFault step) output cause says = absurd (none.print cause.1)
+  says_completes (DiskFault step) output cause says = absurd (none.disk cause)
+  says_completes (PrintFault step) output cause says = absurd (none.print cause)
+  says_completes (ServiceFault step service) output cause says = absurd (none.service cause)
   says_completes Unorderable output cause says = inr (inr (says.0.0, says.0.1, unsolved_finishes says.0.0 Unorderable says.0.2))
   says_completes (Budget n) output cause says = inr (inr (says.0.0, says.0.1, unsolved_finishes says.0.0 (Budget n) says.0.2))
   says_completes other output cause says = inr (inl says.0)
 
   prints_completes : (result : Outcome) (output : List ℕ) → HasCause old new result → Prints asking s now old new result output → Complete asking result
-  prints_completes (PrintFault step) output cause prints = absurd (none.print cause.1)
+  prints_completes (PrintFault step) output cause prints = absurd (none.print cause)
   prints_completes Done output cause prints = says_completes Done output cause prints
   prints_completes Memory output cause prints = says_completes Memory output cause prints
   prints_completes other output cause prints = says_completes other output cause prints

@@ -20,7 +20,7 @@ use Rattle.gcu_engine.proofs.Writing.{FindsUnit, IsWriting}
 pub deleting : (name : List ℕ) → IsWriting (request.delete_checkpoint name) (IsDeleted name) (IsDeletedOrNot name)
 deleting name = record {
   done = λ before files h. (files, refl, h);
-  stopped = λ before now h. h;
+  stopped = λ before now h. (refl, h);
   doing = λ before left h. h;
   says = refl;
 }

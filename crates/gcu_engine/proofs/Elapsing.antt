@@ -2,12 +2,15 @@
 use Rattle.std.proofs.Common.{◌≡◌, ◌≤◌, inl, inr, ⊎_elim, ℕ, List, [], ◌++◌, ap, append_assoc, Option, Some, None, sym, ◌∙◌, subst, append-nil, arith}
 use Rattle.host_core.specs.Crashes.{Elapses, LeavesOnly, Left, MayLeave, MayLeaveInPrint, MayLeaveNow}
 use Rattle.host_core.specs.State.{State, printed}
-use Rattle.host_core.proofs.Runs.{begins, goes_on}
-use Rattle.gcu_engine.specs.Answers.{LeftDoing, LeftMeanwhile, LeftOf, LeftWithOutput}
+use Rattle.host_core.proofs.Runs.{begins, goes_on, weaker}
+use Rattle.gcu_engine.specs.Answers.{LeftByForm, LeftDoing, LeftMeanwhile, LeftOf, LeftWithOutput}
 use Rattle.gcu_engine.specs.Asked.{form_asked}
 use Rattle.gcu_engine.specs.Asking.{Asking}
+use Rattle.gcu_engine.specs.ChangeAsked.{change_asked}
 use Rattle.gcu_engine.specs.Commands.{LeftTo, TellsOn}
-use Rattle.gcu_engine.specs.Form.{Form, form}
+use Rattle.gcu_engine.specs.Doing.{LeftToChange}
+use Rattle.gcu_engine.specs.Form.{Form, change, form}
+use Rattle.plan_options.specs.Targets.{Target}
 use Rattle.gcu_engine.specs.Request as request
 use Rattle.gcu_engine.specs.Request.{Request}
 
@@ -50,14 +53,15 @@ printed_left asking (Some s) now tells may left h =
     (record { files = part.1.files; output = λ i. t.output; restarts = part.1.restarts })) in
     front_on (asking s) s left t.output part.0 so_far part.1.output
 
--- no command leaves more today
-left_meanwhile : (words : List (List ℕ)) (before : Option State) (left : Left) → LeftWithOutput before left → LeftMeanwhile words before left
-left_meanwhile words None left h = tt
-left_meanwhile words (Some s) left h = inl h
+-- what a command may leave may be left by words that are that command
+left_by : (P : Option State → Left → Type 0) (words : List (List ℕ)) (f : Option Form) (before : Option State) (left : Left) → f ≡ form words
+    → ((s : State) → P (Some s) left → LeftByForm f s left) → P before left → LeftMeanwhile words before left
+left_by P words f None left is gives h = tt
+left_by P words f (Some s) left is gives h = subst (λ g. LeftByForm g s left) is (gives s h)
 
 module _ {H : Type 0} (moment : H → ℕ) (left_since : H → ℕ → Left → Type 0) where
   -- what may be left of these may be left of those
-  elapses_weaker : (old new : H) (P Q : Left → Type 0) → ((left : Left) → P left → Q left) → Elapses moment left_since old new P
+  pub elapses_weaker : (old new : H) (P Q : Left → Type 0) → ((left : Left) → P left → Q left) → Elapses moment left_since old new P
       → Elapses moment left_since old new Q
   elapses_weaker old new P Q more h = record {
     later = h.later;
@@ -115,27 +119,38 @@ module _ {H : Type 0} (moment : H → ℕ) (left_since : H → ℕ → Left → 
 
   -- what may be left at a command's moments may be left at those of the words that it is
   pub leaves_by : (words : List (List ℕ)) (f : Option Form) (old new : H) (before : Option State) → f ≡ form words
+      → ((s : State) (left : Left) → LeftOf (form_asked f s) s left → LeftByForm f s left)
       → LeavesOnly moment left_since old new (LeftTo (λ s. form_asked f s) before) → LeavesOnly moment left_since old new (LeftMeanwhile words before)
-  leaves_by words f old new None is run = run
-  leaves_by words f old new (Some s) is run = subst (λ g. LeavesOnly moment left_since old new (LeftOf (form_asked g s) s)) is run
+  leaves_by words f old new before is gives run =
+      weaker moment left_since old new (LeftTo (λ s. form_asked f s) before) (LeftMeanwhile words before)
+      (λ left h. left_by (LeftTo (λ s. form_asked f s)) words f before left is (λ s. gives s left) h) run
+
+  -- so may what is left of a change
+  pub changes_by : (words : List (List ℕ)) (from : Target) (budget : ℕ) (old new : H) (before : Option State) → Some (change from budget) ≡ form words
+      → LeavesOnly moment left_since old new (LeftToChange (change_asked from budget) before) → LeavesOnly moment left_since old new (LeftMeanwhile words before)
+  changes_by words from budget old new before is run =
+      weaker moment left_since old new (LeftToChange (change_asked from budget) before) (LeftMeanwhile words before)
+      (λ left h. left_by (LeftToChange (change_asked from budget)) words (Some (change from budget)) before left is (λ s changed. changed) h) run
 
   -- a command that prints alone
-  pub command_leaves : (words : List (List ℕ)) (old new : H) (before : Option State)
+  pub command_leaves : (words : List (List ℕ)) (f : Option Form) (old new : H) (before : Option State) → f ≡ form words
+      → ((s : State) (left : Left) → LeftWithOutput (Some s) left → LeftByForm f s left)
       → ((left : Left) → left_since old (moment old) left → MayLeaveNow before left)
       → Elapses moment left_since old new (LeftWithOutput before) → LeavesOnly moment left_since old new (LeftMeanwhile words before)
-  command_leaves words old new before only time =
+  command_leaves words f old new before is gives only time =
       goes_on moment left_since old old new (LeftMeanwhile words before) (LeftWithOutput before)
       (begins moment left_since old (LeftMeanwhile words before)
-      (λ left since. left_meanwhile words before left (now_with_output before left (only left since))))
-      time (left_meanwhile words before)
+      (λ left since. left_by LeftWithOutput words f before left is (λ s. gives s left) (now_with_output before left (only left since))))
+      time (λ left. left_by LeftWithOutput words f before left is (λ s. gives s left))
 
   -- a command that prints alone, once it has read what it needs
-  pub command_leaves_behind : (words : List (List ℕ)) (old mid new : H) (before told : Option State) → told ≡ before
+  pub command_leaves_behind : (words : List (List ℕ)) (f : Option Form) (old mid new : H) (before told : Option State) → f ≡ form words
+      → ((s : State) (left : Left) → LeftWithOutput (Some s) left → LeftByForm f s left) → told ≡ before
       → ((left : Left) → left_since old (moment old) left → MayLeaveNow before left)
       → Elapses moment left_since old mid (MayLeaveNow before) → Elapses moment left_since mid new (LeftWithOutput told)
       → LeavesOnly moment left_since old new (LeftMeanwhile words before)
-  command_leaves_behind words old mid new before told same only first second =
-      command_leaves words old new before only
+  command_leaves_behind words f old mid new before told is gives same only first second =
+      command_leaves words f old new before is gives only
       (elapses_both old mid new (LeftWithOutput before)
       (elapses_weaker old mid _ _ (now_with_output before) first)
       (subst (λ x. Elapses moment left_since mid new (LeftWithOutput x)) same second))

@@ -25,7 +25,7 @@ use Rattle.gcu_engine.specs.Asking.{Asking, follows, follows_by, ◌>>>◌}
 use Rattle.gcu_engine.specs.Preparing.{FailsIn, Finds, Found, IsGiven, IsRightBy, Refuses, RefusesAlways, StandsIn, refusal}
 use Rattle.gcu_engine.specs.Trees.{document_shape, preview_document, stored_document, target_document, through}
 use Rattle.gcu_engine.specs.declared.outcomes.Outcome.{Outcome}
-use Rattle.gcu_engine.specs.declared.outcomes.Outcome.TheVariants.{BadStored, Done, Memory, Usage, InputFault, DiskFault, PrintFault, TargetShape, Unorderable, Budget}
+use Rattle.gcu_engine.specs.declared.outcomes.Outcome.TheVariants.{BadStored, Done, Memory, Usage, InputFault, DiskFault, PrintFault, ServiceFault, TargetShape, Unorderable, Budget}
 
 -- ---- what is asked one after the other
 
@@ -87,6 +87,7 @@ refused_here Usage old new never = absurd never
 refused_here InputFault old new never = absurd never
 refused_here (DiskFault step) old new never = absurd never
 refused_here (PrintFault step) old new never = absurd never
+refused_here (ServiceFault step service) old new never = absurd never
 refused_here Unorderable old new never = absurd never
 refused_here (Budget n) old new never = absurd never
 refused_here other old new h = tt

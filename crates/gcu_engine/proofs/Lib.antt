@@ -1,4 +1,7 @@
 pub mod Answering
+mod ChangeBegins
+mod ChangeEnds
+mod Changes
 pub mod Elapsing
 pub mod Finding
 pub mod ModelTexts
@@ -9,6 +12,12 @@ pub mod TreeTexts
 mod Causes
 mod Completing
 mod Deletions
+mod FaultTexts
+mod Headlines
 mod Listing
+mod Naming
+mod ReadyChanges
+mod ReadyOrNot
+mod RightPlans
 mod Savings
 mod Writing

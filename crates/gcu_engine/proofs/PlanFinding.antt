@@ -1,9 +1,10 @@
 -- How what the parts of a command that plans find makes what it says.
-use Rattle.std.proofs.Common.{◌≡◌, inl, ℕ, List, refl, sym, ap, subst, Option, Some, None, Result, Ok, Err, IfErr, IfOk, IfSome}
+use Rattle.std.proofs.Common.{◌≡◌, inl, inr, ℕ, List, refl, sym, ap, subst, Option, Some, None, Result, Ok, Err, IfErr, IfOk, IfSome}
 use Rattle.host_core.specs.Answers.{Gives}
 use Rattle.host_core.specs.Counts.{Counts}
 use Rattle.host_core.specs.State.{State}
 use Rattle.conf_doc.specs.declared.configuration.Config.{Config}
+use Rattle.conf_store.specs.declared.loaded.Stored.{Stored}
 use Rattle.move_core.specs.Contexts.{AgreeElsewhere}
 use Rattle.move_core.specs.RulesFile.{rules}
 use Rattle.move_core.specs.declared.contexts.Ctx.{Ctx}
@@ -17,22 +18,26 @@ use Rattle.gcu_engine.specs.Asking.{Asking, follows, follows_by}
 use Rattle.gcu_engine.specs.FileAsked.{config_found, file_asked, file_limit}
 use Rattle.gcu_engine.specs.ModelFiles.{bytes_asked, models_asked}
 use Rattle.gcu_engine.specs.PatchAsked.{patch_asked, target}
-use Rattle.gcu_engine.specs.PlanAsked.{HasKeys, IsElsewhereAs, IsValidOr, dry_run_asked, goal_asked, made_asked, plan_asked, start_asked, target_answer}
-use Rattle.gcu_engine.specs.PlanCommands.{IsSolved, RefusesOrEnds, SaysPlan, request_of}
+use Rattle.gcu_engine.specs.PlanAsked.{HasKeys, IsElsewhereAs, IsValidOr, dry_run_asked, goal_asked, made_asked, plan_asked, planning_asked, start_asked, target_answer}
+use Rattle.gcu_engine.specs.PlanCommands.{IsSolved, RefusesOrEnds, SaysPlan, planning_of}
 use Rattle.plan_options.specs.Targets.{Target, patched}
-use Rattle.gcu_engine.specs.Preparing.{Finds, IsRightBy, Refuses, RefusesAlways, refusal}
+use Rattle.gcu_engine.specs.Preparing.{Finds, Found, IsRightBy, Refuses, RefusesAlways, refusal}
 use Rattle.gcu_engine.specs.Request as request
 use Rattle.gcu_engine.specs.Request.{Request}
 use Rattle.gcu_engine.specs.RulesAsked.{ctx_asked, rules_answer, rules_limit, rules_path, settings_asked}
 use Rattle.gcu_engine.specs.StoredAsked.{stored_asked}
 use Rattle.gcu_engine.specs.declared.outcomes.Outcome.{Outcome}
-use Rattle.gcu_engine.specs.declared.outcomes.Outcome.TheVariants.{CurrentInvalid, TargetInvalid, Done, Memory, Usage, InputFault, DiskFault, PrintFault, Unorderable, Budget}
+use Rattle.gcu_engine.specs.declared.outcomes.Outcome.TheVariants.{CurrentInvalid, TargetInvalid, Done, Memory, Usage, InputFault, DiskFault, PrintFault, ServiceFault, Unorderable, Budget}
 use Rattle.gcu_engine.specs.declared.planning.Planning as code
 use Rattle.gcu_engine.proofs.Answering.{refused_says}
 use Rattle.gcu_engine.proofs.Finding.{first_refused, found_always, found_told, then_found}
 
 abbrev self : {X : Type 0} → X → X
 self x = x
+
+-- the configuration of what was loaded
+abbrev pub config_of : Stored → Config
+config_of what = what.config
 
 -- ---- the rules file
 
@@ -79,17 +84,22 @@ ctx_found (Some s) models settings h f =
 -- ---- the start
 
 -- the folder stands for no configuration
-pub no_start : (o : Option State) (ctx : Ctx) (e : Outcome) → Finds {X = Config} o self (Err e) stored_asked
-    → Finds {X = Config} o self (Err e) (start_asked ctx)
+pub no_start : (o : Option State) (ctx : Ctx) (e : Outcome) → Finds {X = Stored} o config_of (Err e) stored_asked
+    → Finds {X = Stored} o config_of (Err e) (start_asked ctx)
 no_start None ctx e h = tt
-no_start (Some s) ctx e h = first_refused self self e (stored_asked s) _ h
+no_start (Some s) ctx e h = first_refused config_of config_of e (stored_asked s) _ h
 
 -- the stored configuration is judged
-pub start_found : (o : Option State) (ctx : Ctx) (stored : Config) (r : Result Config Outcome) → Finds o self (Ok stored) stored_asked
-    → IsRightBy self r (IsValidOr CurrentInvalid ctx stored) → IfErr r RefusesAlways → Finds o self r (start_asked ctx)
-start_found None ctx stored r h told always = tt
-start_found (Some s) ctx stored r h told always =
-    then_found self self stored r (stored_asked s) _ h (found_told self r (IsValidOr CurrentInvalid ctx stored) told always)
+pub start_found : (o : Option State) (ctx : Ctx) (what : Stored) (r : Result Stored Outcome) → Finds o config_of (Ok what) stored_asked
+    → IsRightBy config_of r (IsValidOr CurrentInvalid ctx what.config) → IfErr r RefusesAlways → Finds o config_of r (start_asked ctx)
+start_found None ctx what r h told always = tt
+start_found (Some s) ctx what r h told always =
+    then_found config_of config_of what r (stored_asked s) _ h (found_told config_of r (IsValidOr CurrentInvalid ctx what.config) told always)
+
+-- what is judged is what was loaded
+pub judged_is : (what : Stored) (r : Result Stored Outcome) (P : Stored → Type 0) → IfOk r (λ found. found ≡ what) → P what → IfOk r P
+judged_is what (Ok found) P is h = subst P (sym is) h
+judged_is what (Err e) P is h = tt
 
 -- ---- the goal
 
@@ -171,38 +181,56 @@ judged_elsewhere ctx start goal (Err e) told agree = tt
 
 -- there is nothing to judge by
 pub no_plan_ctx : (o : Option State) (from : Target) (budget : ℕ) (e : Outcome) → Finds {X = Ctx} o self (Err e) ctx_asked
-    → Finds o request_of (Err e) (plan_asked from budget)
+    → Finds o planning_of (Err e) (planning_asked from budget)
 no_plan_ctx None from budget e h = tt
-no_plan_ctx (Some s) from budget e h = first_refused self request_of e (ctx_asked s) _ h
+no_plan_ctx (Some s) from budget e h = first_refused self planning_of e (ctx_asked s) _ h
 
 -- there is no start
 pub no_plan_start : (o : Option State) (from : Target) (budget : ℕ) (ctx : Ctx) (e : Outcome) → Finds o self (Ok ctx) ctx_asked
-    → Finds {X = Config} o self (Err e) (start_asked ctx) → Finds o request_of (Err e) (plan_asked from budget)
+    → Finds {X = Stored} o config_of (Err e) (start_asked ctx) → Finds o planning_of (Err e) (planning_asked from budget)
 no_plan_start None from budget ctx e h f = tt
-no_plan_start (Some s) from budget ctx e h f = then_found self request_of ctx (Err e) (ctx_asked s) _ h (first_refused self request_of e (start_asked ctx s) _ f)
+no_plan_start (Some s) from budget ctx e h f = then_found self planning_of ctx (Err e) (ctx_asked s) _ h (first_refused config_of planning_of e (start_asked ctx s) _ f)
 
 -- there is no goal
-pub no_plan_goal : (o : Option State) (from : Target) (budget : ℕ) (ctx : Ctx) (start : Config) (e : Outcome) → Finds o self (Ok ctx) ctx_asked
-    → Finds o self (Ok start) (start_asked ctx) → Finds {X = Config} o self (Err e) (goal_asked from ctx start)
-    → Finds o request_of (Err e) (plan_asked from budget)
+pub no_plan_goal : (o : Option State) (from : Target) (budget : ℕ) (ctx : Ctx) (start : Stored) (e : Outcome) → Finds o self (Ok ctx) ctx_asked
+    → Finds o config_of (Ok start) (start_asked ctx) → Finds {X = Config} o self (Err e) (goal_asked from ctx start.config)
+    → Finds o planning_of (Err e) (planning_asked from budget)
 no_plan_goal None from budget ctx start e h f g = tt
 no_plan_goal (Some s) from budget ctx start e h f g =
-    then_found self request_of ctx (Err e) (ctx_asked s) _ h
-    (then_found self request_of start (Err e) (start_asked ctx s) _ f (first_refused self request_of e (goal_asked from ctx start s) _ g))
+    then_found self planning_of ctx (Err e) (ctx_asked s) _ h
+    (then_found config_of planning_of start (Err e) (start_asked ctx s) _ f (first_refused self planning_of e (goal_asked from ctx start.config s) _ g))
+
+abbrev planned : code.Planning → ℕ → request.Planning
+planned p n = record { ctx = p.ctx; start = p.stored.config; goal = p.goal; budget = n }
 
 -- there is all that a plan needs
 pub planning_found : (o : Option State) (from : Target) (budget : ℕ) (p : code.Planning) → p.budget ≡ budget → Finds o self (Ok p.ctx) ctx_asked
-    → Finds o self (Ok p.start) (start_asked p.ctx) → Finds o self (Ok p.goal) (goal_asked from p.ctx p.start)
-    → Finds o request_of (Ok p) (plan_asked from budget)
+    → Finds o config_of (Ok p.stored) (start_asked p.ctx) → Finds o self (Ok p.goal) (goal_asked from p.ctx p.stored.config)
+    → Finds o planning_of (Ok p) (planning_asked from budget)
 planning_found None from budget p same h f g = tt
 planning_found (Some s) from budget p same h f g =
-    then_found self request_of p.ctx (Ok p) (ctx_asked s) _ h
-    (then_found self request_of p.start (Ok p) (start_asked p.ctx s) _ f
-    (then_found self request_of p.goal (Ok p) (goal_asked from p.ctx p.start s) _ g
+    then_found self planning_of p.ctx (Ok p) (ctx_asked s) _ h
+    (then_found config_of planning_of p.stored (Ok p) (start_asked p.ctx s) _ f
+    (then_found self planning_of p.goal (Ok p) (goal_asked from p.ctx p.stored.config s) _ g
     (record {
-      gives = ap (λ n. Ok (request.plan (record { ctx = p.ctx; start = p.start; goal = p.goal; budget = n }))) (sym same);
+      gives = ap (λ (n : ℕ). Ok (planned p n)) (sym same);
       stands = tt;
     })))
+
+-- the request for it
+abbrev request_of : code.Planning → Request
+request_of p = request.plan (planning_of p)
+
+-- what a plan needs makes the request
+planned_found : (o : Option State) (from : Target) (budget : ℕ) (r : Result code.Planning Outcome) → Finds o planning_of r (planning_asked from budget)
+    → Finds o request_of r (plan_asked from budget)
+planned_found None from budget r h = tt
+planned_found (Some s) from budget (Ok p) h =
+    record {
+      gives = inr (planning_of p, h.gives, refl);
+      stands = tt;
+    }
+planned_found (Some s) from budget (Err e) h = first_refused planning_of request_of e (planning_asked from budget s) _ h
 
 -- ---- the name
 
@@ -216,11 +244,12 @@ no_named (Some s) from budget e gives always =
 
 -- it isn't
 pub named_found : (o : Option State) (from : Target) (budget : ℕ) (u : Unit {0}) (r : Result code.Planning Outcome) → Gives (λ v. from) refusal (Ok u) (target_answer from)
-    → Finds o request_of r (plan_asked from budget) → Finds o request_of r (dry_run_asked from budget)
+    → Finds o planning_of r (planning_asked from budget) → Finds o request_of r (dry_run_asked from budget)
 named_found None from budget u r gives h = tt
 named_found (Some s) from budget u r gives h =
     then_found (λ v. from) request_of u r (follows (target_answer from)) _
-    (found_always (λ v. from) (Ok u) (target_answer from) _ (λ q same. same) gives tt) h
+    (found_always (λ v. from) (Ok u) (target_answer from) _ (λ q same. same) gives tt)
+    (planned_found (Some s) from budget r h)
 
 -- ---- what is said
 
@@ -263,6 +292,7 @@ pub end_cause : (old new : Counts) (e : Outcome) → RefusesOrEnds old new e →
 end_cause old new Done never = absurd never
 end_cause old new Usage never = absurd never
 end_cause old new (PrintFault step) never = absurd never
+end_cause old new (ServiceFault step service) never = absurd never
 end_cause old new InputFault h = h
-end_cause old new (DiskFault step) h = h
+end_cause old new (DiskFault step) h = h.1
 end_cause old new other h = tt

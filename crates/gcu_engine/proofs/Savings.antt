@@ -10,7 +10,7 @@ use Rattle.checkpoints.specs.Points.{Held, points}
 use Rattle.gcu_engine.specs.Asked.{absent_answer, absent_asked, save_asked}
 use Rattle.gcu_engine.specs.Asking.{Asking, a_settling, follows, follows_by, settles_first, ◌>>>◌}
 use Rattle.gcu_engine.specs.Checking.{IsJudged, check_asked}
-use Rattle.gcu_engine.specs.ModelFiles.{AreModels, File, bytes_asked, files_asked, model_limit, paths_asked, texts_in}
+use Rattle.gcu_engine.specs.ModelFiles.{AreModels, File, bytes_asked, files_asked, model_limit, models_asked, paths_asked, texts_in}
 use Rattle.gcu_engine.specs.Preparing.{Finds, Found}
 use Rattle.gcu_engine.specs.Request as request
 use Rattle.gcu_engine.specs.Request.{Request}
@@ -24,7 +24,7 @@ use Rattle.gcu_engine.proofs.Writing.{FindsUnit, IsWriting}
 pub saving : (name : List ℕ) (config : Config) → IsWriting (request.save_checkpoint name config) (IsSaved name config) (IsSavedOrNot name config)
 saving name config = record {
   done = λ before files h. (files, refl, h);
-  stopped = λ before now h. h;
+  stopped = λ before now h. (refl, h);
   doing = λ before left h. h;
   says = refl;
 }
@@ -32,14 +32,20 @@ saving name config = record {
 -- ---- what is asked of the settled folder
 
 -- what is pending tells nothing of the inputs
-files_settled : (found : List File) (paths : List (List ℕ)) (s : State) → files_asked found paths (with_pending settled s) ≡ files_asked found paths s
+pub files_settled : (found : List File) (paths : List (List ℕ)) (s : State) → files_asked found paths (with_pending settled s) ≡ files_asked found paths s
 files_settled found [] s = refl
 files_settled found (path ∷ paths) s = λ i. bytes_asked path model_limit s >>> λ bytes. files_settled (found ++ (path, bytes) ∷ []) paths s i
 
--- so a check asks the same once all is settled
+-- so the models are the same once all is settled
+pub models_settled : (s : State) → models_asked (with_pending settled s) ≡ models_asked s
+models_settled s = λ i.
+    (paths_asked s >>> λ paths. files_settled [] paths s i >>> λ files. follows (texts_in [] files)) >>> λ texts.
+    follows_by (AreModels texts)
+
+-- so a check asks the same
 check_settled : (s : State) → check_asked (with_pending settled s) ≡ check_asked s
 check_settled s = λ i.
-    (paths_asked s >>> λ paths. files_settled [] paths s i >>> λ files. follows (texts_in [] files)) >>> (λ texts. follows_by (AreModels texts)) >>> λ models.
+    models_settled s i >>> λ models.
     stored_asked s >>> λ start.
     follows_by (IsJudged models start)
 

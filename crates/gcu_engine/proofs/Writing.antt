@@ -21,7 +21,7 @@ use Rattle.gcu_engine.specs.Preparing.{FailsIn, Finds, Found, Refuses, StandsIn,
 use Rattle.gcu_engine.specs.Printing.{IsPrinted, IsSaid}
 use Rattle.gcu_engine.specs.Request.{Request}
 use Rattle.gcu_engine.specs.declared.outcomes.Outcome.{Outcome}
-use Rattle.gcu_engine.specs.declared.outcomes.Outcome.TheVariants.{Done, Memory, Usage, InputFault, DiskFault, PrintFault, Unorderable, Budget}
+use Rattle.gcu_engine.specs.declared.outcomes.Outcome.TheVariants.{Done, Memory, Usage, InputFault, DiskFault, PrintFault, ServiceFault, Unorderable, Budget}
 use Rattle.gcu_engine.proofs.Answering.{printed_leaves, refused_cause, refused_says}
 use Rattle.gcu_engine.proofs.Elapsing.{left_to, now_with_output}
 
@@ -30,13 +30,13 @@ use Rattle.gcu_engine.proofs.Elapsing.{left_to, now_with_output}
 -- what a request that writes does to the files: all of it, or as much as was done
 pub record IsWriting (r : Request) (P Q : Files → Files → Type 0) : Type 0 where
   pub done : (before : State) (files : Files) → P before.files files → LeavesDone r before (record before { files = files; pending = settled })
-  pub stopped : (before now : State) → Leads Q (with_pending settled before) now → LeavesStopped r before now
+  pub stopped : (before now : State) → Leads Q (with_pending settled before) now → LeavesStopped r 0 before now
   pub doing : (before : State) (left : Left) → LeftChanging Q before left → LeftDoing r before left
   pub says : IsDoneOutput r (last_line Done)
 
 -- at one state: what is there when the last line of an answer is to be printed
 abbrev IsLeft : Asking Request → State → Option State → Outcome → Type 0
-IsLeft asking s new e = (now : State) × (new ≡ Some now) × Says asking s now e (last_line e)
+IsLeft asking s new e = (now : State) × (new ≡ Some now) × Says asking s now e (last_line e) × (now.output ≡ s.output)
 
 module _ (asking : Asking Request) (s : State) (reads : asking.Reads a_settling) where
   abbrev start : State
@@ -48,38 +48,40 @@ module _ (asking : Asking Request) (s : State) (reads : asking.Reads a_settling)
   settled_says Memory c d h st f = (inr (reads, refl), refl)
   settled_says Usage c d never st f = absurd never
   settled_says InputFault c d h st f = (st, inr (reads, refl), refl)
-  settled_says (DiskFault step) c d h st f = (st, inl (inr (reads, refl)), refl)
+  settled_says (DiskFault step) c d h st f = (st, inl (h.0, inr (reads, refl)), refl)
   settled_says (PrintFault step) c d never st f = absurd never
+  settled_says (ServiceFault step service) c d never st f = absurd never
   settled_says Unorderable c d never st f = absurd never
   settled_says (Budget n) c d never st f = absurd never
   settled_says other c d h st f = (f, inr (reads, refl), refl)
 
   module _ (r : Request) (P Q : Files → Files → Type 0) (w : IsWriting r P Q) (new : Option State) (may : asking.Gives (Ok r) ⊎ (new ≡ Some start)) where
     -- a fault of the disk stopped it, or there was nothing to write
-    stopped_says : (step : ℕ) → Changes Q (Some start) new → asking.Reads a_file → IsLeft asking s new (DiskFault step)
-    stopped_says step changes reads_file = by may
+    stopped_says : (step : ℕ) → step ≡ 0 → Changes Q (Some start) new → asking.Reads a_file → IsLeft asking s new (DiskFault step)
+    stopped_says step first changes reads_file = by may
       where
         by : asking.Gives (Ok r) ⊎ (new ≡ Some start) → IsLeft asking s new (DiskFault step)
-        by (inl given) = (changes.0, changes.1, (reads_file, inr (r, given, w.stopped s changes.0 changes.2), refl))
-        by (inr same) = (start, same, (reads_file, inl (inr (reads, refl)), refl))
+        by (inl given) = (changes.0, changes.1, (reads_file, inr (r, given, subst (λ k. LeavesStopped r k s changes.0) (sym first) (w.stopped s changes.0 changes.2)), refl), changes.2.output)
+        by (inr same) = (start, same, (reads_file, inl (first, inr (reads, refl)), refl), refl)
 
     refused_writing : (e : Outcome) (c d : Counts) → LeavesRefused Q (Some start) new e → Refuses c d e → StandsIn asking e → FailsIn (refusal e) asking
         → IsLeft asking s new e
-    refused_writing (DiskFault step) c d left h st f = stopped_says step left st
+    refused_writing (DiskFault step) c d left h st f = stopped_says step h.0 left st
     refused_writing Done c d left never st f = absurd never
     refused_writing Usage c d left never st f = absurd never
     refused_writing (PrintFault step) c d left never st f = absurd never
+    refused_writing (ServiceFault step service) c d left never st f = absurd never
     refused_writing Unorderable c d left never st f = absurd never
     refused_writing (Budget n) c d left never st f = absurd never
-    refused_writing Memory c d left h st f = (start, left, (inr (reads, refl), refl))
-    refused_writing InputFault c d left h st f = (start, left, (st, inr (reads, refl), refl))
-    refused_writing other c d left h st f = (start, left, (f, inr (reads, refl), refl))
+    refused_writing Memory c d left h st f = (start, left, (inr (reads, refl), refl), refl)
+    refused_writing InputFault c d left h st f = (start, left, (st, inr (reads, refl), refl), refl)
+    refused_writing other c d left h st f = (start, left, (f, inr (reads, refl), refl), refl)
 
     -- what was asked for is left with each answer
     says_written : (result : Result (Unit {0}) Outcome) (c d : Counts)
         → OnOk result (Settles P (Some start) new) → IfErr result (LeavesRefused Q (Some start) new) → IfErr result (Refuses c d)
         → Found (λ _. r) result asking → IsLeft asking s new (outcome_of result)
-    says_written (Ok done) c d ok err cause found = (_, ok.1, (r, found.gives, w.done s ok.0 ok.2, w.says))
+    says_written (Ok done) c d ok err cause found = (record s { files = ok.0; pending = settled }, ok.1, (r, found.gives, w.done s ok.0 ok.2, w.says), refl)
     says_written (Err e) c d ok err cause found = refused_writing e c d err cause found.stands found.gives
 
 -- what is found of a state that is told
@@ -91,14 +93,14 @@ module _ (asking : State → Asking Request) where
   pub ready_before : (o new : Option State) (e : Outcome) (c d : Counts) (r : Request) → new ≡ o → Refuses c d e → FindsUnit o r (Err e) asking
       → IsReady asking o new e
   ready_before None new e c d r same h found = same
-  ready_before (Some s) new e c d r same h found = (s, same, refused_says (asking s) s e c d h found.stands found.gives)
+  ready_before (Some s) new e c d r same h found = (s, same, refused_says (asking s) s e c d h found.stands found.gives, refl)
 
   -- it was refused once it was settled
   pub ready_settled : (o new : Option State) (e : Outcome) (c d : Counts) (r : Request) → new ≡ option_map (with_pending settled) o → Refuses c d e
       → IfSome o (λ s. (asking s).Reads a_settling) → FindsUnit o r (Err e) asking → IsReady asking o new e
   ready_settled None new e c d r is h reads found = is
   ready_settled (Some s) new e c d r is h reads found =
-      (with_pending settled s, is, settled_says (asking s) s reads e c d h found.stands found.gives)
+      (with_pending settled s, is, settled_says (asking s) s reads e c d h found.stands found.gives, refl)
 
   untold : (P Q : Files → Files → Type 0) (new : Option State) (result : Result (Unit {0}) Outcome) → OnOk result (Settles P None new)
       → IfErr result (LeavesRefused Q None new) → new ≡ None
@@ -139,7 +141,7 @@ same_again name files =
     with_it q (Some bytes) is = finmap.get-insert nat_list_cmp_total files name bytes q ∙ tied q (Some bytes) is (name_cmp q name) refl
 
 -- what is there may be left
-as_is : (p : Pending) (files : Files) → Image p files files
+pub as_is : (p : Pending) (files : Files) → Image p files files
 as_is settled files = refl
 as_is (dirty name) files = (get files name, sym (same_again name files))
 as_is (listing before) files = inr refl
@@ -218,20 +220,21 @@ module _ {H : Type 0} (moment : H → ℕ) (left_since : H → ℕ → Left → 
 -- ---- what is answered
 
 module _ (asking : State → Asking Request) where
-  ready_printed : (o told after : Option State) (old mid new : Counts) (e result : Outcome)
+  pub ready_printed : (o told after : Option State) (old mid new : Counts) (e result : Outcome)
       → IsReady asking o told e → IsPrinted e (last_line e) told after mid new result → PrintMayRise mid new → HasCause old mid e
       → AnswersTo asking o after old new result
   ready_printed None told after old mid new e result ready (inl whole) rises cause = whole.1 ∙ ap (option_map (printed (last_line e))) ready
   ready_printed None told after old mid new e result ready (inr part) rises cause = part.1.3 ∙ ap (option_map (printed part.1.0)) ready
   ready_printed (Some s) told after old mid new e result ready print rises cause =
       printed_leaves (asking s) s ready.0 after old mid new e (last_line e) result
-      (subst (λ t. IsPrinted e (last_line e) t after mid new result) ready.1 print) rises cause ready.2
+      (subst (λ t. IsPrinted e (last_line e) t after mid new result) ready.1 print) rises cause ready.2 ready.3
 
   -- want of memory in the place of a refusal that changed nothing
   instead : (s now : State) (e : Outcome) → may_have_written e ≡ false → Says (asking s) s now e (last_line e) → Says (asking s) s now Memory (last_line Memory)
   instead s now Done isnt says = absurd cc
   instead s now (DiskFault step) isnt says = absurd cc
   instead s now (PrintFault step) isnt never = absurd never
+  instead s now (ServiceFault step service) isnt says = absurd cc
   instead s now Memory isnt says = says
   instead s now Unorderable isnt says = (says.1, refl)
   instead s now (Budget n) isnt says = (says.1, refl)
@@ -239,7 +242,7 @@ module _ (asking : State → Asking Request) where
 
   ready_instead : (o told : Option State) (e : Outcome) → may_have_written e ≡ false → IsReady asking o told e → IsReady asking o told Memory
   ready_instead None told e isnt ready = ready
-  ready_instead (Some s) told e isnt ready = (ready.0, ready.1, instead s ready.0 e isnt ready.2)
+  ready_instead (Some s) told e isnt ready = (ready.0, ready.1, instead s ready.0 e isnt ready.2, ready.3)
 
   -- the last line was printed
   pub told_answers : (o told after : Option State) (old mid new : Counts) (e result : Outcome)
@@ -257,6 +260,7 @@ module _ (asking : State → Asking Request) where
 -- a refusal that is no fault of the disk comes before anything is written
 pub unwritten : (e : Outcome) → IsFirst e → is_disk_fault e ≡ false → may_have_written e ≡ false
 unwritten Done first isnt = absurd first
+unwritten (ServiceFault step service) first isnt = absurd first
 unwritten other first isnt = isnt
 
 -- and its last line may ask for memory
@@ -269,6 +273,7 @@ told_said e false isnt before after old new result said = said
 refused_first : (old new : Counts) (e : Outcome) → Refuses old new e → IsFirst e
 refused_first old new (DiskFault step) h = h.0
 refused_first old new Done never = absurd never
+refused_first old new (ServiceFault step service) never = absurd never
 refused_first old new other h = tt
 
 pub comes_first : (old new : Counts) (result : Result (Unit {0}) Outcome) → IfErr result (Refuses old new) → IfErr result IsFirst
@@ -283,6 +288,7 @@ outcome_cause old new (Err e) h = refused_cause old new e h
 pub first_fault : (e : Outcome) → IsFirst e → is_disk_fault e ≡ true → e ≡ DiskFault 0
 first_fault (DiskFault step) first is = ap DiskFault first
 first_fault Done never is = absurd never
+first_fault (ServiceFault step service) never is = absurd never
 first_fault other first is = absurd cc
 
 -- what follows of what is told

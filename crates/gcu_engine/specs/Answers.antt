@@ -9,19 +9,26 @@ use Rattle.conf_store.specs.Changes.{Leads}
 use Rattle.checkpoints.specs.Changes.{IsDeleted, IsDeletedOrNot, IsSaved, IsSavedOrNot}
 use Rattle.move_core.specs.Operations.{plan_text}
 use Rattle.move_core.specs.declared.moves.Move.{Move}
-use Rattle.gcu_engine.specs.Asked.{asked}
+use Rattle.change_apply.specs.Change.{name_at}
+use Rattle.change_apply.specs.declared.errors.ApplyFault.TheVariants.{Disk, Service}
+use Rattle.gcu_engine.specs.Asked.{asked, form_asked}
 use Rattle.gcu_engine.specs.Asking.{Asking, an_input, a_file, a_settling}
-use Rattle.gcu_engine.specs.Lines.{last_line, lines}
+use Rattle.gcu_engine.specs.ChangeAsked.{change_asked}
+use Rattle.gcu_engine.specs.Changing.{AreAcknowledged, IsChanged, IsCutShort, IsHalted, LeftOfChange}
+use Rattle.gcu_engine.specs.Form as forms
+use Rattle.gcu_engine.specs.Form.{Form, form}
+use Rattle.gcu_engine.specs.Lines.{last_line, lines, service_line}
 use Rattle.gcu_engine.specs.Plannings.{IsPlanFor, IsUnsolved}
-use Rattle.gcu_engine.specs.Request.{Request, delete_checkpoint, list_checkpoints, plan, preview, check, save_checkpoint}
+use Rattle.gcu_engine.specs.Request.{Planning, Request, change, delete_checkpoint, list_checkpoints, plan, preview, check, save_checkpoint}
 use Rattle.gcu_engine.specs.declared.outcomes.Outcome.{Outcome}
-use Rattle.gcu_engine.specs.declared.outcomes.Outcome.TheVariants.{Done, Memory, Usage, InputFault, DiskFault, PrintFault, Unorderable, Budget}
+use Rattle.gcu_engine.specs.declared.outcomes.Outcome.TheVariants.{Done, Memory, Usage, InputFault, DiskFault, PrintFault, ServiceFault, Unorderable, Budget}
 
--- a fault is told only where its count rose, and after no acknowledgement
+-- a fault is told only where its count rose
 abbrev pub HasCause : Counts → Counts → Outcome → Type 0
 HasCause old new InputFault = Rose old.input new.input
-HasCause old new (DiskFault step) = (step ≡ 0) × Rose old.disk new.disk
-HasCause old new (PrintFault step) = (step ≡ 0) × Rose old.print new.print
+HasCause old new (DiskFault step) = Rose old.disk new.disk
+HasCause old new (PrintFault step) = Rose old.print new.print
+HasCause old new (ServiceFault step service) = Rose old.service new.service
 HasCause old new other = ⊤
 
 -- ---- what is there before the output
@@ -39,25 +46,29 @@ LeavesDone (delete_checkpoint name) before now =
 LeavesDone (save_checkpoint name config) before now =
     (files : Files) × (now ≡ record before { files = files; pending = settled })
     × IsSaved name config before.files files
+LeavesDone (change p) before now = IsChanged p before now
 LeavesDone other before now = now ≡ before
 
--- what a request leaves that a fault of the disk stops once it has begun to write
-abbrev pub LeavesStopped : Request → State → State → Type 0
-LeavesStopped (delete_checkpoint name) before now =
-    Leads (IsDeletedOrNot name) (with_pending settled before) now
-LeavesStopped (save_checkpoint name config) before now =
-    Leads (IsSavedOrNot name config) (with_pending settled before) now
-LeavesStopped other before now = ⊥
+-- what a request leaves that a fault of the disk stops once it has begun to write, after so many
+-- acknowledgements
+abbrev pub LeavesStopped : Request → ℕ → State → State → Type 0
+LeavesStopped (delete_checkpoint name) step before now =
+    (step ≡ 0) × Leads (IsDeletedOrNot name) (with_pending settled before) now
+LeavesStopped (save_checkpoint name config) step before now =
+    (step ≡ 0) × Leads (IsSavedOrNot name config) (with_pending settled before) now
+LeavesStopped (change p) step before now = IsHalted p (Disk step) before now
+LeavesStopped other step before now = ⊥
 
 -- what a fault of the disk leaves: nothing is done, or a request that is right is stopped
-abbrev pub IsStopped : Asking Request → State → State → Type 0
-IsStopped asking before now =
-    IsUntouched asking before now
-    ⊎ ((r : Request) × asking.Gives (Ok r) × LeavesStopped r before now)
+abbrev pub IsStopped : Asking Request → ℕ → State → State → Type 0
+IsStopped asking step before now =
+    ((step ≡ 0) × IsUntouched asking before now)
+    ⊎ ((r : Request) × asking.Gives (Ok r) × LeavesStopped r step before now)
 
 -- ---- the output
 
--- what is printed where the command did all that was requested, behind its plan where it has one
+-- what is printed where the command did all that was requested, behind a plan that is only printed; what a
+-- change printed before its last line is there already
 abbrev pub done_output : Request → List ℕ
 done_output (preview c) = file_text c ++ last_line Done
 done_output (list_checkpoints names) = lines names ++ last_line Done
@@ -65,6 +76,7 @@ done_output check = last_line Done
 done_output (save_checkpoint name config) = last_line Done
 done_output (delete_checkpoint name) = last_line Done
 done_output (plan p) = last_line Done
+done_output (change p) = last_line Done
 
 -- the same with the text of some plan, where one is requested
 abbrev pub IsDoneOutput : Request → List ℕ → Type 0
@@ -85,8 +97,11 @@ Says asking before now Memory output = IsUntouched asking before now × (output 
 Says asking before now InputFault output =
     asking.Reads an_input × IsUntouched asking before now × (output ≡ last_line InputFault)
 Says asking before now (DiskFault step) output =
-    asking.Reads a_file × IsStopped asking before now × (output ≡ last_line (DiskFault step))
+    asking.Reads a_file × IsStopped asking step before now × (output ≡ last_line (DiskFault step))
 Says asking before now (PrintFault step) output = ⊥
+Says asking before now (ServiceFault step service) output =
+    (p : Planning) × asking.Gives (Ok (change p)) × IsHalted p (Service step service) before now
+    × (output ≡ service_line step service (name_at p.ctx.settings service))
 Says asking before now Unorderable output =
     EndsSearch asking Unorderable × IsUntouched asking before now × (output ≡ last_line Unorderable)
 Says asking before now (Budget n) output =
@@ -100,11 +115,13 @@ SaysPart asking before now old new output =
     (other : Outcome) × (rest : List ℕ)
     × HasCause old new other × Says asking before now other (output ++ rest)
 
--- the output with that answer, which a print fault cuts short
+-- the output with that answer, which a print fault cuts short after so many acknowledgements: the last line,
+-- or what a change prints before it
 abbrev pub Prints : Asking Request
     → State → State → Counts → Counts → Outcome → List ℕ → Type 0
 Prints asking before now old new (PrintFault step) output =
-    SaysPart asking before now old new output
+    (AreAcknowledged step before now × SaysPart asking before now old new output)
+    ⊎ ((p : Planning) × asking.Gives (Ok (change p)) × IsCutShort p step before now output)
 Prints asking before now old new other output = Says asking before now other output
 
 -- what is left with that answer: what is there before the output, and the output
@@ -150,10 +167,16 @@ LeftOf asking before left =
     LeftWithOutput (Some before) left
     ⊎ ((r : Request) × asking.Gives (Ok r) × LeftDoing r before left)
 
+-- what a crash leaves of the command that words are
+abbrev pub LeftByForm : Option Form → State → Left → Type 0
+LeftByForm (Some (forms.change target budget)) before left =
+    LeftOfChange (change_asked target budget before) before left
+LeftByForm other before left = LeftOf (form_asked other before) before left
+
 -- What a crash leaves at a moment of a command, of a host that tells its state.
 abbrev pub LeftMeanwhile : List (List ℕ) → Option State → Left → Type 0
 LeftMeanwhile words None left = ⊤
-LeftMeanwhile words (Some before) left = LeftOf (asked words before) before left
+LeftMeanwhile words (Some before) left = LeftByForm (form words) before left
 
 -- ---- which answers there are
 
@@ -172,6 +195,7 @@ Finishes check result = result ≡ Done
 Finishes (save_checkpoint name config) result = result ≡ Done
 Finishes (delete_checkpoint name) result = result ≡ Done
 Finishes (plan p) result = (result ≡ Done) ⊎ IsUnsolved (plan p) result
+Finishes (change p) result = (result ≡ Done) ⊎ IsUnsolved (change p) result
 
 -- the answers where nothing failed: for want of memory, the refusal, or what the request says
 abbrev pub Complete : Asking Request → Outcome → Type 0

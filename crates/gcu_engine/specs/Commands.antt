@@ -10,7 +10,7 @@ use Rattle.gcu_engine.specs.Lines.{last_line}
 use Rattle.gcu_engine.specs.Printing.{IsPrinted, IsSaid}
 use Rattle.gcu_engine.specs.Request.{Request}
 use Rattle.gcu_engine.specs.declared.outcomes.Outcome.{Outcome}
-use Rattle.gcu_engine.specs.declared.outcomes.Outcome.TheVariants.{Done, DiskFault}
+use Rattle.gcu_engine.specs.declared.outcomes.Outcome.TheVariants.{Done, DiskFault, ServiceFault}
 
 -- what is left, with that answer
 abbrev pub AnswersTo : (State → Asking Request)
@@ -37,10 +37,11 @@ TellsOn (Some before) after = (now : State) × (after ≡ Some now)
 
 -- ---- a command that writes
 
--- a refusal, and where it is a fault of the disk it comes after no acknowledgement
+-- a refusal before any restart, and where it is a fault of the disk it comes after no acknowledgement
 abbrev pub IsFirst : Outcome → Type 0
 IsFirst Done = ⊥
 IsFirst (DiskFault step) = step ≡ 0
+IsFirst (ServiceFault step service) = ⊥
 IsFirst other = ⊤
 
 -- the outcome of what was done or refused
@@ -56,6 +57,7 @@ is_disk_fault other = false
 -- an answer that something may have been written before, so that its line asks for no memory
 abbrev pub may_have_written : Outcome → Bool
 may_have_written Done = true
+may_have_written (ServiceFault step service) = true
 may_have_written other = is_disk_fault other
 
 -- the answer that is printed; for want of memory another one may be, unless none is asked for
@@ -76,3 +78,4 @@ abbrev pub IsReady : (State → Asking Request)
 IsReady asking None after out = after ≡ None
 IsReady asking (Some before) after out =
     (now : State) × (after ≡ Some now) × Says (asking before) before now out (last_line out)
+    × (now.output ≡ before.output)

@@ -1,5 +1,5 @@
 -- Which words are a command.
-use Rattle.std.specs.Prelude.{ℕ, List, [], ◌∷◌, codes, ◌&&◌, if◌then◌else◌, Option, Some, None, option_and_then}
+use Rattle.std.specs.Prelude.{ℕ, List, [], ◌∷◌, codes, ◌&&◌, if◌then◌else◌, Option, Some, None, option_and_then, option_map}
 use Rattle.plan_options.specs.Options.{Options, options}
 use Rattle.plan_options.specs.Targets.{Target, target_of}
 use Rattle.plan_options.specs.Words.{is_positional, is_word}
@@ -16,6 +16,8 @@ pub data Form : Type 0 where
   delete_checkpoint : List ℕ → Form
   -- with the target and the budget of a plan that is only printed
   plan : Target → ℕ → Form
+  -- with the target and the budget of a plan that is done
+  change : Target → ℕ → Form
 
 -- the command that a word is
 abbrev pub form_of_one : List ℕ → Option Form
@@ -23,6 +25,16 @@ form_of_one command =
     if is_word command (codes "check") then Some check
     else if is_word command (codes "list-checkpoints") then Some list_checkpoints
     else None
+
+-- a plan is only printed, or done
+abbrev pub planned : Target → Options → Form
+planned target given =
+    if given.dry_run then plan target given.budget else change target given.budget
+
+-- the command that a word, a second one and options are
+abbrev pub form_of_plan : List ℕ → List ℕ → List (List ℕ) → Option Form
+form_of_plan command word ws =
+    option_and_then (λ target. option_map (planned target) (options ws)) (target_of command word)
 
 -- the command that two words are
 abbrev pub form_of_two : List ℕ → List ℕ → Option Form
@@ -32,17 +44,7 @@ form_of_two command word =
     then Some (save_checkpoint word)
     else if is_word command (codes "delete-checkpoint") && is_positional word
     then Some (delete_checkpoint word)
-    else None
-
--- a plan is only printed: one that would be done is no command
-abbrev pub planned : Target → Options → Option Form
-planned target given = if given.dry_run then Some (plan target given.budget) else None
-
--- the command that a word, a second one and options are
-abbrev pub form_of_plan : List ℕ → List ℕ → List (List ℕ) → Option Form
-form_of_plan command word ws =
-    option_and_then (λ target. option_and_then (planned target) (options ws))
-    (target_of command word)
+    else form_of_plan command word []
 
 -- the command that the words are
 abbrev pub form : List (List ℕ) → Option Form

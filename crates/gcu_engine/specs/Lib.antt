@@ -2,9 +2,12 @@
 pub mod Answers
 pub mod Asked
 pub mod Asking
+pub mod ChangeAsked
+pub mod Changing
 pub mod Checking
 pub mod FileAsked
 pub mod Form
+pub mod Headline
 pub mod Lines
 pub mod ModelFiles
 pub mod PatchAsked
@@ -16,6 +19,8 @@ pub mod RulesAsked
 pub mod StoredAsked
 -- what only private clauses cite
 pub mod Commands
+pub mod Doing
+pub mod FaultLines
 pub mod FormView
 pub mod Judging
 pub mod PlanCommands

@@ -15,7 +15,7 @@ use Rattle.move_core.specs.declared.errors.RulesWhy.TheVariants as rules_file
 use Rattle.yang_text.specs.declared.errors.ModelWhy.{ModelWhy}
 use Rattle.yang_text.specs.declared.errors.ModelWhy.TheVariants as models
 use Rattle.gcu_engine.specs.declared.outcomes.Outcome.{Outcome}
-use Rattle.gcu_engine.specs.declared.outcomes.Outcome.TheVariants.{Done, Memory, Usage, InputFault, DiskFault, PrintFault, NoInput, TooBig, BadJson, BadConfig, BadModels, BadRules, BadPatch, PatchFailed, TargetShape, CurrentInvalid, TargetInvalid, NoModel, EmptyTable, Unorderable, Budget, NoCheckpoint, CheckpointExists, BadName, BadStored}
+use Rattle.gcu_engine.specs.declared.outcomes.Outcome.TheVariants.{Done, Memory, Usage, InputFault, DiskFault, PrintFault, ServiceFault, NoInput, TooBig, BadJson, BadConfig, BadModels, BadRules, BadPatch, PatchFailed, TargetShape, CurrentInvalid, TargetInvalid, NoModel, EmptyTable, Unorderable, Budget, NoCheckpoint, CheckpointExists, BadName, BadStored}
 use Rattle.gcu_engine.specs.declared.outcomes.PointWhy.{PointWhy}
 use Rattle.gcu_engine.specs.declared.outcomes.PointWhy.TheVariants as point
 
@@ -27,6 +27,7 @@ number Usage = 2
 number InputFault = 3
 number (DiskFault step) = 4
 number (PrintFault step) = 5
+number (ServiceFault step service) = 6
 number (NoInput path) = 7
 number (TooBig path limit) = 8
 number (BadJson path) = 9
@@ -138,6 +139,7 @@ said Usage = codes "usage"
 said InputFault = codes "input fault"
 said (DiskFault step) = codes "disk fault after " ++ decimal step
 said (PrintFault step) = codes "print fault after " ++ decimal step
+said (ServiceFault step service) = codes "service fault after " ++ decimal step
 said (NoInput path) = codes "no input " ++ quoted path
 said (TooBig path limit) = codes "too big " ++ quoted path ++ space ++ decimal limit
 said (BadJson path) = codes "bad json " ++ quoted path
@@ -173,6 +175,12 @@ numbered_line status rest = codes "refused " ++ decimal status ++ space ++ rest 
 -- the line of a refusal: its number, and what it says
 abbrev pub refused_line : Outcome → List ℕ
 refused_line e = numbered_line (number e) (said e)
+
+-- the line of a service fault, which ends with the name of the service
+abbrev pub service_line : ℕ → ℕ → List ℕ → List ℕ
+service_line step service name =
+    numbered_line (number (ServiceFault step service))
+    (said (ServiceFault step service) ++ space ++ quoted name)
 
 -- what ends the output: nothing where printing failed
 abbrev pub last_line : Outcome → List ℕ

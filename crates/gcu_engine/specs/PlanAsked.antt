@@ -13,7 +13,7 @@ use Rattle.gcu_engine.specs.FileAsked.{file_asked}
 use Rattle.gcu_engine.specs.PatchAsked.{patch_asked, target}
 use Rattle.gcu_engine.specs.PointAsked.{held_asked, name_answer}
 use Rattle.plan_options.specs.Targets.{Target, patched, replaced, rolled_back}
-use Rattle.gcu_engine.specs.Request.{Request, plan}
+use Rattle.gcu_engine.specs.Request.{Planning, Request, plan}
 use Rattle.gcu_engine.specs.RulesAsked.{ctx_asked}
 use Rattle.gcu_engine.specs.StoredAsked.{stored_asked}
 use Rattle.gcu_engine.specs.declared.outcomes.Outcome.{Outcome}
@@ -60,13 +60,17 @@ goal_asked from ctx start s =
 
 -- ---- the plan
 
--- a plan for the target, with that budget
-abbrev pub plan_asked : Target → ℕ → State → Asking Request
-plan_asked from budget s =
+-- what a plan for the target needs, with that budget
+abbrev pub planning_asked : Target → ℕ → State → Asking Planning
+planning_asked from budget s =
     ctx_asked s >>> λ ctx.
     start_asked ctx s >>> λ start.
     goal_asked from ctx start s >>> λ goal.
-    follows (Ok (plan (record { ctx = ctx; start = start; goal = goal; budget = budget })))
+    follows (Ok (record { ctx = ctx; start = start; goal = goal; budget = budget }))
+
+-- a plan for the target, with that budget
+abbrev pub plan_asked : Target → ℕ → State → Asking Request
+plan_asked from budget s = planning_asked from budget s >>> λ p. follows (Ok (plan p))
 
 -- a target by a name that no checkpoint has is refused
 abbrev pub target_answer : Target → Result Target Outcome

@@ -1,7 +1,10 @@
 -- What the parts of a command that plans give.
 use Rattle.std.specs.Prelude.{◌≡◌, ◌<◌, true, List, ◌++◌, Result, Ok, Err, ⊤}
+use Rattle.std.specs.List.{AllPass}
 use Rattle.host_core.specs.Counts.{Counts}
 use Rattle.host_core.specs.State.{State}
+use Rattle.conf_doc.specs.WellFormed.{IsConfig}
+use Rattle.conf_store.specs.Files.{is_step_name}
 use Rattle.checkpoints.specs.Names.{is_good_name}
 use Rattle.move_core.specs.Contexts.{AgreeElsewhere, IsNamed, IsValidIn}
 use Rattle.move_core.specs.Operations.{plan_text}
@@ -10,7 +13,7 @@ use Rattle.plan_options.specs.Targets.{Target, rolled_back}
 use Rattle.gcu_engine.specs.Answers.{Says}
 use Rattle.gcu_engine.specs.Asking.{Asking}
 use Rattle.gcu_engine.specs.Lines.{last_line}
-use Rattle.gcu_engine.specs.Plannings.{IsPlanFor, IsUnsolved}
+use Rattle.gcu_engine.specs.Plannings.{HasNone, IsPlanFor}
 use Rattle.gcu_engine.specs.Preparing.{Refuses}
 use Rattle.gcu_engine.specs.Request as request
 use Rattle.gcu_engine.specs.Request.{Request}
@@ -25,25 +28,24 @@ HasGoodName other = ⊤
 
 -- what was read for a plan, as a request has it
 abbrev pub planning_of : Planning → request.Planning
-planning_of p = record { ctx = p.ctx; start = p.start; goal = p.goal; budget = p.budget }
-
--- the request for it
-abbrev pub request_of : Planning → Request
-request_of p = request.plan (planning_of p)
+planning_of p =
+    record { ctx = p.ctx; start = p.stored.config; goal = p.goal; budget = p.budget }
 
 -- what a search asks of it
 pub record IsReadyToSearch (p : Planning) : Type 0 where
   pub named : IsNamed p.ctx
-  pub start : IsValidIn p.ctx p.start
+  pub formed : IsConfig p.stored.config
+  pub names : AllPass is_step_name p.stored.steps
+  pub start : IsValidIn p.ctx p.stored.config
   pub goal : IsValidIn p.ctx p.goal
-  pub elsewhere : AgreeElsewhere p.ctx p.start p.goal
+  pub elsewhere : AgreeElsewhere p.ctx p.stored.config p.goal
   pub budget : 0 < p.budget
 
 -- a plan, or why there is none
 abbrev pub IsSolved : Planning → Result (List Move) Outcome → Type 0
 IsSolved p (Ok ms) = IsPlanFor (planning_of p) ms
 IsSolved p (Err Memory) = ⊤
-IsSolved p (Err e) = IsUnsolved (request_of p) e
+IsSolved p (Err e) = HasNone (planning_of p) e
 
 -- the output with a plan, or with what is refused
 abbrev pub SaysPlan : Asking Request → State → Result (List Move) Outcome → Type 0

@@ -6,7 +6,7 @@ use Rattle.move_core.specs.declared.moves.Move.{Move}
 use Rattle.plan_search.specs.Searches.{IsSearchAnswer}
 use Rattle.plan_search.specs.declared.errors.SearchError.{SearchError}
 use Rattle.plan_search.specs.declared.errors.SearchError.TheVariants as search
-use Rattle.gcu_engine.specs.Request.{Planning, Request, plan}
+use Rattle.gcu_engine.specs.Request.{Planning, Request, change, plan}
 use Rattle.gcu_engine.specs.declared.outcomes.Outcome.{Outcome}
 use Rattle.gcu_engine.specs.declared.outcomes.Outcome.TheVariants.{Unorderable, Budget}
 
@@ -18,9 +18,14 @@ IsPlanFor p ms = IsPlan (rulebook p.ctx) p.start p.goal ms × (length ms < p.bud
 abbrev pub HasNoPlan : Planning → SearchError → Type 0
 HasNoPlan p e = IsSearchAnswer (rulebook p.ctx) p.start p.goal p.budget (Err e)
 
+-- the answer that no plan is found
+abbrev pub HasNone : Planning → Outcome → Type 0
+HasNone p Unorderable = HasNoPlan p search.Unorderable
+HasNone p (Budget n) = HasNoPlan p (search.Budget n)
+HasNone p other = ⊥
+
 -- the answer that a plan is searched for and none is found
 abbrev pub IsUnsolved : Request → Outcome → Type 0
-IsUnsolved (plan p) Unorderable = HasNoPlan p search.Unorderable
-IsUnsolved (plan p) (Budget n) = HasNoPlan p (search.Budget n)
-IsUnsolved (plan p) other = ⊥
+IsUnsolved (plan p) answer = HasNone p answer
+IsUnsolved (change p) answer = HasNone p answer
 IsUnsolved other answer = ⊥

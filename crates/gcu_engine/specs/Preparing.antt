@@ -4,7 +4,7 @@ use Rattle.host_core.specs.Counts.{Counts, Rose}
 use Rattle.host_core.specs.State.{State}
 use Rattle.gcu_engine.specs.Asking.{Asking, an_input, a_file, follows_by}
 use Rattle.gcu_engine.specs.declared.outcomes.Outcome.{Outcome}
-use Rattle.gcu_engine.specs.declared.outcomes.Outcome.TheVariants.{Done, Memory, Usage, InputFault, DiskFault, PrintFault, Unorderable, Budget}
+use Rattle.gcu_engine.specs.declared.outcomes.Outcome.TheVariants.{Done, Memory, Usage, InputFault, DiskFault, PrintFault, ServiceFault, Unorderable, Budget}
 
 -- the refusal that is asked for, or None for an answer with another cause
 abbrev pub refusal : Outcome → Option Outcome
@@ -13,6 +13,7 @@ refusal Memory = None
 refusal InputFault = None
 refusal (DiskFault step) = None
 refusal (PrintFault step) = None
+refusal (ServiceFault step service) = None
 refusal Unorderable = None
 refusal (Budget n) = None
 refusal other = Some other
@@ -40,6 +41,7 @@ Refuses old new Usage = ⊥
 Refuses old new InputFault = Rose old.input new.input
 Refuses old new (DiskFault step) = (step ≡ 0) × Rose old.disk new.disk
 Refuses old new (PrintFault step) = ⊥
+Refuses old new (ServiceFault step service) = ⊥
 Refuses old new Unorderable = ⊥
 Refuses old new (Budget n) = ⊥
 Refuses old new other = ⊤
@@ -51,6 +53,7 @@ RefusesAlways Usage = ⊥
 RefusesAlways InputFault = ⊥
 RefusesAlways (DiskFault step) = ⊥
 RefusesAlways (PrintFault step) = ⊥
+RefusesAlways (ServiceFault step service) = ⊥
 RefusesAlways Unorderable = ⊥
 RefusesAlways (Budget n) = ⊥
 RefusesAlways other = ⊤

@@ -1,6 +1,7 @@
 -- What printing the whole output of an answer leaves.
 use Rattle.std.specs.Prelude.{◌≡◌, ◌⊎◌, ◌++◌, ℕ, List, Option, option_map}
 use Rattle.host_core.specs.Counts.{Counts, Rose}
+use Rattle.host_core.specs.Crashes.{Left, MayLeaveInPrint}
 use Rattle.host_core.specs.State.{State, printed, PrintsPart}
 use Rattle.conf_doc.specs.Document.{Document}
 use Rattle.conf_doc.specs.Texts.{line_feed, pretty_text}
@@ -25,3 +26,7 @@ abbrev pub IsSaid : Outcome → List ℕ
 IsSaid answer text before after old new result =
     IsPrinted answer text before after old new result
     ⊎ IsPrinted Memory (last_line Memory) before after old new result
+
+-- what a crash leaves while the last line of some answer is printed
+abbrev pub LeftInLine : Option State → Left → Type 0
+LeftInLine told left = (answer : Outcome) × MayLeaveInPrint (last_line answer) told left

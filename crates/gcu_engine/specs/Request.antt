@@ -24,3 +24,5 @@ pub data Request : Type 0 where
   delete_checkpoint : List ℕ → Request
   -- print such a plan
   plan : Planning → Request
+  -- print such a plan and do it
+  change : Planning → Request

@@ -1,5 +1,5 @@
 //! Which words are a command.
-ghost use Rattle.std.specs.Prelude.{◌≡◌};
+ghost use Rattle.std.specs.Prelude.{◌≡◌, Some};
 ghost use Rattle.gcu_engine.specs.Form.{form, form_of_one, form_of_plan, form_of_two, planned};
 ghost use Rattle.gcu_engine.specs.FormView.{form_view};
 ghost use Rattle.plan_options.specs.Views.{options_view, target_view};
@@ -29,6 +29,11 @@ pub(crate) enum Form<'a> {
     },
     /// Prints a plan for the target.
     Plan {
+        target: Target<'a>,
+        options: Options,
+    },
+    /// Does a plan for the target.
+    Change {
         target: Target<'a>,
         options: Options,
     },
@@ -63,17 +68,17 @@ fn form_of_one(command: &Txt) -> Form<'_>
 fn form_of_two<'a>(command: &'a Txt, word: &'a Txt) -> Form<'a>
     ensures { form_view result ≡ form_of_two command.now word.now }
 {
-    let command = command.as_str();
-    if command == "preview" && is_positional(word) {
+    let name = command.as_str();
+    if name == "preview" && is_positional(word) {
         return Form::Preview { patch: word };
     }
-    if command == "checkpoint" && is_positional(word) {
+    if name == "checkpoint" && is_positional(word) {
         return Form::SaveCheckpoint { name: word };
     }
-    if command == "delete-checkpoint" && is_positional(word) {
+    if name == "delete-checkpoint" && is_positional(word) {
         return Form::DeleteCheckpoint { name: word };
     }
-    Form::Unknown
+    form_of_plan(command, word, &[])
 }
 
 /// The command that a word, a second one and options are.
@@ -86,12 +91,13 @@ fn form_of_plan<'a>(command: &Txt, word: &'a Txt, words: &[Txt]) -> Form<'a>
     }
 }
 
-/// A plan is only printed: one that would be done is no command.
+/// A plan is only printed, or done.
 fn planned(target: Target<'_>, options: Options) -> Form<'_>
-    ensures { form_view result ≡ planned (target_view target.entry) (options_view options) }
+    ensures { form_view result
+        ≡ Some (planned (target_view target.entry) (options_view options)) }
 {
     if options.dry_run {
         return Form::Plan { target, options };
     }
-    Form::Unknown
+    Form::Change { target, options }
 }

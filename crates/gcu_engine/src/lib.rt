@@ -1,10 +1,12 @@
 //! What the program `gcu` does: its commands, their answers and what they print.
 #![tactic(auto)]
 
+mod change;
 mod check;
 mod checkpoint_goal;
 mod delete_checkpoint;
 mod dry_run;
+mod fault_lines;
 mod file_goal;
 mod form;
 mod inputs;

@@ -32,7 +32,7 @@ fn refused_line(alloc: Global, outcome: &Outcome) -> Result<String, AllocError>
 
 /// A line of a number and a text.
 #[tactic(auto, using(std::proofs::Common::append_assoc))]
-fn numbered_line(alloc: Global, status: u8, said: &str) -> Result<String, AllocError>
+pub(crate) fn numbered_line(alloc: Global, status: u8, said: &str) -> Result<String, AllocError>
     ensures { IfOk result (λ s. string_bytes s ≡ numbered status said.now) }
 {
     format!(in alloc; "refused {status} {said}\n")
@@ -49,6 +49,7 @@ fn said(alloc: Global, outcome: &Outcome) -> Result<String, AllocError>
         Outcome::InputFault => String::from_str(alloc, "input fault"),
         Outcome::DiskFault { step } => format!(in alloc; "disk fault after {step}"),
         Outcome::PrintFault { step } => format!(in alloc; "print fault after {step}"),
+        Outcome::ServiceFault { step, .. } => format!(in alloc; "service fault after {step}"),
         Outcome::NoInput { path } => {
             let path = quoted(alloc, path.as_str())?;
             format!(in alloc; "no input {path}")
@@ -176,7 +177,7 @@ fn no_checkpoint(alloc: Global, name: &str, why: &str) -> Result<String, AllocEr
 }
 
 /// A text as a compact JSON text.
-fn quoted(alloc: Global, text: &str) -> Result<String, AllocError>
+pub(crate) fn quoted(alloc: Global, text: &str) -> Result<String, AllocError>
     ensures { IfOk result (λ s. string_bytes s ≡ quoted_text text.now) }
 {
     Value::String(String::from_str(alloc, text)?).to_string(alloc)

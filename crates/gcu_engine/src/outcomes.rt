@@ -33,6 +33,9 @@ pub enum Outcome {
     DiskFault { step: usize },
     /// The host counted a print fault, after so many acknowledgements.
     PrintFault { step: usize },
+    /// The host counted a service fault at the restart of that service, by its position in the rules file,
+    /// counted from 0, after so many acknowledgements.
+    ServiceFault { step: usize, service: usize },
     /// There is no such input.
     NoInput { path: Txt },
     /// The input has more bytes than the limit.
@@ -85,6 +88,7 @@ impl Outcome {
             Outcome::InputFault => 3,
             Outcome::DiskFault { .. } => 4,
             Outcome::PrintFault { .. } => 5,
+            Outcome::ServiceFault { .. } => 6,
             Outcome::NoInput { .. } => 7,
             Outcome::TooBig { .. } => 8,
             Outcome::BadJson { .. } => 9,

@@ -1,21 +1,27 @@
 //! What a command that plans needs, and its plan.
 ghost use Rattle.std.specs.Prelude.{◌≡◌, ◌≤◌, ◌<◌, IfErr, IfOk, IfSome};
+ghost use Rattle.std.specs.List.{AllPass};
 ghost use Rattle.host_core.specs.Counts.{DiskMayRise, NoneFell};
 ghost use Rattle.host_core.specs.Crashes.{Elapses, MayLeaveNow};
 ghost use Rattle.host_core.specs.Names.{longest_scoped_name};
+ghost use Rattle.conf_doc.specs.WellFormed.{IsConfig};
+ghost use Rattle.conf_store.specs.Files.{is_step_name};
+ghost use Rattle.conf_store.specs.Folds.{StandsFor};
 ghost use Rattle.move_core.specs.Contexts.{IsValidIn, rulebook};
 ghost use Rattle.plan_search.specs.Searches.{IsSearchAnswer};
 ghost use Rattle.plan_options.specs.Views.{target_view};
-ghost use Rattle.gcu_engine.specs.PlanAsked.{dry_run_asked, plan_asked, start_asked};
-ghost use Rattle.gcu_engine.specs.PlanCommands.{HasGoodName, IsReadyToSearch, IsSolved, RefusesOrEnds, SaysPlan, request_of};
-ghost use Rattle.gcu_engine.specs.Preparing.{Finds, Refuses};
+ghost use Rattle.gcu_engine.specs.PlanAsked.{IsValidOr, dry_run_asked, planning_asked, start_asked};
+ghost use Rattle.gcu_engine.specs.PlanCommands.{HasGoodName, IsReadyToSearch, IsSolved, RefusesOrEnds, SaysPlan, planning_of};
+ghost use Rattle.gcu_engine.specs.Preparing.{Finds, IsRightBy, Refuses, RefusesAlways};
+ghost use Rattle.gcu_engine.specs.declared.outcomes.Outcome.TheVariants.{CurrentInvalid as current_invalid};
 
 use crate::Outcome;
 use crate::judging::{End, judge};
 use crate::plan_goal::{read_goal, test_target};
 use crate::rules::input_ctx;
-use crate::stored::read_config;
+use crate::stored::read_folder;
 use conf_doc::Config;
+use conf_store::Stored;
 use host_core::Host;
 use move_core::{Boxes, Ctx, Kit, Plan};
 use plan_options::Target;
@@ -28,8 +34,8 @@ use std::sync::ledger::{Blank, Ledger};
 /// configurations may be met.
 #[derive(Drop)]
 pub(crate) struct Planning {
-    ctx: Ctx,
-    start: Config,
+    pub(crate) ctx: Ctx,
+    pub(crate) stored: Stored,
     goal: Config,
     budget: u32,
 }
@@ -60,7 +66,7 @@ pub(crate) fn solve<H: Host>(
 }
 
 /// Reads what a plan needs.
-fn prepare<H: Host>(
+pub(crate) fn prepare<H: Host>(
     alloc: Global,
     target: Target<'_>,
     budget: u32,
@@ -69,9 +75,12 @@ fn prepare<H: Host>(
     requires longest { longest_scoped_name ≤ H.longest_name }
     requires named { HasGoodName (target_view target) }
     requires budget { 0 < budget }
-    ensures answer { Finds (H.told host.old) request_of result
-        (plan_asked (target_view target.entry) budget) }
+    ensures answer { Finds (H.told host.old) planning_of result
+        (planning_asked (target_view target.entry) budget) }
     ensures ready { IfOk result IsReadyToSearch }
+    ensures budget { IfOk result (λ p. p.budget ≡ budget) }
+    ensures stands { IfOk result
+        (λ p. IfSome (H.told host.old) (λ s. StandsFor p.stored s.files)) }
     ensures told { H.told host.new ≡ H.told host.old }
     ensures counts { NoneFell (H.counts host.old) (H.counts host.new) }
     ensures cause { IfErr result (Refuses (H.counts host.old) (H.counts host.new)) }
@@ -79,33 +88,58 @@ fn prepare<H: Host>(
     ensures goes { H.goes_on host.old host.new }
 {
     let ctx = input_ctx(alloc, host)?;
-    let start = read_start(alloc, &ctx, host)?;
-    let goal = read_goal(alloc, target, &ctx, &start, host)?;
+    let stored = read_start(alloc, &ctx, host)?;
+    let goal = read_goal(alloc, target, &ctx, &stored.config, host)?;
     Ok(Planning {
         ctx,
-        start,
+        stored,
         goal,
         budget,
     })
 }
 
-/// The stored configuration, where it is valid.
-fn read_start<H: Host>(alloc: Global, ctx: &Ctx, host: &mut H) -> Result<Config, Outcome>
+/// What the folder stands for, where that is valid.
+fn read_start<H: Host>(alloc: Global, ctx: &Ctx, host: &mut H) -> Result<Stored, Outcome>
     requires { longest_scoped_name ≤ H.longest_name }
-    ensures answer { Finds (H.told host.old) (λ c. c) result (start_asked ctx.now) }
-    ensures valid { IfOk result (IsValidIn ctx.now) }
+    ensures answer { Finds (H.told host.old) (λ what. what.config) result (start_asked ctx.now) }
+    ensures stands { IfOk result
+        (λ what. IfSome (H.told host.old) (λ s. StandsFor what s.files)) }
+    ensures names { IfOk result (λ what. AllPass is_step_name what.steps) }
+    ensures formed { IfOk result (λ what. IsConfig what.config) }
+    ensures valid { IfOk result (λ what. IsValidIn ctx.now what.config) }
     ensures told { H.told host.new ≡ H.told host.old }
     ensures counts { DiskMayRise (H.counts host.old) (H.counts host.new) }
     ensures cause { IfErr result (Refuses (H.counts host.old) (H.counts host.new)) }
     ensures time { Elapses H.moment H.left_since host.old host.new (MayLeaveNow (H.told host.old)) }
     ensures goes { H.goes_on host.old host.new }
 {
-    let start = read_config(alloc, host)?;
-    judge(alloc, End::Start, ctx, start)
+    let what = read_folder(alloc, host)?;
+    judge_start(alloc, ctx, what)
+}
+
+/// What was loaded, where it is valid.
+fn judge_start(alloc: Global, ctx: &Ctx, what: Stored) -> Result<Stored, Outcome>
+    ensures answer { IsRightBy (λ what. what.config) result
+        (IsValidOr current_invalid ctx.now what.config) }
+    ensures same { IfOk result (λ found. found ≡ what) }
+    ensures valid { IfOk result (λ found. IsValidIn ctx.now found.config) }
+    ensures cause { IfErr result RefusesAlways }
+{
+    let Stored {
+        config,
+        steps,
+        folded,
+    } = what;
+    let config = judge(alloc, End::Start, ctx, config)?;
+    Ok(Stored {
+        config,
+        steps,
+        folded,
+    })
 }
 
 /// Searches for a plan.
-fn find_plan(alloc: Global, kit: &mut Kit, planning: &Planning) -> Result<Plan, Outcome>
+pub(crate) fn find_plan(alloc: Global, kit: &mut Kit, planning: &Planning) -> Result<Plan, Outcome>
     requires kinds { ⟦<Kit as Boxes>⟧.HasKinds kit.old }
     requires ready { IsReadyToSearch planning.now }
     ensures kinds { ⟦<Kit as Boxes>⟧.HasKinds kit.new }
@@ -132,7 +166,7 @@ fn count_steps<L: Ledger>(
     requires parts { blank.parts ≡ L.parts }
     requires one { blank.parts ≡ 1 }
     ensures kinds { ⟦<Kit as Boxes>⟧.HasKinds kit.new }
-    ensures answer { IsSearchAnswer (rulebook planning.now.ctx) planning.now.start
+    ensures answer { IsSearchAnswer (rulebook planning.now.ctx) planning.now.stored.config
         planning.now.goal planning.now.budget result }
 {
     let (book, share) = blank.open::<L>();
@@ -141,7 +175,7 @@ fn count_steps<L: Ledger>(
         alloc,
         &planning.ctx,
         kit,
-        &planning.start,
+        &planning.stored.config,
         &planning.goal,
         planning.budget,
         &mut steps,

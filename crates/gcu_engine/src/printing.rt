@@ -1,13 +1,13 @@
 //! How an answer is printed.
 ghost use Rattle.std.specs.Prelude.{◌≡◌, ◌++◌, IfErr, IfOk};
 ghost use Rattle.host_core.specs.Counts.{PrintMayRise};
-ghost use Rattle.host_core.specs.Crashes.{Elapses};
+ghost use Rattle.host_core.specs.Crashes.{Elapses, MayLeaveInPrint};
 ghost use Rattle.conf_doc.specs.Trees.{document};
 ghost use Rattle.move_core.specs.Operations.{plan_text as text_of_plan};
 ghost use Rattle.gcu_engine.specs.Answers.{LeftWithOutput};
 ghost use Rattle.gcu_engine.specs.Commands.{IsFirst, IsTold, is_disk_fault as is_fault, may_have_written, outcome_of};
 ghost use Rattle.gcu_engine.specs.Lines.{last_line};
-ghost use Rattle.gcu_engine.specs.Printing.{IsPrinted, IsSaid, text_in_lines};
+ghost use Rattle.gcu_engine.specs.Printing.{IsPrinted, IsSaid, LeftInLine, text_in_lines};
 ghost use Rattle.gcu_engine.specs.declared.outcomes.Outcome.TheVariants.{Done as done, Memory as no_memory};
 
 use crate::Outcome;
@@ -25,6 +25,8 @@ pub(crate) fn say<H: Host>(alloc: Global, outcome: Outcome, host: &mut H) -> Out
     ensures counts { PrintMayRise (H.counts host.old) (H.counts host.new) }
     ensures time { Elapses H.moment H.left_since host.old host.new
         (LeftWithOutput (H.told host.old)) }
+    ensures line { Elapses H.moment H.left_since host.old host.new
+        (LeftInLine (H.told host.old)) }
     ensures goes { H.goes_on host.old host.new }
 {
     match line(alloc, &outcome) {
@@ -100,6 +102,8 @@ pub(crate) fn say_memory<H: Host>(host: &mut H) -> Outcome
     ensures counts { PrintMayRise (H.counts host.old) (H.counts host.new) }
     ensures time { Elapses H.moment H.left_since host.old host.new
         (LeftWithOutput (H.told host.old)) }
+    ensures line { Elapses H.moment H.left_since host.old host.new
+        (LeftInLine (H.told host.old)) }
     ensures goes { H.goes_on host.old host.new }
 {
     print(Outcome::Memory, b"refused 1 memory\n", host)
@@ -134,6 +138,8 @@ pub(crate) fn print<H: Host>(outcome: Outcome, text: &[u8], host: &mut H) -> Out
     ensures counts { PrintMayRise (H.counts host.old) (H.counts host.new) }
     ensures time { Elapses H.moment H.left_since host.old host.new
         (LeftWithOutput (H.told host.old)) }
+    ensures text { Elapses H.moment H.left_since host.old host.new
+        (MayLeaveInPrint text.now (H.told host.old)) }
     ensures goes { H.goes_on host.old host.new }
 {
     match host.print(text) {

@@ -6,9 +6,11 @@ ghost use Rattle.host_core.specs.Names.{longest_scoped_name};
 ghost use Rattle.gcu_engine.specs.Answers.{Answers, Complete, HasCause, LeftMeanwhile, TellsUsage};
 ghost use Rattle.gcu_engine.specs.Asked.{asked};
 ghost use Rattle.gcu_engine.specs.Form.{form};
+ghost use Rattle.gcu_engine.specs.Headline.{IsHeadline};
 ghost use Rattle.gcu_engine.specs.declared.outcomes.Outcome.TheVariants.{Usage as usage};
 
 use crate::Outcome;
+use crate::change::change;
 use crate::check::check;
 use crate::delete_checkpoint::delete_checkpoint;
 use crate::dry_run::dry_run;
@@ -22,26 +24,31 @@ use move_core::{Boxes, Kit};
 use std::alloc::Global;
 
 /// Does the command that the words are, and prints its answer. `preview PATCH` prints the stored
-/// configuration as the patch would leave it, `check` says whether it is valid, `apply-patch PATCH --dry-run`
-/// prints a plan for the patch, `replace FILE --dry-run` one for the configuration in a file and
-/// `rollback NAME --dry-run` one for that of a checkpoint, `checkpoint NAME` saves the stored configuration
-/// under a name, `list-checkpoints` prints the names of all checkpoints, and `delete-checkpoint NAME` deletes
-/// one.
+/// configuration as the patch would leave it, `check` says whether it is valid, `apply-patch PATCH` prints a
+/// plan for the patch and does it, `replace FILE` one for the configuration in a file and `rollback NAME` one
+/// for that of a checkpoint, and each of the three with `--dry-run` only prints it. `checkpoint NAME` saves the
+/// stored configuration under a name, `list-checkpoints` prints the names of all checkpoints, and
+/// `delete-checkpoint NAME` deletes one.
 pub fn run<H: Host>(alloc: Global, words: &[Txt], kit: &mut Kit, host: &mut H) -> Outcome
     requires longest { longest_scoped_name ≤ H.longest_name }
     requires kinds { ⟦<Kit as Boxes>⟧.HasKinds kit.old }
     ensures kinds { ⟦<Kit as Boxes>⟧.HasKinds kit.new }
-    // The answer is the first refusal, or what the command asks for, and nothing changes but the output and
-    // a checkpoint that is saved or deleted.
+    // The answer is the first refusal, or what the command asks for, and nothing changes but the output, a
+    // checkpoint that is saved or deleted, and the work of a plan that is done.
     ensures answers { Answers words.now
         (H.told host.old) (H.told host.new) (H.counts host.old) (H.counts host.new) result }
     // A fault is answered only where its count rose.
     ensures cause { HasCause (H.counts host.old) (H.counts host.new) result }
     ensures counts { NoneFell (H.counts host.old) (H.counts host.new) }
     // A crash at a moment of it leaves the folder as it was, or with the checkpoint that is saved or without
-    // the one that is deleted, with a front of some output.
+    // the one that is deleted, with a front of some output. Of a plan that is done it leaves the last
+    // acknowledged configuration or the next one.
     ensures crash { LeavesOnly H.moment H.left_since host.old host.new
         (LeftMeanwhile words.now (H.told host.old)) }
+    // What is printed of a plan is right, a crash leaves what is acknowledged or the next and whole
+    // checkpoints, and a finished change stores its target.
+    ensures headline { IfSome (H.told host.old) (λ s. IsHeadline words.now s (H.told host.new) result
+        (H.left_since host.new (H.moment host.old))) }
     // What the host's calls keep is kept.
     ensures goes { H.goes_on host.old host.new }
     // The words alone tell whether they are a command.
@@ -63,5 +70,6 @@ pub fn run<H: Host>(alloc: Global, words: &[Txt], kit: &mut Kit, host: &mut H) -
         Form::SaveCheckpoint { name } => save_checkpoint(alloc, name, host),
         Form::DeleteCheckpoint { name } => delete_checkpoint(alloc, name, host),
         Form::Plan { target, options } => dry_run(alloc, target, options.budget, kit, host),
+        Form::Change { target, options } => change(alloc, target, options.budget, kit, host),
     }
 }

@@ -1,6 +1,6 @@
 //! The budget of a search, as a word.
-ghost use Rattle.std.specs.Prelude.{◌≡◌, ◌<◌, IfSome};
-ghost use Rattle.plan_options.specs.Options.{budget_in, number_within};
+ghost use Rattle.std.specs.Prelude.{◌≡◌, ◌<◌, ◌≤◌, IfSome};
+ghost use Rattle.plan_options.specs.Options.{budget_in, most_budget, number_within};
 
 /// The greatest budget.
 const MOST_BUDGET: u32 = 20_000;
@@ -9,6 +9,7 @@ const MOST_BUDGET: u32 = 20_000;
 pub(crate) fn read_budget(digits: &[u8]) -> Option<u32>
     ensures budget { result ≡ budget_in digits.now }
     ensures some { IfSome result (λ n. 0 < n) }
+    ensures most { IfSome result (λ n. n ≤ most_budget) }
 {
     if digits.is_empty() || digits[0] == b'0' {
         return None;
@@ -18,7 +19,8 @@ pub(crate) fn read_budget(digits: &[u8]) -> Option<u32>
 
 /// The number that digits write, where it is no greater than the greatest budget.
 fn number_within(digits: &[u8]) -> Option<u32>
-    ensures { result ≡ number_within digits.now }
+    ensures number { result ≡ number_within digits.now }
+    ensures most { IfSome result (λ n. n ≤ most_budget) }
 {
     let mut sum: u32 = 0;
     for digit in digits {

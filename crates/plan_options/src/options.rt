@@ -1,5 +1,6 @@
 //! The options of a command that plans.
-ghost use Rattle.std.specs.Prelude.{◌<◌};
+ghost use Rattle.std.specs.Prelude.{◌<◌, ◌≤◌};
+ghost use Rattle.plan_options.specs.Options.{most_budget};
 
 /// How a command plans.
 #[derive(Clone, Copy)]
@@ -9,4 +10,5 @@ pub struct Options {
     /// How many configurations its search may meet.
     pub budget: u32,
     ghost some: { 0 < budget },
+    ghost most: { budget ≤ most_budget },
 }

@@ -18,13 +18,15 @@ loop-k-init c = record {
   moves = ap (λ (l : List ReadyStep). map (λ s. s.mv) l) c.new-steps.ensures;
   restarts = ap (λ (l : List ReadyStep). map (λ s. s.restarts) l) c.new-steps.ensures;
   config = c.in_ok-config.ensures.copy ∙ sym (conf_start c.args.start.now c.args.plan.now);
+  formed = c.in_ok-config.ensures.formed;
   ready = subst (AreReady c.args.start.now c.args.plan.now) (sym c.new-steps.ensures) (ready_none c.args.start.now c.args.plan.now);
 }
 
 pub step-requires : goal.step-requires
 step-requires c =
     subst (λ x. IsDefined x c.at-mv.result.now) (sym c.loop-k.invariant.config)
-    (defined_at c.args.start.now c.args.plan.now c.loop-k.k c.at-mv.result.now c.requires.defined c.at-mv.ensures)
+    (defined_at c.args.start.now c.args.plan.now c.loop-k.k c.at-mv.result.now c.requires.defined c.at-mv.ensures
+    (subst IsConfig c.loop-k.invariant.config c.loop-k.invariant.formed))
 
 pub loop-k-preserved : goal.loop-k-preserved
 loop-k-preserved c =
@@ -45,8 +47,11 @@ loop-k-preserved c =
           c.in_ok-ready_step.ensures.restarts c.loop-k.invariant.restarts;
       config = next ∙ sym (conf_next c.args.start.now c.args.plan.now c.loop-k.k mv c.at-mv.ensures)
           ∙ ap (λ k. conf c.args.start.now c.args.plan.now k) (omega arith);
+      formed = c.in_ok-config-2.ensures.formed;
       ready =
           subst (AreReady c.args.start.now c.args.plan.now) (sym pushed)
-          (ready_more c.args.start.now c.args.plan.now c.loop-k.steps s c.loop-k.k long c.loop-k.invariant.ready (c.at-mv.ensures ∙ ap (λ (m : Move). Some m) (sym c.in_ok-ready_step.ensures.mv)) c.requires.defined
+          (ready_more c.args.start.now c.args.plan.now c.loop-k.steps s c.loop-k.k long c.loop-k.invariant.ready (c.at-mv.ensures ∙ ap (λ (m : Move). Some m) (sym c.in_ok-ready_step.ensures.mv))
+          (subst (IsDefined (conf c.args.start.now c.args.plan.now c.loop-k.k)) (sym c.in_ok-ready_step.ensures.mv)
+          (defined_at c.args.start.now c.args.plan.now c.loop-k.k mv c.requires.defined c.at-mv.ensures (subst IsConfig c.loop-k.invariant.config c.loop-k.invariant.formed)))
           (subst IsConfig (next ∙ ap (step (conf c.args.start.now c.args.plan.now c.loop-k.k)) (sym c.in_ok-ready_step.ensures.mv)) c.in_ok-config-2.ensures.formed) c.in_ok-ready_step.ensures.ready);
     }

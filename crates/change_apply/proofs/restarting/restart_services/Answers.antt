@@ -17,6 +17,7 @@ loop-restart-init g c =
       told = λ began at. at;
       left = λ began at. begins g.H.Host.moment g.H.Host.left_since (change_in c.args.work.now) began c.args.host.now
           (λ left since. left_at_put (change_in c.args.work.now) c.args.k s.mv due 0 began (g.H.Host.told c.args.host.now) at left (g.met.H.Host.only_now c.args.host.now left since));
+      later = omega arith;
       counts = stays (g.H.Host.counts c.args.host.now);
       goes = g.met.H.Host.begins c.args.host.now;
     }
@@ -58,6 +59,7 @@ loop-restart-preserved g c =
           while_requested (change_in c.args.work.now) c.args.k s.mv due c.items-restarts.result.now are c.loop-restart.restart-index c.restart-item.result c.loop-restart-test.true c.restart-item.is
           g.H.Host.moment g.H.Host.left_since g.H.Host.told began c.args.host.now c.loop-restart.host c.restart.new.self (c.loop-restart.restart-index + 1)
           (told began at) (c.loop-restart.invariant.left began at) c.restart.ensures.time;
+      later = omega (arith, c.loop-restart.invariant.later, c.restart.ensures.time.later);
       counts = rises_on (g.H.Host.counts c.args.host.now) (g.H.Host.counts c.loop-restart.host) (g.H.Host.counts c.restart.new.self) c.loop-restart.invariant.counts (service_rises (g.H.Host.counts c.loop-restart.host) (g.H.Host.counts c.restart.new.self) c.restart.ensures.counts);
       goes = g.met.H.Host.continues c.args.host.now c.loop-restart.host c.restart.new.self c.loop-restart.invariant.goes c.restart.ensures.goes;
     }

@@ -12,6 +12,7 @@ loop-k-init g c = record {
   left = λ began at.
       begins g.H.Host.moment g.H.Host.left_since (change_in c.args.work.now) began c.args.host.now
       (λ left since. left_at_step (change_in c.args.work.now) 0 (omega arith) began (g.H.Host.told c.args.host.now) at left (g.met.H.Host.only_now c.args.host.now left since));
+  later = omega arith;
   counts = stays (g.H.Host.counts c.args.host.now);
   goes = g.met.H.Host.begins c.args.host.now;
 }
@@ -31,6 +32,7 @@ loop-k-preserved g c =
       left = λ began at.
           joins g.H.Host.moment g.H.Host.left_since (change_in c.args.work.now) began c.args.host.now c.loop-k.host c.do_step.new.host
           (c.loop-k.invariant.left began at) (c.do_step.ensures.any_moment began (c.loop-k.invariant.told began at));
+      later = omega (arith, c.loop-k.invariant.later, c.do_step.ensures.later);
       counts = rises_on (g.H.Host.counts c.args.host.now) (g.H.Host.counts c.loop-k.host) (g.H.Host.counts c.do_step.new.host) c.loop-k.invariant.counts c.do_step.ensures.counts;
       goes = g.met.H.Host.continues c.args.host.now c.loop-k.host c.do_step.new.host c.loop-k.invariant.goes c.do_step.ensures.goes;
     }

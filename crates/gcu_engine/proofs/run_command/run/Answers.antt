@@ -1,10 +1,11 @@
-use Rattle.std.proofs.Common.{Some, sym, ◌++◌}
+use Rattle.std.proofs.Common.{None, Some, inl, sym, ◌++◌}
 use Rattle.conf_doc.specs.Trees.{document}
 use Rattle.gcu_engine.specs.Form.{check, list_checkpoints}
 use Rattle.gcu_engine.specs.Lines.{last_line}
 use Rattle.gcu_engine.specs.Printing.{text_in_lines}
 use Rattle.gcu_engine.proofs.Completing.{complete_by}
-use Rattle.gcu_engine.proofs.Elapsing.{command_leaves, command_leaves_behind, leaves_by}
+use Rattle.gcu_engine.proofs.Headlines.{headline}
+use Rattle.gcu_engine.proofs.Elapsing.{changes_by, command_leaves, command_leaves_behind, leaves_by}
 use Rattle.gcu_engine.proofs.Answering.{answers_by, said_answers, done_completes, said_completes, no_form_says, preview_says, preview_refuses, refused_cause}
 use Rattle.gcu_engine.specs.declared.outcomes.Outcome.TheVariants.{Usage, Done}
 use Rattle.gcu_engine.proofs.run_command.run.Goals as goal
@@ -35,19 +36,19 @@ returns-in-Err-clause-answers g c =
 
 pub returns-in-Unknown-clause-crash : goal.returns-in-Unknown-clause-crash
 returns-in-Unknown-clause-crash g c =
-    command_leaves g.H.Host.moment g.H.Host.left_since c.args.words.now c.args.host.now c.say.new.host (g.H.Host.told c.args.host.now)
+    command_leaves g.H.Host.moment g.H.Host.left_since c.args.words.now None c.args.host.now c.say.new.host (g.H.Host.told c.args.host.now) c.in-Unknown.ensures (λ s left h. inl h)
     (λ left since. g.met.H.Host.only_now c.args.host.now left since) c.say.ensures.time
 
 pub returns-in-Ok-clause-crash : goal.returns-in-Ok-clause-crash
 returns-in-Ok-clause-crash g c =
-    command_leaves_behind g.H.Host.moment g.H.Host.left_since c.args.words.now c.args.host.now c.preview.new.host c.show.new.host
-    (g.H.Host.told c.args.host.now) (g.H.Host.told c.preview.new.host) c.preview.ensures.told
+    command_leaves_behind g.H.Host.moment g.H.Host.left_since c.args.words.now _ c.args.host.now c.preview.new.host c.show.new.host
+    (g.H.Host.told c.args.host.now) (g.H.Host.told c.preview.new.host) c.in-Preview.ensures (λ s left h. inl h) c.preview.ensures.told
     (λ left since. g.met.H.Host.only_now c.args.host.now left since) c.preview.ensures.time c.show.ensures.time
 
 pub returns-in-Err-clause-crash : goal.returns-in-Err-clause-crash
 returns-in-Err-clause-crash g c =
-    command_leaves_behind g.H.Host.moment g.H.Host.left_since c.args.words.now c.args.host.now c.preview.new.host c.say-in-Err.new.host
-    (g.H.Host.told c.args.host.now) (g.H.Host.told c.preview.new.host) c.preview.ensures.told
+    command_leaves_behind g.H.Host.moment g.H.Host.left_since c.args.words.now _ c.args.host.now c.preview.new.host c.say-in-Err.new.host
+    (g.H.Host.told c.args.host.now) (g.H.Host.told c.preview.new.host) c.in-Preview.ensures (λ s left h. inl h) c.preview.ensures.told
     (λ left since. g.met.H.Host.only_now c.args.host.now left since) c.preview.ensures.time c.say-in-Err.ensures.time
 
 pub returns-in-Ok-clause-goes : goal.returns-in-Ok-clause-goes
@@ -82,7 +83,7 @@ returns-in-Check-clause-answers g c =
 
 pub returns-in-Check-clause-crash : goal.returns-in-Check-clause-crash
 returns-in-Check-clause-crash g c =
-    leaves_by g.H.Host.moment g.H.Host.left_since c.args.words.now (Some check) c.args.host.now c.check.new.host (g.H.Host.told c.args.host.now) c.in-Check.ensures c.check.ensures.crash
+    leaves_by g.H.Host.moment g.H.Host.left_since c.args.words.now (Some check) c.args.host.now c.check.new.host (g.H.Host.told c.args.host.now) c.in-Check.ensures (λ s left h. h) c.check.ensures.crash
 
 pub returns-in-Check-clause-complete : goal.returns-in-Check-clause-complete
 returns-in-Check-clause-complete g c =
@@ -96,7 +97,7 @@ returns-in-ListCheckpoints-clause-answers g c =
 
 pub returns-in-ListCheckpoints-clause-crash : goal.returns-in-ListCheckpoints-clause-crash
 returns-in-ListCheckpoints-clause-crash g c =
-    leaves_by g.H.Host.moment g.H.Host.left_since c.args.words.now (Some list_checkpoints) c.args.host.now c.list_checkpoints.new.host (g.H.Host.told c.args.host.now) c.in-ListCheckpoints.ensures c.list_checkpoints.ensures.crash
+    leaves_by g.H.Host.moment g.H.Host.left_since c.args.words.now (Some list_checkpoints) c.args.host.now c.list_checkpoints.new.host (g.H.Host.told c.args.host.now) c.in-ListCheckpoints.ensures (λ s left h. h) c.list_checkpoints.ensures.crash
 
 pub returns-in-ListCheckpoints-clause-complete : goal.returns-in-ListCheckpoints-clause-complete
 returns-in-ListCheckpoints-clause-complete g c =
@@ -110,7 +111,7 @@ returns-in-SaveCheckpoint-clause-answers g c =
 
 pub returns-in-SaveCheckpoint-clause-crash : goal.returns-in-SaveCheckpoint-clause-crash
 returns-in-SaveCheckpoint-clause-crash g c =
-    leaves_by g.H.Host.moment g.H.Host.left_since c.args.words.now _ c.args.host.now c.save_checkpoint.new.host (g.H.Host.told c.args.host.now) c.in-SaveCheckpoint.ensures c.save_checkpoint.ensures.crash
+    leaves_by g.H.Host.moment g.H.Host.left_since c.args.words.now _ c.args.host.now c.save_checkpoint.new.host (g.H.Host.told c.args.host.now) c.in-SaveCheckpoint.ensures (λ s left h. h) c.save_checkpoint.ensures.crash
 
 pub returns-in-SaveCheckpoint-clause-complete : goal.returns-in-SaveCheckpoint-clause-complete
 returns-in-SaveCheckpoint-clause-complete g c =
@@ -124,7 +125,7 @@ returns-in-DeleteCheckpoint-clause-answers g c =
 
 pub returns-in-DeleteCheckpoint-clause-crash : goal.returns-in-DeleteCheckpoint-clause-crash
 returns-in-DeleteCheckpoint-clause-crash g c =
-    leaves_by g.H.Host.moment g.H.Host.left_since c.args.words.now _ c.args.host.now c.delete_checkpoint.new.host (g.H.Host.told c.args.host.now) c.in-DeleteCheckpoint.ensures c.delete_checkpoint.ensures.crash
+    leaves_by g.H.Host.moment g.H.Host.left_since c.args.words.now _ c.args.host.now c.delete_checkpoint.new.host (g.H.Host.told c.args.host.now) c.in-DeleteCheckpoint.ensures (λ s left h. h) c.delete_checkpoint.ensures.crash
 
 pub returns-in-DeleteCheckpoint-clause-complete : goal.returns-in-DeleteCheckpoint-clause-complete
 returns-in-DeleteCheckpoint-clause-complete g c =
@@ -138,9 +139,70 @@ returns-in-Plan-clause-answers g c =
 
 pub returns-in-Plan-clause-crash : goal.returns-in-Plan-clause-crash
 returns-in-Plan-clause-crash g c =
-    leaves_by g.H.Host.moment g.H.Host.left_since c.args.words.now _ c.args.host.now c.dry_run.new.host (g.H.Host.told c.args.host.now) c.in-Plan.ensures c.dry_run.ensures.crash
+    leaves_by g.H.Host.moment g.H.Host.left_since c.args.words.now _ c.args.host.now c.dry_run.new.host (g.H.Host.told c.args.host.now) c.in-Plan.ensures (λ s left h. h) c.dry_run.ensures.crash
 
 pub returns-in-Plan-clause-complete : goal.returns-in-Plan-clause-complete
 returns-in-Plan-clause-complete g c =
     complete_by c.args.words.now _ (g.H.Host.told c.args.host.now) (g.H.Host.counts c.args.host.now) (g.H.Host.counts c.dry_run.new.host) c.dry_run.result
     c.in-Plan.ensures c.dry_run.ensures.complete
+
+pub returns-in-Change-clause-answers : goal.returns-in-Change-clause-answers
+returns-in-Change-clause-answers g c =
+    answers_by c.args.words.now _ (g.H.Host.told c.args.host.now) (g.H.Host.told c.change.new.host) (g.H.Host.counts c.args.host.now) (g.H.Host.counts c.change.new.host) c.change.result
+    c.in-Change.ensures c.change.ensures.answers
+
+pub returns-in-Change-clause-crash : goal.returns-in-Change-clause-crash
+returns-in-Change-clause-crash g c =
+    changes_by g.H.Host.moment g.H.Host.left_since c.args.words.now _ _ c.args.host.now c.change.new.host (g.H.Host.told c.args.host.now) c.in-Change.ensures c.change.ensures.crash
+
+pub returns-in-Change-clause-complete : goal.returns-in-Change-clause-complete
+returns-in-Change-clause-complete g c =
+    complete_by c.args.words.now _ (g.H.Host.told c.args.host.now) (g.H.Host.counts c.args.host.now) (g.H.Host.counts c.change.new.host) c.change.result
+    c.in-Change.ensures c.change.ensures.complete
+
+-- ---- the promise of the whole
+
+pub returns-in-Unknown-clause-headline : goal.returns-in-Unknown-clause-headline
+returns-in-Unknown-clause-headline g c =
+    headline g.H.Host.moment g.H.Host.left_since c.args.words.now (g.H.Host.told c.args.host.now) (g.H.Host.told c.say.new.host) c.args.host.now c.say.new.host
+    (g.H.Host.counts c.args.host.now) (g.H.Host.counts c.say.new.host) c.say.result (returns-in-Unknown-clause-answers g c) (returns-in-Unknown-clause-crash g c)
+
+pub returns-in-Ok-clause-headline : goal.returns-in-Ok-clause-headline
+returns-in-Ok-clause-headline g c =
+    headline g.H.Host.moment g.H.Host.left_since c.args.words.now (g.H.Host.told c.args.host.now) (g.H.Host.told c.show.new.host) c.args.host.now c.show.new.host
+    (g.H.Host.counts c.args.host.now) (g.H.Host.counts c.show.new.host) c.show.result (returns-in-Ok-clause-answers g c) (returns-in-Ok-clause-crash g c)
+
+pub returns-in-Err-clause-headline : goal.returns-in-Err-clause-headline
+returns-in-Err-clause-headline g c =
+    headline g.H.Host.moment g.H.Host.left_since c.args.words.now (g.H.Host.told c.args.host.now) (g.H.Host.told c.say-in-Err.new.host) c.args.host.now c.say-in-Err.new.host
+    (g.H.Host.counts c.args.host.now) (g.H.Host.counts c.say-in-Err.new.host) c.say-in-Err.result (returns-in-Err-clause-answers g c) (returns-in-Err-clause-crash g c)
+
+pub returns-in-Check-clause-headline : goal.returns-in-Check-clause-headline
+returns-in-Check-clause-headline g c =
+    headline g.H.Host.moment g.H.Host.left_since c.args.words.now (g.H.Host.told c.args.host.now) (g.H.Host.told c.check.new.host) c.args.host.now c.check.new.host
+    (g.H.Host.counts c.args.host.now) (g.H.Host.counts c.check.new.host) c.check.result (returns-in-Check-clause-answers g c) (returns-in-Check-clause-crash g c)
+
+pub returns-in-ListCheckpoints-clause-headline : goal.returns-in-ListCheckpoints-clause-headline
+returns-in-ListCheckpoints-clause-headline g c =
+    headline g.H.Host.moment g.H.Host.left_since c.args.words.now (g.H.Host.told c.args.host.now) (g.H.Host.told c.list_checkpoints.new.host) c.args.host.now c.list_checkpoints.new.host
+    (g.H.Host.counts c.args.host.now) (g.H.Host.counts c.list_checkpoints.new.host) c.list_checkpoints.result (returns-in-ListCheckpoints-clause-answers g c) (returns-in-ListCheckpoints-clause-crash g c)
+
+pub returns-in-SaveCheckpoint-clause-headline : goal.returns-in-SaveCheckpoint-clause-headline
+returns-in-SaveCheckpoint-clause-headline g c =
+    headline g.H.Host.moment g.H.Host.left_since c.args.words.now (g.H.Host.told c.args.host.now) (g.H.Host.told c.save_checkpoint.new.host) c.args.host.now c.save_checkpoint.new.host
+    (g.H.Host.counts c.args.host.now) (g.H.Host.counts c.save_checkpoint.new.host) c.save_checkpoint.result (returns-in-SaveCheckpoint-clause-answers g c) (returns-in-SaveCheckpoint-clause-crash g c)
+
+pub returns-in-DeleteCheckpoint-clause-headline : goal.returns-in-DeleteCheckpoint-clause-headline
+returns-in-DeleteCheckpoint-clause-headline g c =
+    headline g.H.Host.moment g.H.Host.left_since c.args.words.now (g.H.Host.told c.args.host.now) (g.H.Host.told c.delete_checkpoint.new.host) c.args.host.now c.delete_checkpoint.new.host
+    (g.H.Host.counts c.args.host.now) (g.H.Host.counts c.delete_checkpoint.new.host) c.delete_checkpoint.result (returns-in-DeleteCheckpoint-clause-answers g c) (returns-in-DeleteCheckpoint-clause-crash g c)
+
+pub returns-in-Plan-clause-headline : goal.returns-in-Plan-clause-headline
+returns-in-Plan-clause-headline g c =
+    headline g.H.Host.moment g.H.Host.left_since c.args.words.now (g.H.Host.told c.args.host.now) (g.H.Host.told c.dry_run.new.host) c.args.host.now c.dry_run.new.host
+    (g.H.Host.counts c.args.host.now) (g.H.Host.counts c.dry_run.new.host) c.dry_run.result (returns-in-Plan-clause-answers g c) (returns-in-Plan-clause-crash g c)
+
+pub returns-in-Change-clause-headline : goal.returns-in-Change-clause-headline
+returns-in-Change-clause-headline g c =
+    headline g.H.Host.moment g.H.Host.left_since c.args.words.now (g.H.Host.told c.args.host.now) (g.H.Host.told c.change.new.host) c.args.host.now c.change.new.host
+    (g.H.Host.counts c.args.host.now) (g.H.Host.counts c.change.new.host) c.change.result (returns-in-Change-clause-answers g c) (returns-in-Change-clause-crash g c)

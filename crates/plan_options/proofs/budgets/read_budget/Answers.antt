@@ -8,4 +8,4 @@ not_empty (d ∷ ds) b is none = omega arith
 
 pub returns-clause-some : goal.returns-clause-some
 returns-clause-some c =
-    counts c.args.digits.now c.number_within.result c.number_within.ensures (not_empty c.args.digits.now c.is_empty.result c.is_empty.ensures c.if-is_empty.false) c.if-digits-eq48.false
+    counts c.args.digits.now c.number_within.result c.number_within.ensures.number (not_empty c.args.digits.now c.is_empty.result c.is_empty.ensures c.if-is_empty.false) c.if-digits-eq48.false

@@ -1,0 +1,70 @@
+-- A change from the text of its plan on.
+use Rattle.std.proofs.Common.{◌≡◌, ◌≤◌, inl, inr, ℕ, List, [], ◌++◌, append-nil, refl, sym, ap, ◌∙◌, subst, Option, Some, None, IfSome, option_map}
+use Rattle.host_core.specs.Counts.{Counts, NoneFell, PrintMayRise}
+use Rattle.host_core.specs.Crashes.{Elapses, Left, LeavesOnly, MayLeave, MayLeaveInPrint, MayLeaveNow}
+use Rattle.host_core.specs.State.{PrintsPart, State, printed}
+use Rattle.host_core.proofs.Runs as runs
+use Rattle.conf_store.specs.Changes.{IsSettled}
+use Rattle.conf_store.specs.Folds.{StandsFor}
+use Rattle.conf_store.specs.declared.loaded.Stored.{Stored}
+use Rattle.move_core.specs.Operations.{plan_text}
+use Rattle.change_apply.specs.Change.{Change}
+use Rattle.gcu_engine.specs.Changing.{LeftChanged}
+use Rattle.gcu_engine.specs.Doing.{EndsChange, EndsWork, LeftDoing}
+use Rattle.gcu_engine.specs.declared.outcomes.Outcome.{Outcome}
+use Rattle.gcu_engine.specs.declared.outcomes.Outcome.TheVariants.{PrintFault}
+use Rattle.gcu_engine.proofs.Changes.{work_since}
+
+-- nothing is pending once it is printed
+pub printed_settled : (o told : Option State) (text : List ℕ) → told ≡ option_map (printed text) o → IfSome o IsSettled → IfSome told IsSettled
+printed_settled None told text is h = subst (λ t. IfSome t IsSettled) (sym is) tt
+printed_settled (Some s) told text is h = subst (λ t. IfSome t IsSettled) (sym is) h
+
+-- and the folder stands for the same
+pub printed_stands : (o told : Option State) (text : List ℕ) (what : Stored) → told ≡ option_map (printed text) o → IfSome o (λ s. StandsFor what s.files)
+    → IfSome told (λ s. StandsFor what s.files)
+printed_stands None told text what is h = subst (λ t. IfSome t (λ s. StandsFor what s.files)) (sym is) tt
+printed_stands (Some s) told text what is h = subst (λ t. IfSome t (λ s. StandsFor what s.files)) (sym is) h
+
+-- all of it is printed
+pub plan_printed : (c : Change) (o told after : Option State) (text : List ℕ) (old mid new : Counts) (result : Outcome) → text ≡ plan_text c.moves
+    → told ≡ option_map (printed text) o → NoneFell old mid → EndsWork c told after mid new result → EndsChange c o after old new result
+plan_printed c o told after text old mid new result same is fell h =
+    inr (work_since c (option_map (printed (plan_text c.moves)) o) after old mid new result fell
+    (subst (λ t. EndsWork c t after mid new result) (is ∙ ap (λ (t : List ℕ). option_map (printed t) o) same) h))
+
+-- a front of it is printed
+pub plan_cut : (c : Change) (o after : Option State) (text : List ℕ) (old new : Counts) → text ≡ plan_text c.moves → PrintsPart text o after
+    → EndsChange c o after old new (PrintFault 0)
+plan_cut c o after text old new same h = inl (refl, subst (λ (t : List ℕ). PrintsPart t o after) same h)
+
+module _ {H : Type 0} (moment : H → ℕ) (left_since : H → ℕ → Left → Type 0) where
+  -- while it is printed
+  in_plan : (c : Change) (s : State) (text : List ℕ) (old mid : H) → text ≡ plan_text c.moves
+      → ((left : Left) → left_since old (moment old) left → MayLeave s left)
+      → Elapses moment left_since old mid (MayLeaveInPrint text (Some s)) → LeavesOnly moment left_since old mid (LeftDoing c s)
+  in_plan c s text old mid same now time =
+      runs.goes_on moment left_since old old mid (LeftDoing c s) (MayLeaveInPrint text (Some s))
+      (runs.begins moment left_since old (LeftDoing c s)
+      (λ left since.
+      let may = now left since in
+      inl ([], plan_text c.moves, refl, record { files = may.files; output = may.output ∙ sym (append-nil s.output); restarts = may.restarts })))
+      time
+      (λ left h. inl (subst (λ (t : List ℕ). MayLeaveInPrint t (Some s) left) same h))
+
+  pub plan_left : (c : Change) (o : Option State) (text : List ℕ) (old mid : H) → text ≡ plan_text c.moves
+      → ((left : Left) → left_since old (moment old) left → MayLeaveNow o left)
+      → Elapses moment left_since old mid (MayLeaveInPrint text o) → IfSome o (λ s. LeavesOnly moment left_since old mid (LeftDoing c s))
+  plan_left c None text old mid same now time = tt
+  plan_left c (Some s) text old mid same now time = in_plan c s text old mid same now time
+
+  pub doing_leaves : (c : Change) (o told : Option State) (text : List ℕ) (old mid new : H) → text ≡ plan_text c.moves → told ≡ option_map (printed text) o
+      → ((left : Left) → left_since old (moment old) left → MayLeaveNow o left)
+      → Elapses moment left_since old mid (MayLeaveInPrint text o) → IfSome told (λ s. LeavesOnly moment left_since mid new (LeftChanged c s))
+      → IfSome o (λ s. LeavesOnly moment left_since old new (LeftDoing c s))
+  doing_leaves c None told text old mid new same is now time does = tt
+  doing_leaves c (Some s) told text old mid new same is now time does =
+      runs.joins moment left_since old mid new (LeftDoing c s) (in_plan c s text old mid same now time)
+      (runs.weaker moment left_since mid new (LeftChanged c (printed (plan_text c.moves) s)) (LeftDoing c s) (λ left h. inr h)
+      (subst (λ t. IfSome t (λ s. LeavesOnly moment left_since mid new (LeftChanged c s)))
+      (is ∙ ap (λ (t : List ℕ). Some (printed t s)) same) does))

@@ -1,0 +1,174 @@
+-- How a change ends whose plan is printed: its last line, and what a crash leaves until it is printed.
+use Rattle.std.proofs.Common.{◌≡◌, ◌≤◌, ◌<◌, inl, inr, ℕ, suc, List, [], ◌++◌, length, refl, sym, ap, ◌∙◌, subst, arith, Option, Some, None, IfSome, option_map}
+use Rattle.std.specs.Prelude.{unwrap_or}
+use Rattle.host_core.specs.Counts.{Counts, NoneFell, PrintMayRise, Rose}
+use Rattle.host_core.specs.Crashes.{Elapses, Left, LeavesOnly, MayLeave, MayLeaveInPrint, MayLeaveNow}
+use Rattle.host_core.specs.State.{State, printed}
+use Rattle.host_core.proofs.Runs as runs
+use Rattle.change_apply.specs.Acknowledgements.{acks}
+use Rattle.change_apply.specs.Change.{Change, steps}
+use Rattle.change_apply.specs.Crashes.{IsLeft}
+use Rattle.change_apply.specs.Ends.{Finishes, MayRise, Stops}
+use Rattle.change_apply.specs.declared.errors.ApplyFault.TheVariants.{Disk, Print, Service}
+use Rattle.gcu_engine.specs.Answers.{HasCause}
+use Rattle.gcu_engine.specs.Changing.{IsLastLine, LeftChanged}
+use Rattle.gcu_engine.specs.Doing.{EndsWork, HasBytes, IsEnded, IsLast, acknowledged}
+use Rattle.gcu_engine.specs.FaultLines.{found, line_at, service_lines_at}
+use Rattle.gcu_engine.specs.Lines.{last_line, service_line}
+use Rattle.gcu_engine.specs.declared.change.ReadyChange.{ReadyChange}
+use Rattle.gcu_engine.specs.declared.outcomes.Outcome.{Outcome}
+use Rattle.gcu_engine.specs.declared.outcomes.Outcome.TheVariants.{Done, DiskFault, PrintFault, ServiceFault}
+use Rattle.gcu_engine.proofs.Causes.{rose_from}
+use Rattle.gcu_engine.proofs.Changes.{last_output}
+use Rattle.gcu_engine.proofs.FaultTexts.{disk_there, service_there}
+
+-- what is there before the last line, of a host that may not tell its state
+abbrev pub IsLastIn : Change → Option State → Option State → Outcome → List ℕ → Type 0
+IsLastIn c None told answer text = told ≡ None
+IsLastIn c (Some began) told answer text = (now : State) × (told ≡ Some now) × IsLast c began now answer text
+
+-- ---- before the last line
+
+-- all is done
+pub done_last : (c : Change) (o told : Option State) → Finishes c o told → IsLastIn c o told Done (last_line Done)
+done_last c None told h = h
+done_last c (Some began) told h = (_, h.1, ((h.0, refl, h.2), refl))
+
+within : {k n : ℕ} (m : ℕ) → k ≤ n → m ≡ n → k < suc m
+within m le e = omega (arith, le, e)
+
+-- a fault of the disk stopped it
+pub disk_last : (ready : ReadyChange) → HasBytes ready → (o told : Option State) (k : ℕ) → Stops ready.ready (Disk k) o told
+    → IsLastIn ready.ready o told (DiskFault k) (line_at ready.lines.disk k)
+disk_last ready bytes None told k h = h
+disk_last ready bytes (Some began) told k h = (
+  h.0,
+  h.1,
+  (
+    h.2,
+    ap (λ (ls : List (List ℕ)). line_at ls k) bytes.lines_are.disk ∙ disk_there (suc (length ready.ready.restarts)) k (within (length ready.ready.restarts) h.2.within bytes.long),
+  ),
+)
+
+-- a fault of a service stopped it
+pub service_last : (ready : ReadyChange) → HasBytes ready → (o told : Option State) (k service : ℕ) → Stops ready.ready (Service k service) o told
+    → IsLastIn ready.ready o told (ServiceFault k service) (unwrap_or (found service (service_lines_at ready.lines.services k)) [])
+service_last ready bytes None told k service h = h
+service_last ready bytes (Some began) told k service h = (
+  h.0,
+  h.1,
+  (
+    h.2,
+    ap (λ (s : ℕ). unwrap_or (found s (service_lines_at ready.lines.services k)) []) (sym h.2.named)
+        ∙ service_there bytes.settings ready.ready.restarts ready.lines.services k h.2.started h.2.refused h.2.due bytes.lines_are.services (bytes.named k) h.2.next
+        ∙ ap (λ (s : ℕ). service_line k s h.2.refused.name) h.2.named,
+  ),
+)
+
+-- ---- its end
+
+-- the last line is printed, or a front of it
+pub ends_work : (c : Change) (o told after : Option State) (old mid new : Counts) (answer result : Outcome) (text : List ℕ) (step : ℕ) → step ≡ acknowledged c answer
+    → IsLastIn c o told answer text → HasCause old new answer → IsEnded answer text step told after mid new result → EndsWork c o after old new result
+ends_work c None told after old mid new answer result text step are last cause (inl whole) = whole.1 ∙ ap (option_map (printed text)) last
+ends_work c None told after old mid new answer result text step are last cause (inr part) = part.1.3 ∙ ap (option_map (printed part.1.0)) last
+ends_work c (Some began) told after old mid new answer result text step are last cause (inl whole) =
+    inl (last.0, text, subst (λ (a : Outcome). IsLast c began last.0 a text) (sym whole.0) last.2, whole.1 ∙ ap (option_map (printed text)) last.1)
+ends_work c (Some began) told after old mid new answer result text step are last cause (inr part) =
+    inr (inl (
+      last.0,
+      answer,
+      part.1.0,
+      part.1.1,
+      subst (λ (t : List ℕ). IsLast c began last.0 answer t) part.1.2 last.2,
+      cause,
+      part.0 ∙ ap PrintFault are,
+      part.1.3 ∙ ap (option_map (printed part.1.0)) last.1,
+    ))
+
+-- the acknowledgement of a step is cut short
+pub cut_in_step : (c : Change) (o told : Option State) (old new : Counts) (k : ℕ) → Stops c (Print k) o told → EndsWork c o told old new (PrintFault k)
+cut_in_step c None told old new k h = h
+cut_in_step c (Some began) told old new k h = inr (inr (h.0, k, h.2, refl, h.1))
+
+-- ---- causes
+
+-- a fault of the disk or of a service stays while a line is printed
+pub disk_printed : (old mid new : Counts) → PrintMayRise mid new → Rose old.disk mid.disk → Rose old.disk new.disk
+disk_printed old mid new rises h = subst (λ (n : ℕ). Rose old.disk n) (sym (ap (λ (c : Counts). c.disk) rises.2)) h
+
+pub service_printed : (old mid new : Counts) → PrintMayRise mid new → Rose old.service mid.service → Rose old.service new.service
+service_printed old mid new rises h = subst (λ (n : ℕ). Rose old.service n) (sym (ap (λ (c : Counts). c.service) rises.2)) h
+
+-- what is then answered has its cause
+pub ended_cause : (old mid new : Counts) (answer result : Outcome) (text : List ℕ) (step : ℕ) (before after : Option State) → MayRise old mid → HasCause old new answer
+    → IsEnded answer text step before after mid new result → HasCause old new result
+ended_cause old mid new answer result text step before after may cause (inl whole) = subst (HasCause old new) (sym whole.0) cause
+ended_cause old mid new answer result text step before after may cause (inr part) =
+    subst (HasCause old new) (sym part.0) (rose_from old.print mid.print new.print may.print part.2)
+
+-- no count falls
+pub work_fell : (old mid new : Counts) → MayRise old mid → PrintMayRise mid new → NoneFell old new
+work_fell old mid new may rises =
+    let input : new.input ≡ mid.input = ap (λ (c : Counts). c.input) rises.2 in
+    let disk : new.disk ≡ mid.disk = ap (λ (c : Counts). c.disk) rises.2 in
+    let print : new.print ≡ rises.0 = ap (λ (c : Counts). c.print) rises.2 in
+    let service : new.service ≡ mid.service = ap (λ (c : Counts). c.service) rises.2 in
+    record {
+      input = omega (arith, input, may.input);
+      disk = omega (arith, disk, may.disk);
+      print = omega (arith, print, rises.1, may.print);
+      service = omega (arith, service, may.service);
+    }
+
+pub run_fell : (old new : Counts) → MayRise old new → NoneFell old new
+run_fell old new may =
+    record { input = omega (arith, may.input); disk = may.disk; print = may.print; service = may.service }
+
+-- ---- what a crash leaves
+
+-- the last line of an answer
+is_last_line : (c : Change) (began now : State) (answer : Outcome) (text : List ℕ) → IsLast c began now answer text → IsLastLine text
+is_last_line c began now Done text h = inl (Done, h.1)
+is_last_line c began now (DiskFault k) text h = inl (DiskFault k, h.1)
+is_last_line c began now (ServiceFault k service) text h = inr (k, service, h.0.refused.name, h.1)
+is_last_line c began now other text never = absurd never
+
+module _ {H : Type 0} (moment : H → ℕ) (left_since : H → ℕ → Left → Type 0) where
+  ends_in : (c : Change) (began now : State) (answer : Outcome) (text : List ℕ) (old mid new : H) → IsLast c began now answer text
+      → ((left : Left) → moment old ≤ moment mid → MayLeave now left → left_since mid (moment old) left)
+      → LeavesOnly moment left_since old mid (IsLeft c began) → Elapses moment left_since mid new (MayLeaveInPrint text (Some now))
+      → LeavesOnly moment left_since old new (LeftChanged c began)
+  ends_in c began now answer text old mid new last here so_far time =
+      runs.goes_on moment left_since old mid new (LeftChanged c began) (MayLeaveInPrint text (Some now))
+      (runs.weaker moment left_since old mid (IsLeft c began) (LeftChanged c began) (λ left h. inl h) so_far) time
+      (λ left h.
+      let k = acknowledged c answer in
+      let so_many : now.output ≡ began.output ++ acks k = last_output c began now answer text last in
+      inr (record {
+        acked = k;
+        part = h.0;
+        rest = h.1;
+        line = subst IsLastLine h.2 (is_last_line c began now answer text last);
+        output = h.3.output ∙ ap (λ (o : List ℕ). o ++ h.0) so_many;
+        is = so_far.each (record left { output = began.output ++ acks k })
+            (here (record left { output = began.output ++ acks k }) so_far.later
+            (record { files = h.3.files; output = sym so_many; restarts = h.3.restarts }));
+      }))
+
+  -- of a host that may not tell its state
+  pub ends_left : (c : Change) (o told : Option State) (answer : Outcome) (text : List ℕ) (old mid new : H) → IsLastIn c o told answer text
+      → ((left : Left) → moment old ≤ moment mid → MayLeaveNow told left → left_since mid (moment old) left)
+      → IfSome o (λ s. LeavesOnly moment left_since old mid (IsLeft c s)) → Elapses moment left_since mid new (MayLeaveInPrint text told)
+      → IfSome o (λ s. LeavesOnly moment left_since old new (LeftChanged c s))
+  ends_left c None told answer text old mid new last here so_far time = tt
+  ends_left c (Some began) told answer text old mid new last here so_far time =
+      ends_in c began last.0 answer text old mid new last.2
+      (λ left later may. here left later (subst (λ t. MayLeaveNow t left) (sym last.1) may)) so_far
+      (subst (λ t. Elapses moment left_since mid new (MayLeaveInPrint text t)) last.1 time)
+
+  -- without a last line
+  pub steps_left : (c : Change) (o : Option State) (old mid : H) → IfSome o (λ s. LeavesOnly moment left_since old mid (IsLeft c s))
+      → IfSome o (λ s. LeavesOnly moment left_since old mid (LeftChanged c s))
+  steps_left c None old mid h = tt
+  steps_left c (Some s) old mid h = runs.weaker moment left_since old mid (IsLeft c s) (LeftChanged c s) (λ left is. inl is) h

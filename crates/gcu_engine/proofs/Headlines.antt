@@ -1,0 +1,413 @@
+-- The promise of the whole program follows from what it answers and what a crash leaves.
+use Rattle.std.proofs.Common.{◌≡◌, ◌≢◌, ◌≤◌, ◌<◌, ◌⊎◌, inl, inr, ℕ, zero, suc, ◌+◌, List, [], ◌∷◌, ◌++◌, length, append-nil, append_assoc, length-append, refl, sym, ap, ◌∙◌, subst, arith, Option, Some, None, Ok, IfSome, ⊎_elim}
+use Rattle.host_core.specs.Counts.{Counts}
+use Rattle.host_core.specs.Crashes.{Image, Left, LeavesOnly, MayLeave}
+use Rattle.host_core.specs.State.{State, printed}
+use Rattle.conf_doc.specs.declared.configuration.Config.{Config}
+use Rattle.conf_store.specs.Changes.{IsSettled}
+use Rattle.conf_store.specs.Stored.{stored}
+use Rattle.checkpoints.specs.Points.{points}
+use Rattle.move_core.specs.Operations.{plan_text}
+use Rattle.move_core.specs.Plans.{conf}
+use Rattle.move_core.specs.declared.moves.Move.{Move}
+use Rattle.change_apply.specs.Acknowledgements.{HasAcknowledged, ack, acks}
+use Rattle.change_apply.specs.Change.{Change, steps}
+use Rattle.change_apply.specs.Crashes.{StandAt}
+use Rattle.change_apply.specs.Ends.{IsStopped}
+use Rattle.change_apply.specs.declared.ready.Restart.{Restart}
+use Rattle.plan_options.specs.Targets.{Target}
+use Rattle.gcu_engine.specs.Answers.{Answers, IsDoneOutput, IsUntouched, Leaves, LeavesDone, LeavesStopped, LeftByForm, LeftDoing, LeftMeanwhile, LeftOf, Prints, Says}
+use Rattle.gcu_engine.specs.Asked.{asked, form_asked}
+use Rattle.gcu_engine.specs.Asking.{Asking}
+use Rattle.gcu_engine.specs.ChangeAsked.{change_asked}
+use Rattle.gcu_engine.specs.Changing.{IsChangeFor, IsFirstText, IsLastLine, LeftChanged, LeftEarly, LeftOfChange, begun}
+use Rattle.gcu_engine.specs.Form.{Form, form}
+use Rattle.gcu_engine.specs.Form as forms
+use Rattle.gcu_engine.specs.Headline.{HasNoOrder, IsBefore, IsHeadline, IsLastOrNext, IsOneChange, IsPlanOutput, IsRightPlan, PrintsPlan, StandsAfter, StoresTarget, target_in}
+use Rattle.gcu_engine.specs.Lines.{last_line}
+use Rattle.gcu_engine.specs.PlanAsked.{dry_run_asked}
+use Rattle.gcu_engine.specs.Plannings.{IsUnsolved}
+use Rattle.gcu_engine.specs.Request as request
+use Rattle.gcu_engine.specs.Request.{Planning, Request}
+use Rattle.gcu_engine.specs.declared.outcomes.Outcome.{Outcome}
+use Rattle.gcu_engine.specs.declared.outcomes.Outcome.TheVariants.{Done, Memory, InputFault, DiskFault, PrintFault, ServiceFault, Unorderable, Budget}
+use Rattle.gcu_engine.proofs.Changes.{some_is}
+use Rattle.gcu_engine.proofs.Naming.{named_is}
+use Rattle.gcu_engine.proofs.RightPlans.{IsAsked, asked_is, right_plan, way_last}
+
+-- ---- how many steps are acknowledged
+
+three_ways : (d k : ℕ) → (d < k) ⊎ ((d ≡ k) ⊎ (k < d))
+three_ways zero zero = inr (inl refl)
+three_ways zero (suc k) = inl (omega arith)
+three_ways (suc d) zero = inr (inr (omega arith))
+three_ways (suc d) (suc k) = up (three_ways d k)
+  where
+    up : (d < k) ⊎ ((d ≡ k) ⊎ (k < d)) → (suc d < suc k) ⊎ ((suc d ≡ suc k) ⊎ (suc k < suc d))
+    up (inl lt) = inl (omega (arith, lt))
+    up (inr (inl e)) = inr (inl (ap suc e))
+    up (inr (inr gt)) = inr (inr (omega (arith, gt)))
+
+one_length : (k : ℕ) → length (acks (suc k)) ≡ length (acks k) + length (ack (suc k))
+one_length k = length-append (acks k) (ack (suc k))
+
+more_by : (d k : ℕ) → (d < k → length (acks d) + length (ack (suc d)) ≤ length (acks k)) → d < suc k → (d < k) ⊎ ((d ≡ k) ⊎ (k < d))
+    → length (acks d) + length (ack (suc d)) ≤ length (acks (suc k))
+more_by d k so_far low (inl lt) = let less = so_far lt in let one = one_length k in omega (arith, less, one)
+more_by d k so_far low (inr (inl e)) =
+    subst (λ (n : ℕ). length (acks d) + length (ack (suc d)) ≤ length (acks (suc n))) e (let one = one_length d in omega (arith, one))
+more_by d k so_far low (inr (inr gt)) = absurd (omega (arith, low, gt))
+
+-- with more steps there is at least the next acknowledgement more
+more_length : (d k : ℕ) → d < k → length (acks d) + length (ack (suc d)) ≤ length (acks k)
+more_length d zero low = absurd (omega (arith, low))
+more_length d (suc k) low = more_by d k (λ lt. more_length d k lt) low (three_ways d k)
+
+some_length : (rest : List ℕ) → rest ≢ [] → 0 < length rest
+some_length [] some = absurd (some refl)
+some_length (x ∷ rest) some = omega arith
+
+ack_length : (k : ℕ) → 0 < length (ack k)
+ack_length k = omega arith
+
+-- so many were printed, and no part of another one
+acked_is : (d k : ℕ) (base : List ℕ) → HasAcknowledged d base (base ++ acks k) → d ≡ k
+acked_is d k base h = by (three_ways d k)
+  where
+    long : length base + length (acks k) ≡ length base + length (acks d) + length h.part
+    long =
+        sym (length-append base (acks k)) ∙ ap (λ (l : List ℕ). length l) h.printed
+        ∙ length-append (base ++ acks d) h.part ∙ ap (λ (n : ℕ). n + length h.part) (length-append base (acks d))
+
+    line : length (ack (suc d)) ≡ length h.part + length h.rest
+    line = ap (λ (l : List ℕ). length l) h.line ∙ length-append h.part h.rest
+
+    by : (d < k) ⊎ ((d ≡ k) ⊎ (k < d)) → d ≡ k
+    by (inl lt) = absurd (let more = more_length d k lt in let some = some_length h.rest h.cut in let l = long in let e = line in omega (arith, more, some, l, e))
+    by (inr (inl e)) = e
+    by (inr (inr gt)) = absurd (let more = more_length k d gt in let some = ack_length (suc k) in let l = long in omega (arith, more, some, l))
+
+-- ---- what is planned
+
+-- a plan is requested where one is to be printed
+plan_given : (from : Target) (budget : ℕ) (s : State) (r : Request) → (dry_run_asked from budget s).Gives (Ok r)
+    → (p : Planning) × IsAsked from s p × (request.plan p ≡ r)
+plan_given from budget s r (inl never) = absurd never
+plan_given from budget s r (inr (x, named, inl never)) = absurd never
+plan_given from budget s r (inr (x, named, inr (p, given, e))) =
+    let same : request.plan p ≡ r = cc in (p, subst (λ (t : Target). IsAsked t s p) (named_is from x named) (asked_is x budget s p given), same)
+
+-- a change is requested where one is to be done
+change_given : (from : Target) (budget : ℕ) (s : State) (r : Request) → (change_asked from budget s).Gives (Ok r)
+    → (p : Planning) × IsAsked from s p × (request.change p ≡ r)
+change_given from budget s r (inl never) = absurd never
+change_given from budget s r (inr (x, named, inl never)) = absurd never
+change_given from budget s r (inr (x, named, inr (u, settles, inl never))) = absurd never
+change_given from budget s r (inr (x, named, inr (u, settles, inr (p, given, e)))) =
+    let same : request.change p ≡ r = cc in (p, subst (λ (t : Target). IsAsked t s p) (named_is from x named) (asked_is x budget s p given), same)
+
+same_change : (p q : Planning) → request.change p ≡ request.change q → p ≡ q
+same_change p q e = let same : p ≡ q = cc in same
+
+-- ---- what is printed
+
+-- the output before the last line, and that line: of a plan that is right, or of nothing
+pub record IsText (from : Target) (s now : State) (text : List ℕ) : Type 0 where
+  pub front : List ℕ
+  pub printed_is : now.output ≡ s.output ++ front
+  pub right : IsPlanOutput from s (front ++ text)
+
+-- nothing stands before the last line
+alone : (from : Target) (s now : State) (text : List ℕ) → now.output ≡ s.output → IsPlanOutput from s text → IsText from s now text
+alone from s now text same right = record { front = []; printed_is = same ∙ sym (append-nil s.output); right = right }
+
+last_alone : (from : Target) (s now : State) (text : List ℕ) (e : Outcome) → now.output ≡ s.output → text ≡ last_line e → IsText from s now text
+last_alone from s now text e same is = alone from s now text same (inl (inl (e, is)))
+
+module _ (from : Target) (s now : State) where
+  untouched_output : (asking : Asking Request) → IsUntouched asking s now → now.output ≡ s.output
+  untouched_output asking (inl same) = ap (λ (t : State). t.output) same
+  untouched_output asking (inr (reads, same)) = ap (λ (t : State). t.output) same
+
+  module _ (budget : ℕ) where
+    abbrev printing : Asking Request
+    printing = dry_run_asked from budget s
+
+    planned_text : (p : Planning) (r : Request) → IsAsked from s p → request.plan p ≡ r → LeavesDone r s now → (text : List ℕ) → IsDoneOutput r text → IsText from s now text
+    planned_text p r is same leaves text out =
+        let unchanged : now ≡ s = subst (λ (q : Request). LeavesDone q s now) (sym same) leaves in
+        let ms = subst (λ (q : Request). IsDoneOutput q text) (sym same) out in
+        alone from s now text (ap (λ (t : State). t.output) unchanged) (inr (ms.0, last_line Done, right_plan from s p ms.0 is ms.1, ms.2))
+
+    no_stop : (step : ℕ) (p : Planning) (r : Request) → request.plan p ≡ r → LeavesStopped r step s now → ⊥
+    no_stop step p r same h = subst (λ (q : Request). LeavesStopped q step s now) (sym same) h
+
+    plan_text_is : (e : Outcome) (text : List ℕ) → Says printing s now e text → IsText from s now text
+    plan_text_is Done text (r, given, leaves, out) = let g = plan_given from budget s r given in planned_text g.0 r g.1 g.2 leaves text out
+    plan_text_is Memory text h = last_alone from s now text Memory (untouched_output printing h.0) h.1
+    plan_text_is InputFault text h = last_alone from s now text InputFault (untouched_output printing h.1) h.2
+    plan_text_is (DiskFault step) text (reads, inl (first, same), is) = last_alone from s now text (DiskFault step) (untouched_output printing same) is
+    plan_text_is (DiskFault step) text (reads, inr (r, given, stopped), is) =
+        let g = plan_given from budget s r given in absurd (no_stop step g.0 r g.2 stopped)
+    plan_text_is (PrintFault step) text never = absurd never
+    plan_text_is (ServiceFault step service) text (p, given, halted, is) =
+        let g = plan_given from budget s (request.change p) given in let apart : request.plan g.0 ≡ request.change p = g.2 in absurd cc
+    plan_text_is Unorderable text h = last_alone from s now text Unorderable (untouched_output printing h.1) h.2
+    plan_text_is (Budget n) text h = last_alone from s now text (Budget n) (untouched_output printing h.1) h.2
+    plan_text_is other text h = last_alone from s now text other (untouched_output printing h.1) h.2
+
+    abbrev doing : Asking Request
+    doing = change_asked from budget s
+
+    -- behind the text of a plan
+    behind : (p : Planning) (c : Change) → IsAsked from s p → IsChangeFor p s c → (more text : List ℕ) → now.output ≡ (begun c s).output ++ more → IsText from s now text
+    behind p c asks is more text printed_is = record {
+      front = plan_text c.moves ++ more;
+      printed_is = printed_is ∙ append_assoc s.output (plan_text c.moves) more;
+      right = inr (c.moves, more ++ text, right_plan from s p c.moves asks is.plan, append_assoc (plan_text c.moves) more text);
+    }
+
+    stopped_text : (p : Planning) (c : Change) → IsAsked from s p → IsChangeFor p s c → (k : ℕ) (part : List ℕ) (started : List Restart) → IsStopped c k part started (begun c s) now
+        → (text : List ℕ) → IsText from s now text
+    stopped_text p c asks is k part started stopped text =
+        behind p c asks is (acks k ++ part) text (stopped.output ∙ append_assoc (begun c s).output (acks k) part)
+
+    changed_text : (p : Planning) (r : Request) → IsAsked from s p → request.change p ≡ r → LeavesDone r s now → (text : List ℕ) → IsText from s now text
+    changed_text p r asks same leaves text =
+        let h = subst (λ (q : Request). LeavesDone q s now) (sym same) leaves in
+        behind p h.0 asks h.1 (acks (steps h.0)) text (ap (λ (t : State). t.output) (some_is now _ h.2.1))
+
+    halted_text : (step : ℕ) (p : Planning) (r : Request) → IsAsked from s p → request.change p ≡ r → LeavesStopped r step s now → (text : List ℕ) → IsText from s now text
+    halted_text step p r asks same stopped text =
+        let h = subst (λ (q : Request). LeavesStopped q step s now) (sym same) stopped in
+        stopped_text p h.0 asks h.1 step [] [] h.2 text
+
+    change_text_is : (e : Outcome) (text : List ℕ) → Says doing s now e text → IsText from s now text
+    change_text_is Done text (r, given, leaves, out) = let g = change_given from budget s r given in changed_text g.0 r g.1 g.2 leaves text
+    change_text_is Memory text h = last_alone from s now text Memory (untouched_output doing h.0) h.1
+    change_text_is InputFault text h = last_alone from s now text InputFault (untouched_output doing h.1) h.2
+    change_text_is (DiskFault step) text (reads, inl (first, same), is) = last_alone from s now text (DiskFault step) (untouched_output doing same) is
+    change_text_is (DiskFault step) text (reads, inr (r, given, stopped), is) =
+        let g = change_given from budget s r given in halted_text step g.0 r g.1 g.2 stopped text
+    change_text_is (PrintFault step) text never = absurd never
+    change_text_is (ServiceFault step service) text (p, given, h, is) =
+        let g = change_given from budget s (request.change p) given in
+        let asks = subst (IsAsked from s) (same_change g.0 p g.2) g.1 in
+        stopped_text p h.0 asks h.1 step [] h.2.started h.2.stopped text
+    change_text_is Unorderable text h = last_alone from s now text Unorderable (untouched_output doing h.1) h.2
+    change_text_is (Budget n) text h = last_alone from s now text (Budget n) (untouched_output doing h.1) h.2
+    change_text_is other text h = last_alone from s now text other (untouched_output doing h.1) h.2
+
+-- what is printed of such a text
+prints_text : (from : Target) (s now : State) (after : Option State) (output rest : List ℕ) → after ≡ Some (printed output now) → IsText from s now (output ++ rest) → PrintsPlan from s after
+prints_text from s now after output rest is h = (
+  printed output now,
+  h.front ++ output,
+  rest,
+  is,
+  ap (λ (l : List ℕ). l ++ output) h.printed_is ∙ append_assoc s.output h.front output,
+  subst (IsPlanOutput from s) (sym (append_assoc h.front output rest)) h.right,
+)
+
+whole_text : (from : Target) (s now : State) (after : Option State) (output : List ℕ) → after ≡ Some (printed output now) → IsText from s now output → PrintsPlan from s after
+whole_text from s now after output is h =
+    prints_text from s now after output [] is (subst (IsText from s now) (sym (append-nil output)) h)
+
+module _ (from : Target) (budget : ℕ) (s now : State) (after : Option State) (old new : Counts) (output : List ℕ) (is : after ≡ Some (printed output now)) where
+  plan_cut : (step : ℕ) → Prints (dry_run_asked from budget s) s now old new (PrintFault step) output → PrintsPlan from s after
+  plan_cut step (inl (acked, (other, rest, cause, says))) = prints_text from s now after output rest is (plan_text_is from s now budget other (output ++ rest) says)
+  plan_cut step (inr (p, given, h)) =
+      let g = plan_given from budget s (request.change p) given in let apart : request.plan g.0 ≡ request.change p = g.2 in absurd cc
+
+  -- what a plan that is only printed prints
+  plan_prints : (result : Outcome) → Prints (dry_run_asked from budget s) s now old new result output → PrintsPlan from s after
+  plan_prints (PrintFault step) h = plan_cut step h
+  plan_prints other h = whole_text from s now after output is (plan_text_is from s now budget other output h)
+
+  change_cut : (step : ℕ) → Prints (change_asked from budget s) s now old new (PrintFault step) output → PrintsPlan from s after
+  change_cut step (inl (acked, (other, rest, cause, says))) = prints_text from s now after output rest is (change_text_is from s now budget other (output ++ rest) says)
+  change_cut step (inr (p, given, inl (first, (c, rest, fits, text, same)))) =
+      let g = change_given from budget s (request.change p) given in
+      let asks = subst (IsAsked from s) (same_change g.0 p g.2) g.1 in
+      prints_text from s now after output rest is
+      (alone from s now (output ++ rest) (ap (λ (t : State). t.output) same)
+      (inr (c.moves, [], right_plan from s p c.moves asks fits.plan, sym text ∙ sym (append-nil (plan_text c.moves)))))
+  change_cut step (inr (p, given, inr ((c, fits, stopped), none))) =
+      let g = change_given from budget s (request.change p) given in
+      let asks = subst (IsAsked from s) (same_change g.0 p g.2) g.1 in
+      whole_text from s now after output is (stopped_text from s now budget p c asks fits step stopped.part _ stopped.stopped output)
+
+  -- what a plan that is done prints
+  change_prints : (result : Outcome) → Prints (change_asked from budget s) s now old new result output → PrintsPlan from s after
+  change_prints (PrintFault step) h = change_cut step h
+  change_prints other h = whole_text from s now after output is (change_text_is from s now budget other output h)
+
+plans_print : (f : Option Form) (from : Target) (s : State) (after : Option State) (old new : Counts) (result : Outcome) → target_in f ≡ Some from
+    → Leaves (form_asked f s) s after old new result → PrintsPlan from s after
+plans_print (Some (forms.plan target budget)) from s after old new result is h =
+    let same : target ≡ from = cc in
+    subst (λ (t : Target). PrintsPlan t s after) same (plan_prints target budget s h.0 after old new h.1 h.2 result h.3)
+plans_print (Some (forms.change target budget)) from s after old new result is h =
+    let same : target ≡ from = cc in
+    subst (λ (t : Target). PrintsPlan t s after) same (change_prints target budget s h.0 after old new h.1 h.2 result h.3)
+plans_print None from s after old new result is h = absurd cc
+plans_print (Some (forms.preview path)) from s after old new result is h = absurd cc
+plans_print (Some forms.check) from s after old new result is h = absurd cc
+plans_print (Some forms.list_checkpoints) from s after old new result is h = absurd cc
+plans_print (Some (forms.save_checkpoint name)) from s after old new result is h = absurd cc
+plans_print (Some (forms.delete_checkpoint name)) from s after old new result is h = absurd cc
+
+-- ---- no order
+
+none_of : (words : List (List ℕ)) (s : State) (r : Request) → (asked words s).Gives (Ok r) → IsUnsolved r Unorderable → HasNoOrder words s
+none_of words s (request.plan p) given h = (p, inl given, h.0)
+none_of words s (request.change p) given h = (p, inr given, h.0)
+none_of words s (request.preview c) given never = absurd never
+none_of words s (request.list_checkpoints names) given never = absurd never
+none_of words s request.check given never = absurd never
+none_of words s (request.save_checkpoint name config) given never = absurd never
+none_of words s (request.delete_checkpoint name) given never = absurd never
+
+no_order_is : (words : List (List ℕ)) (s : State) (after : Option State) (old new : Counts) (result : Outcome) → Leaves (asked words s) s after old new result
+    → result ≡ Unorderable → HasNoOrder words s
+no_order_is words s after old new result h is =
+    let says = subst (λ (e : Outcome). Prints (asked words s) s h.0 old new e h.1) is h.3 in
+    none_of words s says.0.0 says.0.1 says.0.2
+
+-- ---- a finished change
+
+finishes : (from : Target) (budget : ℕ) (s : State) (after : Option State) (old new : Counts) → Leaves (change_asked from budget s) s after old new Done → StoresTarget from s after
+finishes from budget s after old new h =
+    let g = change_given from budget s h.3.0 h.3.1 in
+    let done = subst (λ (q : Request). LeavesDone q s h.0) (sym g.2) h.3.2 in
+    let c = done.0 in
+    let p = g.0 in
+    let last = way_last p.ctx p.goal p.start c.moves p.goal done.1.plan.0 in
+    let files = ap (λ (t : State). t.files) (some_is h.0 _ done.2.1) in (
+      printed h.1 h.0,
+      p.start,
+      p.goal,
+      h.2,
+      g.1.start.stands,
+      g.1.made,
+      ap stored files ∙ done.2.2.stands
+          ∙ ap (λ (x : Config). Ok (conf x c.moves (length c.moves))) done.1.start ∙ ap (λ (x : Config). Ok x) last,
+    )
+
+-- ---- a crash
+
+settled_files : (s : State) (part : List ℕ) (left : Left) → IsSettled s → MayLeave (printed part s) left → left.files ≡ s.files
+settled_files s part left clean may = subst (λ p. Image p s.files left.files) clean may.files
+
+early_before : (from : Target) (budget : ℕ) (s : State) (left : Left) → IsSettled s → LeftEarly (change_asked from budget s) s left → IsBefore from s left
+early_before from budget s left clean (part, rest, text, may) = record {
+  part = part;
+  rest = rest;
+  text = by text;
+  output = may.output;
+  stored_is = ap stored (settled_files s part left clean may);
+}
+  where
+    by : IsFirstText (change_asked from budget s) s (part ++ rest) → IsLastLine (part ++ rest) ⊎ ((ms : List Move) × IsRightPlan from s ms × (part ++ rest ≡ plan_text ms))
+    by (inl (e, is)) = inl (inl (e, is))
+    by (inr (p, c, given, fits, is)) =
+        let g = change_given from budget s (request.change p) given in
+        let asks = subst (IsAsked from s) (same_change g.0 p g.2) g.1 in
+        inr (c.moves, right_plan from s p c.moves asks fits.plan, is)
+
+-- the folder stands for one of the plan's configurations
+at_start : (p : Planning) (s : State) (c : Change) → IsChangeFor p s c → (k : ℕ) (left : Left) → StandAt c k left.files
+    → (stored left.files ≡ Ok (conf p.start c.moves k)) ⊎ (stored left.files ≡ Ok (conf p.start c.moves (suc k)))
+at_start p s c fits k left (inl e) = inl (e ∙ ap (λ (x : Config). Ok (conf x c.moves k)) fits.start)
+at_start p s c fits k left (inr e) = inr (e ∙ ap (λ (x : Config). Ok (conf x c.moves (suc k))) fits.start)
+
+changed_next : (from : Target) (s : State) (p : Planning) (c : Change) (left : Left) → IsAsked from s p → IsChangeFor p s c → LeftChanged c (begun c s) left → IsLastOrNext from s left
+changed_next from s p c left asks fits (inl h) = record {
+  ms = c.moves;
+  right = right_plan from s p c.moves asks fits.plan;
+  done = h.done;
+  part = h.output.part;
+  cut = inl (h.output.rest, h.output.line, h.output.cut);
+  output = h.output.printed;
+  stands = at_start p s c fits h.done left h.stands;
+}
+changed_next from s p c left asks fits (inr h) =
+    let k : h.is.done ≡ h.acked = acked_is h.is.done h.acked (begun c s).output h.is.output in
+    record {
+      ms = c.moves;
+      right = right_plan from s p c.moves asks fits.plan;
+      done = h.acked;
+      part = h.part;
+      cut = inr (h.rest, h.line);
+      output = h.output;
+      stands = at_start p s c fits h.acked left (subst (λ (n : ℕ). StandAt c n left.files) k h.is.stands);
+    }
+
+change_stands : (from : Target) (budget : ℕ) (s : State) (left : Left) → IsSettled s → LeftOfChange (change_asked from budget s) s left → StandsAfter (Some (forms.change from budget)) s left
+change_stands from budget s left clean (inl h) = inl (early_before from budget s left clean h)
+change_stands from budget s left clean (inr (p, c, given, fits, h, kept)) =
+    let g = change_given from budget s (request.change p) given in
+    inr (changed_next from s p c left (subst (IsAsked from s) (same_change g.0 p g.2) g.1) fits h)
+
+change_points : (asking : Asking Request) (s : State) (left : Left) → IsSettled s → LeftOfChange asking s left → points left.files ≡ points s.files
+change_points asking s left clean (inl (part, rest, text, may)) = ap points (settled_files s part left clean may)
+change_points asking s left clean (inr (p, c, given, fits, h, kept)) = kept
+
+doing_stands : (r : Request) (s : State) (left : Left) → LeftDoing r s left → stored left.files ≡ stored s.files
+doing_stands (request.delete_checkpoint name) s left h = h.files.kept
+doing_stands (request.save_checkpoint name config) s left h = h.files.kept
+doing_stands other s left never = absurd never
+
+other_stands : (asking : Asking Request) (s : State) (left : Left) → IsSettled s → LeftOf asking s left → stored left.files ≡ stored s.files
+other_stands asking s left clean (inl h) = ap stored (settled_files s h.0 left clean h.1)
+other_stands asking s left clean (inr (r, given, h)) = doing_stands r s left h
+
+doing_points : (asking : Asking Request) (r : Request) (s : State) (left : Left) → asking.Gives (Ok r) → LeftDoing r s left
+    → (points left.files ≡ points s.files) ⊎ ((q : Request) × asking.Gives (Ok q) × IsOneChange q (points s.files) (points left.files))
+doing_points asking (request.delete_checkpoint name) s left given h =
+    ⊎_elim (λ same. inl same) (λ one. inr (request.delete_checkpoint name, given, one)) h.files.points
+doing_points asking (request.save_checkpoint name config) s left given h =
+    ⊎_elim (λ same. inl same) (λ one. inr (request.save_checkpoint name config, given, one)) h.files.points
+doing_points asking other s left given never = absurd never
+
+other_points : (asking : Asking Request) (s : State) (left : Left) → IsSettled s → LeftOf asking s left
+    → (points left.files ≡ points s.files) ⊎ ((q : Request) × asking.Gives (Ok q) × IsOneChange q (points s.files) (points left.files))
+other_points asking s left clean (inl h) = inl (ap points (settled_files s h.0 left clean h.1))
+other_points asking s left clean (inr (r, given, h)) = doing_points asking r s left given h
+
+-- what the command that words are leaves
+form_stands : (f : Option Form) (s : State) (left : Left) → IsSettled s → LeftByForm f s left → StandsAfter f s left
+form_stands (Some (forms.change from budget)) s left clean h = change_stands from budget s left clean h
+form_stands other s left clean h = other_stands (form_asked other s) s left clean h
+
+form_points : (f : Option Form) (s : State) (left : Left) → IsSettled s → LeftByForm f s left
+    → (points left.files ≡ points s.files) ⊎ ((q : Request) × (form_asked f s).Gives (Ok q) × IsOneChange q (points s.files) (points left.files))
+form_points (Some (forms.change from budget)) s left clean h = inl (change_points (change_asked from budget s) s left clean h)
+form_points other s left clean h = other_points (form_asked other s) s left clean h
+
+-- ---- all of it
+
+module _ {H : Type 0} (moment : H → ℕ) (left_since : H → ℕ → Left → Type 0) where
+  headline_of : (words : List (List ℕ)) (s : State) (after : Option State) (old new : H) (before later : Counts) (result : Outcome)
+      → Answers words (Some s) after before later result → LeavesOnly moment left_since old new (LeftMeanwhile words (Some s))
+      → IsHeadline words s after result (left_since new (moment old))
+  headline_of words s after old new before later result answers crash = record {
+    printed = λ from is. plans_print (form words) from s after before later result is answers;
+    no_order = no_order_is words s after before later result answers;
+    crash = λ clean left since.
+        record {
+          stands = form_stands (form words) s left clean (crash.each left since);
+          points_are = form_points (form words) s left clean (crash.each left since);
+        };
+    finished = λ from budget is done.
+        finishes from budget s after before later
+        (subst (λ (e : Outcome). Leaves (change_asked from budget s) s after before later e) done
+        (subst (λ (f : Option Form). Leaves (form_asked f s) s after before later result) is answers));
+  }
+
+  -- of a host that may not tell its state
+  pub headline : (words : List (List ℕ)) (o after : Option State) (old new : H) (before later : Counts) (result : Outcome)
+      → Answers words o after before later result → LeavesOnly moment left_since old new (LeftMeanwhile words o)
+      → IfSome o (λ s. IsHeadline words s after result (left_since new (moment old)))
+  headline words None after old new before later result answers crash = tt
+  headline words (Some s) after old new before later result answers crash = headline_of words s after old new before later result answers crash

@@ -1,0 +1,186 @@
+-- A change that is made ready once all is settled, or the reason why there is none.
+use Rattle.std.proofs.Common.{◌≡◌, ◌≤◌, inl, inr, ℕ, List, refl, sym, ap, ◌∙◌, subst, arith, Option, Some, None, Result, Ok, Err, IfErr, IfOk, IfSome, option_map}
+use Rattle.host_core.specs.Counts.{Counts, NoneFell, PrintMayRise}
+use Rattle.host_core.specs.Crashes.{Elapses, Left, LeavesOnly, MayLeave, MayLeaveNow}
+use Rattle.host_core.specs.State.{State, printed, settled, with_pending}
+use Rattle.host_core.proofs.Runs as runs
+use Rattle.conf_store.specs.Changes.{IsSettled}
+use Rattle.conf_store.specs.Folds.{StandsFor}
+use Rattle.move_core.specs.declared.moves.Move.{Move}
+use Rattle.gcu_engine.specs.Answers.{HasCause}
+use Rattle.gcu_engine.specs.Asking.{Asking}
+use Rattle.gcu_engine.specs.ChangeAsked.{settled_asked}
+use Rattle.gcu_engine.specs.Commands.{AnswersTo, IsReady}
+use Rattle.gcu_engine.specs.Doing.{IsKept, IsMissed, IsPrepared, IsReadyIn, LeftDoing, LeftToChange, change_by}
+use Rattle.gcu_engine.specs.Lines.{last_line}
+use Rattle.gcu_engine.specs.PlanAsked.{planning_asked}
+use Rattle.gcu_engine.specs.PlanCommands.{IsSolved, RefusesOrEnds, planning_of}
+use Rattle.gcu_engine.specs.Plannings.{IsPlanFor}
+use Rattle.gcu_engine.specs.Preparing.{Finds, Refuses}
+use Rattle.gcu_engine.specs.Printing.{IsSaid, LeftInLine}
+use Rattle.gcu_engine.specs.Request.{Planning, Request}
+use Rattle.gcu_engine.specs.declared.change.ReadyChange.{ReadyChange}
+use Rattle.gcu_engine.specs.declared.outcomes.Outcome.{Outcome}
+use Rattle.gcu_engine.specs.declared.outcomes.Outcome.TheVariants.{Memory, InputFault, DiskFault, PrintFault, ServiceFault, Unorderable, Budget}
+use Rattle.gcu_engine.specs.declared.planning.Planning as code
+use Rattle.plan_options.specs.Targets.{Target}
+use Rattle.gcu_engine.proofs.Causes.{rose_from}
+use Rattle.gcu_engine.proofs.Changes.{KeepsPoints, change_for, doing_left, early_left, missed_before, missed_says, part_left, ready_before, refused_missed, settled_early, solved_missed}
+use Rattle.gcu_engine.proofs.Elapsing.{elapses_both}
+use Rattle.gcu_engine.proofs.Writing.{ready_printed}
+
+-- ---- while a line is printed
+
+module _ (asking : State → Asking Request) where
+  -- what a crash leaves meanwhile
+  line_left : (o told : Option State) (left : Left) → IsKept o told → LeftInLine told left → LeftToChange asking o left
+  line_left None told left kept h = tt
+  line_left (Some s) told left (inl same) h =
+      inl (h.1.0, h.1.1, inl (h.0, sym h.1.2), subst (λ t. MayLeaveNow (option_map (printed h.1.0) t) left) same h.1.3)
+  line_left (Some s) told left (inr is) h =
+      inl (h.1.0, h.1.1, inl (h.0, sym h.1.2), part_left s h.1.0 left (subst (λ t. MayLeaveNow (option_map (printed h.1.0) t) left) is h.1.3))
+
+  module _ {H : Type 0} (moment : H → ℕ) (left_since : H → ℕ → Left → Type 0) where
+    pub line_leaves : (o told : Option State) (old mid new : H) → IsKept o told → LeavesOnly moment left_since old mid (LeftToChange asking o)
+        → Elapses moment left_since mid new (LeftInLine told) → LeavesOnly moment left_since old new (LeftToChange asking o)
+    line_leaves o told old mid new kept so_far time =
+        runs.goes_on moment left_since old mid new (LeftToChange asking o) (LeftInLine told) so_far time (λ left h. line_left o told left kept h)
+
+    -- nothing is left yet but what was there
+    pub begins_early : (o : Option State) (old : H) → ((left : Left) → left_since old (moment old) left → MayLeaveNow o left)
+        → LeavesOnly moment left_since old old (LeftToChange asking o)
+    begins_early o old now =
+        runs.begins moment left_since old (LeftToChange asking o) (λ left since. early_left asking o left (now left since))
+
+-- ---- with nothing pending
+
+module _ (from : Target) (budget : ℕ) where
+  abbrev needs : State → Asking Planning
+  needs s = planning_asked from budget s
+
+  -- something is refused
+  pub planning_missed : (o : Option State) (e : Outcome) (c d : Counts) → Refuses c d e → Finds {X = code.Planning} o planning_of (Err e) needs
+      → IfSome o (λ s. IsPrepared (needs s) s (Err e))
+  planning_missed None e c d h f = tt
+  planning_missed (Some s) e c d h f = refused_missed (needs s) e c d h f.gives f.stands
+
+  -- no plan is found
+  pub plan_missed : (o : Option State) (p : code.Planning) (e : Outcome) → Finds o planning_of (Ok p) needs → IsSolved p (Err e)
+      → IfSome o (λ s. IsPrepared (needs s) s (Err e))
+  plan_missed None p e f h = tt
+  plan_missed (Some s) p e f h = solved_missed (needs s) p e f.gives h
+
+  made_of : (s : State) (p : code.Planning) (ms : List Move) (r : Result ReadyChange Outcome) → (needs s).Gives (Ok (planning_of p)) → IsPlanFor (planning_of p) ms
+      → StandsFor p.stored s.files → IfOk r (λ ready. ready.ready ≡ change_by p.ctx.settings p.stored ms) → IfErr r (λ e. e ≡ Memory) → IsPrepared (needs s) s r
+  made_of s p ms (Ok ready) given plan stands is none = change_for (needs s) s p ms ready given plan stands is
+  made_of s p ms (Err e) given plan stands is none = subst (IsMissed (needs s)) (sym none) (tt, tt)
+
+  -- it is made ready, unless memory is wanting
+  pub made_ready : (o : Option State) (p : code.Planning) (ms : List Move) (r : Result ReadyChange Outcome) → Finds o planning_of (Ok p) needs → IsPlanFor (planning_of p) ms
+      → IfSome o (λ s. StandsFor p.stored s.files) → IfOk r (λ ready. ready.ready ≡ change_by p.ctx.settings p.stored ms) → IfErr r (λ e. e ≡ Memory)
+      → IfSome o (λ s. IsPrepared (needs s) s r)
+  made_ready None p ms r f plan stands is none = tt
+  made_ready (Some s) p ms r f plan stands is none = made_of s p ms r f.gives plan stands is none
+
+  -- ---- once all is settled
+
+  pub ready_of : (r : Result ReadyChange Outcome) (o mid : Option State) → mid ≡ option_map (with_pending settled) o → IfSome mid (λ s. IsPrepared (needs s) s r)
+      → IfOk r (λ ready. IfSome o (λ s. IsReadyIn (needs s) s ready))
+  ready_of (Ok ready) None mid is h = tt
+  ready_of (Ok ready) (Some s) mid is h = ready_before from budget s ready (subst (λ m. IfSome m (λ s. IsPrepared (needs s) s (Ok ready))) is h)
+  ready_of (Err e) o mid is h = tt
+
+  pub left_of : (r : Result ReadyChange Outcome) (o mid new : Option State) (c d : Counts) → mid ≡ option_map (with_pending settled) o → new ≡ mid
+      → IfSome mid (λ s. IsPrepared (needs s) s r) → IfErr r (RefusesOrEnds c d) → IfErr r (IsReady (settled_asked from budget) o new)
+  left_of (Ok ready) o mid new c d is same h ends = tt
+  left_of (Err e) None mid new c d is same h ends = same ∙ is
+  left_of (Err e) (Some s) mid new c d is same h ends =
+      let missed = missed_before from budget s e (subst (λ m. IfSome m (λ s. IsPrepared (needs s) s (Err e))) is h) in
+      (with_pending settled s, same ∙ is, missed_says from budget s e c d ends missed, refl)
+
+  -- nothing could be settled
+  pub unsettled_left : (o new : Option State) → new ≡ o → IsReady (settled_asked from budget) o new (DiskFault 0)
+  unsettled_left None new same = same
+  unsettled_left (Some s) new same = (s, same, (inl (inr refl), inl (refl, inl refl), refl), refl)
+
+  -- want of memory in its place
+  kept_memory : (o told : Option State) → IsKept o told → IsReady (settled_asked from budget) o told Memory
+  kept_memory None told (inl same) = same
+  kept_memory None told (inr is) = is
+  kept_memory (Some s) told (inl same) = (s, same, (inl refl, refl), refl)
+  kept_memory (Some s) told (inr is) = (with_pending settled s, is, (inr (inl (inl refl), refl), refl), refl)
+
+  -- why there is no plan is said
+  pub said_ready : (o told after : Option State) (old mid new : Counts) (e result : Outcome) → IsReady (settled_asked from budget) o told e → IsKept o told
+      → IsSaid e (last_line e) told after mid new result → PrintMayRise mid new → HasCause old mid e → AnswersTo (settled_asked from budget) o after old new result
+  said_ready o told after old mid new e result ready kept (inl said) rises cause = ready_printed (settled_asked from budget) o told after old mid new e result ready said rises cause
+  said_ready o told after old mid new e result ready kept (inr said) rises cause =
+      ready_printed (settled_asked from budget) o told after old mid new Memory result (kept_memory o told kept) said rises tt
+
+  module _ {H : Type 0} (moment : H → ℕ) (left_since : H → ℕ → Left → Type 0) where
+    -- nothing is settled
+    pub unsettled_leaves : (o told : Option State) (old new : H) → told ≡ o → ((left : Left) → left_since old (moment old) left → MayLeaveNow o left)
+        → Elapses moment left_since old new (MayLeaveNow told) → LeavesOnly moment left_since old new (LeftToChange (settled_asked from budget) o)
+    unsettled_leaves o told old new same now time =
+        runs.goes_on moment left_since old old new (LeftToChange (settled_asked from budget) o) (MayLeaveNow told) (begins_early (settled_asked from budget) moment left_since o old now) time
+        (λ left may. early_left (settled_asked from budget) o left (subst (λ t. MayLeaveNow t left) same may))
+
+    -- all is settled, and then read
+    pub settled_leaves : (o told : Option State) (old mid new : H) → told ≡ option_map (with_pending settled) o
+        → ((left : Left) → left_since old (moment old) left → MayLeaveNow o left)
+        → Elapses moment left_since old mid (MayLeaveNow told) → Elapses moment left_since mid new (MayLeaveNow told)
+        → LeavesOnly moment left_since old new (LeftToChange (settled_asked from budget) o)
+    settled_leaves o told old mid new is now first second =
+        runs.goes_on moment left_since old old new (LeftToChange (settled_asked from budget) o) (MayLeaveNow told) (begins_early (settled_asked from budget) moment left_since o old now)
+        (elapses_both moment left_since old mid new (MayLeaveNow told) first second)
+        (λ left may. settled_early (settled_asked from budget) o told is left may)
+
+    -- the change is done
+    pub change_leaves : KeepsPoints → (o told : Option State) (ready : ReadyChange) (old mid new : H) → IfSome o (λ s. IsReadyIn (needs s) s ready) → told ≡ option_map (with_pending settled) o
+        → LeavesOnly moment left_since old mid (LeftToChange (settled_asked from budget) o) → IfSome told (λ s. LeavesOnly moment left_since mid new (LeftDoing ready.ready s))
+        → moment mid ≤ moment new → LeavesOnly moment left_since old new (LeftToChange (settled_asked from budget) o)
+    change_leaves law None told ready old mid new in_it is so_far does later =
+        record { later = omega (arith, so_far.later, later); each = λ left since. tt; before = λ t left le since. inr tt }
+    change_leaves law (Some s) told ready old mid new in_it is so_far does later =
+        runs.joins moment left_since old mid new (LeftToChange (settled_asked from budget) (Some s)) so_far
+        (runs.weaker moment left_since mid new (LeftDoing ready.ready (with_pending settled s)) (LeftToChange (settled_asked from budget) (Some s))
+        (λ left h. doing_left from budget law (Some s) (Some (with_pending settled s)) ready in_it refl left h)
+        (subst (λ t. IfSome t (λ s. LeavesOnly moment left_since mid new (LeftDoing ready.ready s))) is does))
+
+-- ---- what doing it needs
+
+pub settled_now : (o told : Option State) → told ≡ option_map (with_pending settled) o → IfSome told IsSettled
+settled_now None told is = subst (λ t. IfSome t IsSettled) (sym is) tt
+settled_now (Some s) told is = subst (λ t. IfSome t IsSettled) (sym is) refl
+
+pub stands_now : (from : Target) (budget : ℕ) (o told : Option State) (ready : ReadyChange) → IfSome o (λ s. IsReadyIn (planning_asked from budget s) s ready)
+    → told ≡ option_map (with_pending settled) o → IfSome told (λ s. StandsFor ready.ready.stored s.files)
+stands_now from budget None told ready in_it is = subst (λ t. IfSome t (λ s. StandsFor ready.ready.stored s.files)) (sym is) tt
+stands_now from budget (Some s) told ready in_it is = subst (λ t. IfSome t (λ s. StandsFor ready.ready.stored s.files)) (sym is) in_it.2.stands
+
+-- ---- of each result
+
+pub of_ok : {X : Type 0} (r : Result X Outcome) (P : Type 0) → P → IfOk r (λ x. P)
+of_ok (Ok x) P h = h
+of_ok (Err e) P h = tt
+
+pub of_err : {X : Type 0} (r : Result X Outcome) (P : Type 0) → P → IfErr r (λ e. P)
+of_err (Ok x) P h = tt
+of_err (Err e) P h = h
+
+-- the cause of a refusal is one since before
+ends_one : (old mid new : Counts) (e : Outcome) → NoneFell old mid → RefusesOrEnds mid new e → RefusesOrEnds old new e
+ends_one old mid new Unorderable fell h = tt
+ends_one old mid new (Budget n) fell h = tt
+ends_one old mid new InputFault fell h = rose_from old.input mid.input new.input fell.input h
+ends_one old mid new (DiskFault step) fell h = (h.0, rose_from old.disk mid.disk new.disk fell.disk h.1)
+ends_one old mid new other fell h = h
+
+pub ends_before : {X : Type 0} (old mid new : Counts) (r : Result X Outcome) → NoneFell old mid → IfErr r (RefusesOrEnds mid new) → IfErr r (RefusesOrEnds old new)
+ends_before old mid new (Ok x) fell h = tt
+ends_before old mid new (Err e) fell h = ends_one old mid new e fell h
+
+-- want of memory is one
+pub memory_ends : {X : Type 0} (old new : Counts) (r : Result X Outcome) → IfErr r (λ e. e ≡ Memory) → IfErr r (RefusesOrEnds old new)
+memory_ends old new (Ok x) h = tt
+memory_ends old new (Err e) h = subst (RefusesOrEnds old new) (sym h) tt

@@ -1,0 +1,129 @@
+-- What the parts of a command that does a plan give and leave.
+use Rattle.std.specs.Prelude.{◌≡◌, ◌⊎◌, ℕ, List, ◌++◌, length, map, Option, Some, None, Result, Ok, Err, option_map, ⊤}
+use Rattle.host_core.specs.Counts.{Counts, Rose}
+use Rattle.host_core.specs.Crashes.{Left, MayLeaveInPrint}
+use Rattle.host_core.specs.State.{State, printed, settled, with_pending, PrintsPart}
+use Rattle.conf_store.specs.declared.loaded.Stored.{Stored}
+use Rattle.move_core.specs.Operations.{plan_text}
+use Rattle.move_core.specs.Services.{services_of}
+use Rattle.move_core.specs.declared.moves.Move.{Move}
+use Rattle.move_core.specs.declared.settings.Settings.{Settings}
+use Rattle.change_apply.specs.Change.{Change, change_of, restarts_at, steps}
+use Rattle.change_apply.specs.Ends.{Finishes, IsStoppedBy, IsStoppedInRestarts}
+use Rattle.change_apply.specs.declared.errors.ApplyFault.TheVariants.{Disk, Print}
+use Rattle.gcu_engine.specs.Answers.{HasCause}
+use Rattle.gcu_engine.specs.Asking.{Asking}
+use Rattle.gcu_engine.specs.Changing.{IsChangeFor, LeftChanged, LeftOfChange}
+use Rattle.gcu_engine.specs.FaultLines.{AreFaultLines, AreNamed}
+use Rattle.gcu_engine.specs.Lines.{last_line, service_line}
+use Rattle.gcu_engine.specs.Plannings.{HasNone}
+use Rattle.gcu_engine.specs.Preparing.{FailsIn, StandsIn, refusal}
+use Rattle.gcu_engine.specs.Request.{Planning, Request}
+use Rattle.gcu_engine.specs.declared.change.ReadyChange.{ReadyChange}
+use Rattle.gcu_engine.specs.declared.outcomes.Outcome.{Outcome}
+use Rattle.gcu_engine.specs.declared.outcomes.Outcome.TheVariants.{Done, DiskFault, PrintFault, ServiceFault, Unorderable, Budget}
+
+-- ---- what is ready
+
+-- the change of a plan on what was loaded, with the services of each move
+abbrev pub change_by : Settings → Stored → List Move → Change
+change_by settings what ms = change_of what ms (map (services_of settings) ms) settings
+
+-- the bytes are those of the change
+pub record HasBytes (ready : ReadyChange) : Type 0 where
+  pub text : ready.text.items ≡ plan_text ready.ready.moves
+  pub steps_are : ready.steps ≡ steps ready.ready
+  pub long : length ready.ready.restarts ≡ steps ready.ready
+  pub lines_are : AreFaultLines ready.ready.restarts ready.lines
+  pub settings : Settings
+  pub named : (k : ℕ) → AreNamed settings (restarts_at ready.ready k)
+
+-- it is the change for what is to be planned of that state
+abbrev pub IsReadyIn : Asking Planning → State → ReadyChange → Type 0
+IsReadyIn asking s ready = (p : Planning) × asking.Gives (Ok p) × IsChangeFor p s ready.ready
+
+-- nothing is changed, or what was pending is settled
+abbrev pub IsKept : Option State → Option State → Type 0
+IsKept before now = (now ≡ before) ⊎ (now ≡ option_map (with_pending settled) before)
+
+-- why there is no plan: something is refused, or none is found
+abbrev pub IsMissed : Asking Planning → Outcome → Type 0
+IsMissed asking Unorderable = (p : Planning) × asking.Gives (Ok p) × HasNone p Unorderable
+IsMissed asking (Budget n) = (p : Planning) × asking.Gives (Ok p) × HasNone p (Budget n)
+IsMissed asking e = FailsIn (refusal e) asking × StandsIn asking e
+
+-- a change that is ready, or why there is none
+abbrev pub IsPrepared : Asking Planning → State → Result ReadyChange Outcome → Type 0
+IsPrepared asking s (Ok ready) = IsReadyIn asking s ready
+IsPrepared asking s (Err e) = IsMissed asking e
+
+-- ---- what is answered
+
+-- the answer and all of the line, or a print fault behind so many acknowledgements and a front of it
+abbrev pub IsEnded : Outcome → List ℕ → ℕ
+    → Option State → Option State → Counts → Counts → Outcome → Type 0
+IsEnded answer text step before after old new result =
+    ((result ≡ answer) × (after ≡ option_map (printed text) before))
+    ⊎ ((result ≡ PrintFault step) × PrintsPart text before after × Rose old.print new.print)
+
+-- that text is the last line of the answer, in the state that the change then left
+abbrev pub IsLast : Change → State → State → Outcome → List ℕ → Type 0
+IsLast c began now Done text =
+    Finishes c (Some began) (Some now) × (text ≡ last_line Done)
+IsLast c began now (DiskFault step) text =
+    IsStoppedBy c (Disk step) began now × (text ≡ last_line (DiskFault step))
+IsLast c began now (ServiceFault step service) text =
+    (h : IsStoppedInRestarts c step service began now)
+    × (text ≡ service_line step service h.refused.name)
+IsLast c began now other text = ⊥
+
+-- how many steps are acknowledged before that answer
+abbrev pub acknowledged : Change → Outcome → ℕ
+acknowledged c (DiskFault step) = step
+acknowledged c (ServiceFault step service) = step
+acknowledged c other = steps c
+
+-- the change was done or stopped, and the last line printed
+abbrev pub IsTold : Change → State → Option State → Outcome → Type 0
+IsTold c began after result =
+    (now : State) × (text : List ℕ) × IsLast c began now result text
+    × (after ≡ Some (printed text now))
+
+-- a front of the last line is printed
+abbrev pub IsCutInLast : Change → State → Option State → Counts → Counts → Outcome → Type 0
+IsCutInLast c began after old new result =
+    (now : State) × (answer : Outcome) × (part : List ℕ) × (rest : List ℕ)
+    × IsLast c began now answer (part ++ rest) × HasCause old new answer
+    × (result ≡ PrintFault (acknowledged c answer)) × (after ≡ Some (printed part now))
+
+-- a front of an acknowledgement is printed
+abbrev pub IsCutInStep : Change → State → Option State → Outcome → Type 0
+IsCutInStep c began after result =
+    (now : State) × (step : ℕ) × IsStoppedBy c (Print step) began now
+    × (result ≡ PrintFault step) × (after ≡ Some now)
+
+-- once the text of the plan is printed
+abbrev pub EndsWork : Change → Option State → Option State → Counts → Counts → Outcome → Type 0
+EndsWork c None after old new result = after ≡ None
+EndsWork c (Some began) after old new result =
+    IsTold c began after result
+    ⊎ (IsCutInLast c began after old new result ⊎ IsCutInStep c began after result)
+
+-- a front of the text of the plan is printed, or all of it
+abbrev pub EndsChange : Change → Option State → Option State → Counts → Counts → Outcome → Type 0
+EndsChange c before after old new result =
+    ((result ≡ PrintFault 0) × PrintsPart (plan_text c.moves) before after)
+    ⊎ EndsWork c (option_map (printed (plan_text c.moves)) before) after old new result
+
+-- ---- what a crash leaves
+
+-- what a change that is ready leaves from the text of its plan on
+abbrev pub LeftDoing : Change → State → Left → Type 0
+LeftDoing c s left =
+    MayLeaveInPrint (plan_text c.moves) (Some s) left
+    ⊎ LeftChanged c (printed (plan_text c.moves) s) left
+
+-- the same of a question, of a host that may not tell its state
+abbrev pub LeftToChange : (State → Asking Request) → Option State → Left → Type 0
+LeftToChange asking None left = ⊤
+LeftToChange asking (Some before) left = LeftOfChange (asking before) before left

@@ -1,0 +1,144 @@
+-- What the program promises, for all words, inputs and files: whatever models, folder and patch are given, each
+-- configuration of a printed plan satisfies every model and move rule and the last is what the target makes of
+-- the stored one; Unorderable comes only where no sequence of allowed moves arrives; after a crash at any
+-- moment the stored configuration is the plan's last acknowledged or the next, and checkpoints are whole; a
+-- finished change, and so a finished rollback, stores exactly its target.
+use Rattle.std.specs.Prelude.{◌≡◌, ◌≢◌, ◌⊎◌, ℕ, suc, List, [], ◌++◌, length, slice_get, Option, Some, None, Ok}
+use Rattle.host_core.specs.Crashes.{Left}
+use Rattle.host_core.specs.State.{Files, State}
+use Rattle.conf_doc.specs.declared.configuration.Config.{Config}
+use Rattle.conf_store.specs.Changes.{IsSettled}
+use Rattle.conf_store.specs.Stored.{stored}
+use Rattle.checkpoints.specs.Changes.{with_point, without_point}
+use Rattle.checkpoints.specs.Points.{Points, points}
+use Rattle.move_core.specs.Contexts.{IsValidIn, rulebook}
+use Rattle.move_core.specs.Operations.{plan_text}
+use Rattle.move_core.specs.Plans.{IsAllowed, IsReachable, conf}
+use Rattle.move_core.specs.declared.contexts.Ctx.{Ctx}
+use Rattle.move_core.specs.declared.moves.Move.{Move}
+use Rattle.change_apply.specs.Acknowledgements.{ack, acks}
+use Rattle.plan_options.specs.Targets.{Target}
+use Rattle.gcu_engine.specs.Asked.{asked}
+use Rattle.gcu_engine.specs.Changing.{IsLastLine}
+use Rattle.gcu_engine.specs.Form.{Form, form, plan, change}
+use Rattle.gcu_engine.specs.PlanAsked.{made_asked}
+use Rattle.gcu_engine.specs.Request as request
+use Rattle.gcu_engine.specs.Request.{Planning, Request, delete_checkpoint, save_checkpoint}
+use Rattle.gcu_engine.specs.RulesAsked.{ctx_asked}
+use Rattle.gcu_engine.specs.declared.outcomes.Outcome.{Outcome}
+use Rattle.gcu_engine.specs.declared.outcomes.Outcome.TheVariants.{Done, Unorderable}
+
+-- ---- a plan
+
+-- each configuration satisfies every model, each move is allowed where it stands, and the last configuration
+-- is what the target makes of the stored one: of a patch the result by RFC 6902
+pub record IsRightPlan (from : Target) (s : State) (ms : List Move) : Type 0 where
+  pub ctx : Ctx
+  pub read : (ctx_asked s).Gives (Ok ctx)
+  pub start : Config
+  pub stands : stored s.files ≡ Ok start
+  pub goal : Config
+  pub made : (made_asked from start s).Gives (Ok goal)
+  pub valid : (i : ℕ) → IsValidIn ctx (conf start ms i)
+  pub allowed : (i : ℕ) (m : Move) → slice_get ms i ≡ Some m
+      → IsAllowed (rulebook ctx) goal (conf start ms i) m
+  pub last : conf start ms (length ms) ≡ goal
+
+-- the text of such a plan and what follows it, or the last line of an answer
+abbrev pub IsPlanOutput : Target → State → List ℕ → Type 0
+IsPlanOutput from s text =
+    IsLastLine text
+    ⊎ ((ms : List Move) × (more : List ℕ) × IsRightPlan from s ms × (text ≡ plan_text ms ++ more))
+
+-- a front of such an output was printed
+abbrev pub PrintsPlan : Target → State → Option State → Type 0
+PrintsPlan from s after =
+    (t : State) × (added : List ℕ) × (rest : List ℕ) × (after ≡ Some t)
+    × (t.output ≡ s.output ++ added) × IsPlanOutput from s (added ++ rest)
+
+-- the target of a command that plans
+abbrev pub target_in : Option Form → Option Target
+target_in (Some (plan from budget)) = Some from
+target_in (Some (change from budget)) = Some from
+target_in other = None
+
+-- what is planned, only to be printed or to be done
+abbrev pub IsPlanned : List (List ℕ) → State → Planning → Type 0
+IsPlanned words s p =
+    (asked words s).Gives (Ok (request.plan p)) ⊎ (asked words s).Gives (Ok (request.change p))
+
+-- no sequence of allowed moves leads from the start to the goal
+abbrev pub HasNoOrder : List (List ℕ) → State → Type 0
+HasNoOrder words s =
+    (p : Planning) × IsPlanned words s p × ¬ IsReachable (rulebook p.ctx) p.goal p.start p.goal
+
+-- ---- a crash
+
+-- nothing is acknowledged, and the folder stands for the same as before
+pub record IsBefore (from : Target) (s : State) (left : Left) : Type 0 where
+  pub part : List ℕ
+  pub rest : List ℕ
+  pub text : IsLastLine (part ++ rest)
+      ⊎ ((ms : List Move) × IsRightPlan from s ms × (part ++ rest ≡ plan_text ms))
+  pub output : left.output ≡ s.output ++ part
+  pub stored_is : stored left.files ≡ stored s.files
+
+-- no whole acknowledgement: less than all of the next one, or a front of the last line
+abbrev pub IsNoneWhole : ℕ → List ℕ → Type 0
+IsNoneWhole k part =
+    ((rest : List ℕ) × (ack (suc k) ≡ part ++ rest) × (rest ≢ []))
+    ⊎ ((rest : List ℕ) × IsLastLine (part ++ rest))
+
+-- so many acknowledgements stand behind the plan, and the folder stands for the last acknowledged
+-- configuration or the next
+pub record IsLastOrNext (from : Target) (s : State) (left : Left) : Type 0 where
+  pub ms : List Move
+  pub right : IsRightPlan from s ms
+  pub done : ℕ
+  pub part : List ℕ
+  pub cut : IsNoneWhole done part
+  pub output : left.output ≡ s.output ++ plan_text ms ++ acks done ++ part
+  pub stands :
+      (stored left.files ≡ Ok (conf right.start ms done))
+      ⊎ (stored left.files ≡ Ok (conf right.start ms (suc done)))
+
+-- what the folder stands for after a crash: a command that does no plan leaves that as before
+abbrev pub StandsAfter : Option Form → State → Left → Type 0
+StandsAfter (Some (change from budget)) s left = IsBefore from s left ⊎ IsLastOrNext from s left
+StandsAfter other s left = stored left.files ≡ stored s.files
+
+-- the one checkpoint that a request adds or removes
+abbrev pub IsOneChange : Request → Points → Points → Type 0
+IsOneChange (save_checkpoint name config) before after = after ≡ with_point name config before
+IsOneChange (delete_checkpoint name) before after = after ≡ without_point name before
+IsOneChange other before after = ⊥
+
+-- the checkpoints are as before, or with the one change that was asked for
+abbrev pub HasWholePoints : List (List ℕ) → State → Files → Type 0
+HasWholePoints words s files =
+    (points files ≡ points s.files)
+    ⊎ ((r : Request) × (asked words s).Gives (Ok r) × IsOneChange r (points s.files) (points files))
+
+-- what a crash leaves
+pub record IsWhole (words : List (List ℕ)) (s : State) (left : Left) : Type 0 where
+  pub stands : StandsAfter (form words) s left
+  pub points_are : HasWholePoints words s left.files
+
+-- ---- all of it
+
+-- the folder stands for exactly what the target makes of the stored configuration
+abbrev pub StoresTarget : Target → State → Option State → Type 0
+StoresTarget from s after =
+    (t : State) × (start : Config) × (goal : Config) × (after ≡ Some t)
+    × (stored s.files ≡ Ok start) × (made_asked from start s).Gives (Ok goal)
+    × (stored t.files ≡ Ok goal)
+
+-- the promise, of a host in that state with nothing pending when the command begins, and of what a crash
+-- leaves since then
+pub record IsHeadline (words : List (List ℕ)) (s : State) (after : Option State) (result : Outcome)
+    (IsLeftSince : Left → Type 0) : Type 0 where
+  pub printed : (from : Target) → target_in (form words) ≡ Some from → PrintsPlan from s after
+  pub no_order : result ≡ Unorderable → HasNoOrder words s
+  pub crash : IsSettled s → (left : Left) → IsLeftSince left → IsWhole words s left
+  pub finished : (from : Target) (budget : ℕ) → form words ≡ Some (change from budget)
+      → result ≡ Done → StoresTarget from s after

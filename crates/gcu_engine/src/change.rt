@@ -1,0 +1,293 @@
+//! `gcu apply-patch PATCH`, `gcu replace FILE` and `gcu rollback NAME`: a plan printed and then done, step by
+//! step.
+ghost use Rattle.std.specs.Prelude.{◌≡◌, ◌≤◌, ◌<◌, IfErr, IfOk, IfSome, map, option_map};
+ghost use Rattle.host_core.specs.Counts.{NoneFell, PrintMayRise};
+ghost use Rattle.host_core.specs.Crashes.{Elapses, LeavesOnly, MayLeaveInPrint, MayLeaveNow};
+ghost use Rattle.host_core.specs.Names.{longest_scoped_name};
+ghost use Rattle.host_core.specs.State.{settled, with_pending};
+ghost use Rattle.conf_store.specs.Changes.{IsSettled};
+ghost use Rattle.conf_store.specs.Folds.{StandsFor};
+ghost use Rattle.move_core.specs.Services.{services_of as services_tied};
+ghost use Rattle.plan_options.specs.Options.{most_budget};
+ghost use Rattle.plan_options.specs.Views.{target_view};
+ghost use Rattle.gcu_engine.specs.Answers.{HasCause};
+ghost use Rattle.gcu_engine.specs.ChangeAsked.{change_asked, settled_asked};
+ghost use Rattle.gcu_engine.specs.Changing.{LeftChanged};
+ghost use Rattle.gcu_engine.specs.Commands.{AnswersTo, CompleteTo, IsReady};
+ghost use Rattle.gcu_engine.specs.Doing.{EndsChange, EndsWork, HasBytes, IsEnded, IsKept, IsPrepared, IsReadyIn, LeftDoing, LeftToChange, change_by};
+ghost use Rattle.gcu_engine.specs.PlanAsked.{planning_asked};
+ghost use Rattle.gcu_engine.specs.PlanCommands.{HasGoodName, IsReadyToSearch, RefusesOrEnds, planning_of};
+ghost use Rattle.gcu_engine.specs.Plannings.{IsPlanFor};
+ghost use Rattle.gcu_engine.specs.declared.outcomes.Outcome.TheVariants.{Memory as no_memory, Usage as usage};
+
+use crate::Outcome;
+use crate::fault_lines::{FaultLines, fault_lines};
+use crate::plan_goal::test_target;
+use crate::planning::{Planning, find_plan, prepare};
+use crate::printing::say;
+use change_apply::{ApplyFault, Ready, prepare as prepare_change, run};
+use checkpoints::points_are_in_other_files;
+use host_core::{Host, Memory, Sequence};
+use move_core::{Boxes, Kit, Plan, Settings, listed_moves_are_defined, plan_text};
+use plan_options::Target;
+use std::alloc::Global;
+use svc_rules::{Services, services_of};
+
+/// A change with every byte that it writes and prints.
+#[derive(Drop)]
+pub(crate) struct ReadyChange {
+    ready: Ready,
+    /// The text of its plan.
+    text: Vec<u8>,
+    /// How many steps it has.
+    steps: usize,
+    lines: FaultLines,
+}
+
+/// Prints a plan for a target and does it, step by step. A name that no checkpoint has is refused before
+/// anything is settled.
+pub(crate) fn change<H: Host>(
+    alloc: Global,
+    target: Target<'_>,
+    budget: u32,
+    kit: &mut Kit,
+    host: &mut H,
+) -> Outcome
+    requires longest { longest_scoped_name ≤ H.longest_name }
+    requires kinds { ⟦<Kit as Boxes>⟧.HasKinds kit.old }
+    requires budget { 0 < budget }
+    requires most { budget ≤ most_budget }
+    ensures kinds { ⟦<Kit as Boxes>⟧.HasKinds kit.new }
+    ensures answers { AnswersTo (change_asked (target_view target.entry) budget)
+        (H.told host.old) (H.told host.new) (H.counts host.old) (H.counts host.new) result }
+    ensures cause { HasCause (H.counts host.old) (H.counts host.new) result }
+    ensures counts { NoneFell (H.counts host.old) (H.counts host.new) }
+    ensures crash { LeavesOnly H.moment H.left_since host.old host.new
+        (LeftToChange (change_asked (target_view target.entry) budget) (H.told host.old)) }
+    ensures goes { H.goes_on host.old host.new }
+    ensures form { result ≡ usage → ⊥ }
+    ensures complete { CompleteTo (change_asked (target_view target.entry) budget)
+        (H.told host.old) (H.counts host.old) (H.counts host.new) result }
+{
+    match test_target(alloc, target) {
+        Ok(()) => change_named(alloc, target, budget, kit, host),
+        Err(outcome) => say(alloc, outcome, host),
+    }
+}
+
+/// The same of a target that isn't refused by its name. Once the plan is printed no memory is asked for.
+fn change_named<H: Host>(
+    alloc: Global,
+    target: Target<'_>,
+    budget: u32,
+    kit: &mut Kit,
+    host: &mut H,
+) -> Outcome
+    requires longest { longest_scoped_name ≤ H.longest_name }
+    requires named { HasGoodName (target_view target.entry) }
+    requires kinds { ⟦<Kit as Boxes>⟧.HasKinds kit.old }
+    requires budget { 0 < budget }
+    requires most { budget ≤ most_budget }
+    ensures kinds { ⟦<Kit as Boxes>⟧.HasKinds kit.new }
+    ensures answers { AnswersTo (settled_asked (target_view target.entry) budget)
+        (H.told host.old) (H.told host.new) (H.counts host.old) (H.counts host.new) result }
+    ensures cause { HasCause (H.counts host.old) (H.counts host.new) result }
+    ensures counts { NoneFell (H.counts host.old) (H.counts host.new) }
+    ensures crash { LeavesOnly H.moment H.left_since host.old host.new
+        (LeftToChange (settled_asked (target_view target.entry) budget) (H.told host.old)) }
+    ensures goes { H.goes_on host.old host.new }
+    ensures form { result ≡ usage → ⊥ }
+    ensures complete { CompleteTo (settled_asked (target_view target.entry) budget)
+        (H.told host.old) (H.counts host.old) (H.counts host.new) result }
+{
+    match make_ready(alloc, target, budget, kit, host) {
+        Ok(ready) => {
+            points_are_in_other_files();
+            do_change(&ready, host)
+        }
+        Err(outcome) => say(alloc, outcome, host),
+    }
+}
+
+/// Settles what is pending, and makes a change ready.
+fn make_ready<H: Host>(
+    alloc: Global,
+    target: Target<'_>,
+    budget: u32,
+    kit: &mut Kit,
+    host: &mut H,
+) -> Result<ReadyChange, Outcome>
+    requires longest { longest_scoped_name ≤ H.longest_name }
+    requires named { HasGoodName (target_view target.entry) }
+    requires kinds { ⟦<Kit as Boxes>⟧.HasKinds kit.old }
+    requires budget { 0 < budget }
+    requires most { budget ≤ most_budget }
+    ensures kinds { ⟦<Kit as Boxes>⟧.HasKinds kit.new }
+    ensures ready { IfOk result (λ ready. IfSome (H.told host.old) (λ s.
+        IsReadyIn (planning_asked (target_view target.entry) budget s) s ready)) }
+    ensures bytes { IfOk result HasBytes }
+    ensures told { IfOk result (λ _.
+        H.told host.new ≡ option_map (with_pending settled) (H.told host.old)) }
+    ensures left { IfErr result (IsReady (settled_asked (target_view target.entry) budget)
+        (H.told host.old) (H.told host.new)) }
+    ensures kept { IfErr result (λ _. IsKept (H.told host.old) (H.told host.new)) }
+    ensures cause { IfErr result (RefusesOrEnds (H.counts host.old) (H.counts host.new)) }
+    ensures counts { NoneFell (H.counts host.old) (H.counts host.new) }
+    ensures crash { LeavesOnly H.moment H.left_since host.old host.new
+        (LeftToChange (settled_asked (target_view target.entry) budget) (H.told host.old)) }
+    ensures goes { H.goes_on host.old host.new }
+{
+    match host.settle() {
+        Ok(()) => plan_settled(alloc, target, budget, kit, host),
+        Err(_) => Err(Outcome::DiskFault { step: 0 }),
+    }
+}
+
+/// Makes a change ready, with nothing pending.
+fn plan_settled<H: Host>(
+    alloc: Global,
+    target: Target<'_>,
+    budget: u32,
+    kit: &mut Kit,
+    host: &mut H,
+) -> Result<ReadyChange, Outcome>
+    requires longest { longest_scoped_name ≤ H.longest_name }
+    requires named { HasGoodName (target_view target.entry) }
+    requires kinds { ⟦<Kit as Boxes>⟧.HasKinds kit.old }
+    requires budget { 0 < budget }
+    requires most { budget ≤ most_budget }
+    ensures kinds { ⟦<Kit as Boxes>⟧.HasKinds kit.new }
+    ensures prepared { IfSome (H.told host.old) (λ s.
+        IsPrepared (planning_asked (target_view target.entry) budget s) s result) }
+    ensures bytes { IfOk result HasBytes }
+    ensures told { H.told host.new ≡ H.told host.old }
+    ensures counts { NoneFell (H.counts host.old) (H.counts host.new) }
+    ensures cause { IfErr result (RefusesOrEnds (H.counts host.old) (H.counts host.new)) }
+    ensures time { Elapses H.moment H.left_since host.old host.new (MayLeaveNow (H.told host.old)) }
+    ensures goes { H.goes_on host.old host.new }
+{
+    let planning = prepare(alloc, target, budget, host)?;
+    let plan = find_plan(alloc, kit, &planning)?;
+    ready_change(alloc, &planning, &plan)
+}
+
+/// Makes the change of a plan ready.
+fn ready_change(alloc: Global, planning: &Planning, plan: &Plan) -> Result<ReadyChange, Outcome>
+    requires ready { IsReadyToSearch planning.now }
+    requires most { planning.now.budget ≤ most_budget }
+    requires found { IsPlanFor (planning_of planning.now) plan.now }
+    ensures change { IfOk result (λ r.
+        r.ready ≡ change_by planning.now.ctx.settings planning.now.stored plan.now) }
+    ensures bytes { IfOk result HasBytes }
+    ensures err { IfErr result (λ e. e ≡ no_memory) }
+{
+    match ready_bytes(alloc, planning, plan) {
+        Ok(ready) => Ok(ready),
+        Err(Memory) => Err(Outcome::Memory),
+    }
+}
+
+/// Makes every byte that the change of a plan writes and prints.
+fn ready_bytes(alloc: Global, planning: &Planning, plan: &Plan) -> Result<ReadyChange, Memory>
+    requires ready { IsReadyToSearch planning.now }
+    requires most { planning.now.budget ≤ most_budget }
+    requires found { IsPlanFor (planning_of planning.now) plan.now }
+    ensures change { IfOk result (λ r.
+        r.ready ≡ change_by planning.now.ctx.settings planning.now.stored plan.now) }
+    ensures bytes { IfOk result HasBytes }
+{
+    listed_moves_are_defined();
+    let settings = &planning.ctx.settings;
+    let services = plan_services(alloc, settings, plan)?;
+    let ready = prepare_change(alloc, &planning.stored, plan, services.items(), settings)?;
+    let lines = fault_lines(alloc, services.items(), settings)?;
+    let text = plan_text(alloc, plan)?;
+    Ok(ReadyChange {
+        ready,
+        text,
+        steps: plan.len(),
+        lines,
+    })
+}
+
+/// The services of each move of a plan.
+fn plan_services(
+    alloc: Global,
+    settings: &Settings,
+    plan: &Plan,
+) -> Result<Sequence<Services>, Memory>
+    ensures { IfOk result (λ all. all ≡ map (services_tied settings.now) plan.now) }
+{
+    let mut all = Sequence::new(alloc);
+    for k in 0..plan.len() {
+        all.push(services_of(alloc, settings, plan.at(k))?)?;
+    }
+    Ok(all)
+}
+
+/// Prints the plan of a change, and does it.
+fn do_change<H: Host>(change: &ReadyChange, host: &mut H) -> Outcome
+    requires longest { longest_scoped_name ≤ H.longest_name }
+    requires clean { IfSome (H.told host.old) IsSettled }
+    requires stands { IfSome (H.told host.old) (λ s. StandsFor change.now.ready.stored s.files) }
+    requires bytes { HasBytes change.now }
+    ensures answers { EndsChange change.now.ready
+        (H.told host.old) (H.told host.new) (H.counts host.old) (H.counts host.new) result }
+    ensures cause { HasCause (H.counts host.old) (H.counts host.new) result }
+    ensures counts { NoneFell (H.counts host.old) (H.counts host.new) }
+    ensures any_moment { IfSome (H.told host.old)
+        (λ s. LeavesOnly H.moment H.left_since host.old host.new (LeftDoing change.now.ready s)) }
+    ensures later { H.moment host.old ≤ H.moment host.new }
+    ensures goes { H.goes_on host.old host.new }
+    ensures form { result ≡ usage → ⊥ }
+{
+    match host.print(&change.text) {
+        Ok(()) => do_steps(change, host),
+        Err(_) => Outcome::PrintFault { step: 0 },
+    }
+}
+
+/// Does a change whose plan is printed.
+fn do_steps<H: Host>(change: &ReadyChange, host: &mut H) -> Outcome
+    requires longest { longest_scoped_name ≤ H.longest_name }
+    requires clean { IfSome (H.told host.old) IsSettled }
+    requires stands { IfSome (H.told host.old) (λ s. StandsFor change.now.ready.stored s.files) }
+    requires bytes { HasBytes change.now }
+    ensures answers { EndsWork change.now.ready
+        (H.told host.old) (H.told host.new) (H.counts host.old) (H.counts host.new) result }
+    ensures cause { HasCause (H.counts host.old) (H.counts host.new) result }
+    ensures counts { NoneFell (H.counts host.old) (H.counts host.new) }
+    ensures any_moment { IfSome (H.told host.old)
+        (λ s. LeavesOnly H.moment H.left_since host.old host.new (LeftChanged change.now.ready s)) }
+    ensures later { H.moment host.old ≤ H.moment host.new }
+    ensures goes { H.goes_on host.old host.new }
+    ensures form { result ≡ usage → ⊥ }
+{
+    match run(host, &change.ready) {
+        Ok(()) => end(Outcome::Done, b"done\n", change.steps, host),
+        Err(ApplyFault::Disk { step }) => {
+            let line = change.lines.disk_line(step);
+            end(Outcome::DiskFault { step }, line, step, host)
+        }
+        Err(ApplyFault::Service { step, service }) => {
+            let line = change.lines.service_line(step, service);
+            end(Outcome::ServiceFault { step, service }, line, step, host)
+        }
+        Err(ApplyFault::Print { step }) => Outcome::PrintFault { step },
+    }
+}
+
+/// Prints the last line of an outcome behind so many acknowledgements.
+fn end<H: Host>(outcome: Outcome, line: &[u8], step: usize, host: &mut H) -> Outcome
+    ensures ended { IsEnded outcome line.now step
+        (H.told host.old) (H.told host.new) (H.counts host.old) (H.counts host.new) result }
+    ensures counts { PrintMayRise (H.counts host.old) (H.counts host.new) }
+    ensures time { Elapses H.moment H.left_since host.old host.new
+        (MayLeaveInPrint line.now (H.told host.old)) }
+    ensures goes { H.goes_on host.old host.new }
+{
+    match host.print(line) {
+        Ok(()) => outcome,
+        Err(_) => Outcome::PrintFault { step },
+    }
+}
