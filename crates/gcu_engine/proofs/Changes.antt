@@ -32,7 +32,7 @@ use Rattle.gcu_engine.specs.declared.change.ReadyChange.{ReadyChange}
 use Rattle.gcu_engine.specs.declared.outcomes.Outcome.{Outcome}
 use Rattle.gcu_engine.specs.declared.outcomes.Outcome.TheVariants.{Done, Memory, Usage, InputFault, DiskFault, PrintFault, ServiceFault, Unorderable, Budget, TargetInvalid}
 use Rattle.gcu_engine.specs.declared.planning.Planning as code
-use Rattle.plan_options.specs.Targets.{Target, patched}
+use Rattle.plan_options.specs.Targets.{Target, patched, replaced, rolled_back}
 use Rattle.gcu_engine.proofs.Answering.{says_prints}
 use Rattle.gcu_engine.proofs.Causes.{rose_from}
 use Rattle.gcu_engine.proofs.FaultTexts.{all_named}
@@ -43,6 +43,8 @@ use Rattle.gcu_engine.proofs.Writing.{as_is}
 
 made_settled : (from : Target) (start : Config) (s : State) → made_asked from start (with_pending settled s) ≡ made_asked from start s
 made_settled (patched path) start s = refl
+made_settled (replaced path) start s = refl
+made_settled (rolled_back name) start s = refl
 
 -- what is pending tells nothing of what a plan needs
 planning_settled : (from : Target) (budget : ℕ) (s : State) → planning_asked from budget (with_pending settled s) ≡ planning_asked from budget s

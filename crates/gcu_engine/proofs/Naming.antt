@@ -80,7 +80,7 @@ module _ (a b : Asking Request) (w : Widens a b) (before now : State) where
   says_wider (ServiceFault step service) output (p, given, halted, is) = (p, w.gives _ given, halted, is)
   says_wider Unorderable output ((r, given, none), same, is) = ((r, w.gives _ given, none), untouched_wider same, is)
   says_wider (Budget n) output ((r, given, none), same, is) = ((r, w.gives _ given, none), untouched_wider same, is)
-  says_wider other output (given, same, is) = (w.gives _ given, untouched_wider same, is)
+  says_wider other output h = (w.gives _ h.0, untouched_wider h.1, h.2)
 
   module _ (old new : Counts) where
     prints_wider : (e : Outcome) (output : List ℕ) → Prints a before now old new e output → Prints b before now old new e output
@@ -100,9 +100,10 @@ left_wider : (word : Target) (budget : ℕ) (o : Option State) (left : Left) →
     → LeftToChange (settled_asked word budget) o left → LeftToChange (change_asked word budget) o left
 left_wider word budget None left named h = tt
 left_wider word budget (Some s) left named (inl (part, rest, inl line, may)) = inl (part, rest, inl line, may)
-left_wider word budget (Some s) left named (inl (part, rest, inr (p, c, given, is), may)) =
-    inl (part, rest, inr (p, c, (widened word budget s named).gives _ given, is), may)
-left_wider word budget (Some s) left named (inr (p, c, given, rest)) = inr (p, c, (widened word budget s named).gives _ given, rest)
+left_wider word budget (Some s) left named (inl (part, rest, inr (p, c, given, fits, is), may)) =
+    inl (part, rest, inr (p, c, (widened word budget s named).gives _ given, fits, is), may)
+left_wider word budget (Some s) left named (inr (p, c, given, fits, left_is, points_are)) =
+    inr (p, c, (widened word budget s named).gives _ given, fits, left_is, points_are)
 
 pub leaves_wider : {H : Type 0} (moment : H → ℕ) (left_since : H → ℕ → Left → Type 0) (word : Target) (budget : ℕ) (o : Option State) (old new : H) → target_answer word ≡ Ok word
     → LeavesOnly moment left_since old new (LeftToChange (settled_asked word budget) o) → LeavesOnly moment left_since old new (LeftToChange (change_asked word budget) o)

@@ -1,7 +1,6 @@
 -- How the search for a plan ends.
-use Rattle.std.specs.Prelude.{◌<◌, List, length, Err}
+use Rattle.std.specs.Prelude.{List, Ok, Err}
 use Rattle.move_core.specs.Contexts.{rulebook}
-use Rattle.move_core.specs.Plans.{IsPlan}
 use Rattle.move_core.specs.declared.moves.Move.{Move}
 use Rattle.plan_search.specs.Searches.{IsSearchAnswer}
 use Rattle.plan_search.specs.declared.errors.SearchError.{SearchError}
@@ -10,9 +9,10 @@ use Rattle.gcu_engine.specs.Request.{Planning, Request, change, plan}
 use Rattle.gcu_engine.specs.declared.outcomes.Outcome.{Outcome}
 use Rattle.gcu_engine.specs.declared.outcomes.Outcome.TheVariants.{Unorderable, Budget}
 
--- each move is allowed where it stands, the last one leads to the goal, and there are fewer than the budget
+-- each move is allowed where it stands, the last one leads to the goal, and there are fewer than the
+-- budget; it is the first way, and fewer configurations than the budget are ahead of goal
 abbrev pub IsPlanFor : Planning → List Move → Type 0
-IsPlanFor p ms = IsPlan (rulebook p.ctx) p.start p.goal ms × (length ms < p.budget)
+IsPlanFor p ms = IsSearchAnswer (rulebook p.ctx) p.start p.goal p.budget (Ok ms)
 
 -- the search gives no plan for that reason
 abbrev pub HasNoPlan : Planning → SearchError → Type 0

@@ -84,7 +84,7 @@ fn change_named<H: Host>(
     host: &mut H,
 ) -> Outcome
     requires longest { longest_scoped_name ≤ H.longest_name }
-    requires named { HasGoodName (target_view target.entry) }
+    requires named { HasGoodName (target_view target) }
     requires kinds { ⟦<Kit as Boxes>⟧.HasKinds kit.old }
     requires budget { 0 < budget }
     requires most { budget ≤ most_budget }
@@ -118,7 +118,7 @@ fn make_ready<H: Host>(
     host: &mut H,
 ) -> Result<ReadyChange, Outcome>
     requires longest { longest_scoped_name ≤ H.longest_name }
-    requires named { HasGoodName (target_view target.entry) }
+    requires named { HasGoodName (target_view target) }
     requires kinds { ⟦<Kit as Boxes>⟧.HasKinds kit.old }
     requires budget { 0 < budget }
     requires most { budget ≤ most_budget }
@@ -152,7 +152,7 @@ fn plan_settled<H: Host>(
     host: &mut H,
 ) -> Result<ReadyChange, Outcome>
     requires longest { longest_scoped_name ≤ H.longest_name }
-    requires named { HasGoodName (target_view target.entry) }
+    requires named { HasGoodName (target_view target) }
     requires kinds { ⟦<Kit as Boxes>⟧.HasKinds kit.old }
     requires budget { 0 < budget }
     requires most { budget ≤ most_budget }
