@@ -1,5 +1,5 @@
 -- The cause of what is answered once a refusal was printed.
-use Rattle.std.proofs.Common.{◌≡◌, ◌≤◌, ◌<◌, inl, inr, ⊎_elim, ℕ, Bool, true, false, List, refl, sym, ap, subst, arith, Option, Result, Ok, Err, IfErr}
+use Rattle.std.proofs.Common.{◌≡◌, ◌≤◌, ◌<◌, inl, inr, ⊎_elim, ℕ, Bool, true, false, List, sym, ap, subst, arith, Option, Result, Ok, Err, IfErr}
 use Rattle.host_core.specs.Counts.{Counts, DiskMayRise, NoneFell, PrintMayRise, Rose, last_count}
 use Rattle.host_core.specs.State.{State}
 use Rattle.gcu_engine.specs.Answers.{HasCause}

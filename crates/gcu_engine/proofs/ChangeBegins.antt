@@ -1,6 +1,6 @@
 -- A change from the text of its plan on.
-use Rattle.std.proofs.Common.{◌≡◌, ◌≤◌, inl, inr, ℕ, List, [], ◌++◌, append-nil, refl, sym, ap, ◌∙◌, subst, Option, Some, None, IfSome, option_map}
-use Rattle.host_core.specs.Counts.{Counts, NoneFell, PrintMayRise}
+use Rattle.std.proofs.Common.{◌≡◌, inl, inr, ℕ, List, [], append-nil, refl, sym, ap, ◌∙◌, subst, Option, Some, None, IfSome, option_map}
+use Rattle.host_core.specs.Counts.{Counts, NoneFell}
 use Rattle.host_core.specs.Crashes.{Elapses, Left, LeavesOnly, MayLeave, MayLeaveInPrint, MayLeaveNow}
 use Rattle.host_core.specs.State.{PrintsPart, State, printed}
 use Rattle.host_core.proofs.Runs as runs

@@ -6,7 +6,7 @@ use Rattle.host_core.specs.Crashes.{Elapses, Left, LeavesOnly, MayLeave, MayLeav
 use Rattle.host_core.specs.State.{State, printed}
 use Rattle.host_core.proofs.Runs as runs
 use Rattle.change_apply.specs.Acknowledgements.{acks}
-use Rattle.change_apply.specs.Change.{Change, steps}
+use Rattle.change_apply.specs.Change.{Change}
 use Rattle.change_apply.specs.Crashes.{IsLeft}
 use Rattle.change_apply.specs.Ends.{Finishes, MayRise, Stops}
 use Rattle.change_apply.specs.declared.errors.ApplyFault.TheVariants.{Disk, Print, Service}

@@ -1,5 +1,5 @@
 -- A command that does a plan: what its parts find makes what it answers, and what a crash leaves of it.
-use Rattle.std.proofs.Common.{◌≡◌, inl, inr, ℕ, List, [], ◌++◌, get_or, map, append-nil, refl, sym, ap, ◌∙◌, subst, Option, Some, None, Result, Ok, Err, IfSome, option_map}
+use Rattle.std.proofs.Common.{◌≡◌, inl, inr, ℕ, List, [], ◌++◌, get_or, map, append-nil, refl, sym, ap, ◌∙◌, subst, Option, Some, None, Ok, Err, IfSome, option_map}
 use Rattle.std.specs.FinMap.{get}
 use Rattle.host_core.specs.Counts.{Counts, NoneFell}
 use Rattle.host_core.specs.Crashes.{Image, Left, MayLeave, MayLeaveNow}

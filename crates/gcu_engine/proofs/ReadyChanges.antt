@@ -1,5 +1,5 @@
 -- What makes the change of a plan ready.
-use Rattle.std.proofs.Common.{◌≡◌, ◌<◌, ◌≤◌, ℕ, suc, ◌+◌, Bool, true, false, List, [], ◌∷◌, length, map, All, refl, sym, ap, ◌∙◌, subst, arith}
+use Rattle.std.proofs.Common.{◌≡◌, ◌<◌, ◌≤◌, ℕ, suc, ◌+◌, Bool, true, false, List, [], ◌∷◌, length, map, All, sym, ap, ◌∙◌, subst, arith}
 use Rattle.std.specs.Prelude.{if◌then◌else◌}
 use Rattle.std.proofs.lemmas.List.{length-map}
 use Rattle.std.proofs.lemmas.List.Elements.{All-cons, All-nil}
@@ -17,8 +17,7 @@ use Rattle.move_core.specs.declared.contexts.Ctx.{Ctx}
 use Rattle.move_core.specs.declared.moves.Move.{Move}
 use Rattle.move_core.specs.declared.settings.ServiceTie.{ServiceTie}
 use Rattle.move_core.specs.declared.settings.Settings.{Settings}
-use Rattle.change_apply.specs.Change.{AreDefined, ArePositions, Change, name_at, restarts_at, restarts_of, steps}
-use Rattle.change_apply.specs.declared.ready.Restart.{Restart}
+use Rattle.change_apply.specs.Change.{AreDefined, ArePositions, Change, restarts_at, restarts_of, steps}
 use Rattle.plan_options.specs.Options.{most_budget}
 use Rattle.gcu_engine.specs.Doing.{HasBytes, change_by}
 use Rattle.gcu_engine.specs.FaultLines.{AreFaultLines, AreNamed}

@@ -1,7 +1,7 @@
 -- A change that is made ready once all is settled, or the reason why there is none.
-use Rattle.std.proofs.Common.{◌≡◌, ◌≤◌, inl, inr, ℕ, List, refl, sym, ap, ◌∙◌, subst, arith, Option, Some, None, Result, Ok, Err, IfErr, IfOk, IfSome, option_map}
+use Rattle.std.proofs.Common.{◌≡◌, ◌≤◌, inl, inr, ℕ, List, refl, sym, ◌∙◌, subst, arith, Option, Some, None, Result, Ok, Err, IfErr, IfOk, IfSome, option_map}
 use Rattle.host_core.specs.Counts.{Counts, NoneFell, PrintMayRise}
-use Rattle.host_core.specs.Crashes.{Elapses, Left, LeavesOnly, MayLeave, MayLeaveNow}
+use Rattle.host_core.specs.Crashes.{Elapses, Left, LeavesOnly, MayLeaveNow}
 use Rattle.host_core.specs.State.{State, printed, settled, with_pending}
 use Rattle.host_core.proofs.Runs as runs
 use Rattle.conf_store.specs.Changes.{IsSettled}
@@ -18,10 +18,10 @@ use Rattle.gcu_engine.specs.PlanCommands.{IsSolved, RefusesOrEnds, planning_of}
 use Rattle.gcu_engine.specs.Plannings.{IsPlanFor}
 use Rattle.gcu_engine.specs.Preparing.{Finds, Refuses}
 use Rattle.gcu_engine.specs.Printing.{IsSaid, LeftInLine}
-use Rattle.gcu_engine.specs.Request.{Planning, Request}
+use Rattle.gcu_engine.specs.Request.{Planning}
 use Rattle.gcu_engine.specs.declared.change.ReadyChange.{ReadyChange}
 use Rattle.gcu_engine.specs.declared.outcomes.Outcome.{Outcome}
-use Rattle.gcu_engine.specs.declared.outcomes.Outcome.TheVariants.{Memory, InputFault, DiskFault, PrintFault, ServiceFault, Unorderable, Budget}
+use Rattle.gcu_engine.specs.declared.outcomes.Outcome.TheVariants.{Memory, InputFault, DiskFault, Unorderable, Budget}
 use Rattle.gcu_engine.specs.declared.planning.Planning as code
 use Rattle.plan_options.specs.Targets.{Target}
 use Rattle.gcu_engine.proofs.Causes.{rose_from}

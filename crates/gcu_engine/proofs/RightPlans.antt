@@ -16,7 +16,7 @@ use Rattle.gcu_engine.specs.PlanAsked.{goal_asked, made_asked, planning_asked, s
 use Rattle.gcu_engine.specs.Plannings.{IsPlanFor}
 use Rattle.gcu_engine.specs.Request.{Planning}
 use Rattle.gcu_engine.specs.RulesAsked.{ctx_asked}
-use Rattle.gcu_engine.specs.StoredAsked.{stored_answer, stored_asked}
+use Rattle.gcu_engine.specs.StoredAsked.{stored_answer}
 use Rattle.gcu_engine.specs.declared.outcomes.Outcome.{Outcome}
 
 -- ---- what is asked

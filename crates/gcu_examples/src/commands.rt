@@ -9,9 +9,9 @@ use move_rules::{CreateOnlyRule, FullRule, NoDependencyRule, NoEmptyRule, Requir
 use serde_json::Value;
 use std::alloc::Global;
 
-pub const CONFIG_FILE: &str = "config_db.json";
+const CONFIG_FILE: &str = "config_db.json";
 
-pub const PATCH_FILE: &str = "p.json";
+const PATCH_FILE: &str = "p.json";
 
 /// A row has the `words` of a command, the stored `config` and the `patch` that is the input `p.json`
 /// where they are there, other `inputs` and other `files` of the folder, each a name with its bytes, and
@@ -34,7 +34,7 @@ impl Table for Commands {
 }
 
 /// Does the command with the boxes of a planner.
-pub fn obey(alloc: Global, words: &[Txt], host: &mut MemHost) -> Result<Outcome, Memory> {
+fn obey(alloc: Global, words: &[Txt], host: &mut MemHost) -> Result<Outcome, Memory> {
     let gens = kit_generators(
         alloc,
         Box::new(alloc, TableGen::new())?,
@@ -61,7 +61,7 @@ pub fn obey(alloc: Global, words: &[Txt], host: &mut MemHost) -> Result<Outcome,
     Ok(run(alloc, words, &mut kit, host))
 }
 
-pub fn words_at(alloc: Global, row: &Value) -> Result<Names, Fail> {
+fn words_at(alloc: Global, row: &Value) -> Result<Names, Fail> {
     let mut words = Sequence::new(alloc);
     for word in items_at(row, "words")? {
         let text = word.as_str().ok_or(Fail::Row)?;
@@ -87,7 +87,7 @@ fn host_at(alloc: Global, row: &Value) -> Result<MemHost, Fail> {
 }
 
 /// Adds the other inputs, or the other files of the folder.
-pub fn push_others(
+fn push_others(
     alloc: Global,
     row: &Value,
     which: &str,
@@ -113,7 +113,7 @@ fn input_at(alloc: Global, row: &Value) -> Result<Vec<u8>, Fail> {
     Ok(bytes)
 }
 
-pub fn faults_at(alloc: Global, row: &Value) -> Result<Faults, Fail> {
+fn faults_at(alloc: Global, row: &Value) -> Result<Faults, Fail> {
     let mut at = Sequence::new(alloc);
     if row.get("fails").is_some() {
         for number in items_at(row, "fails")? {
@@ -135,7 +135,7 @@ fn keeps_config(alloc: Global, row: &Value, host: &MemHost) -> Result<bool, Fail
 }
 
 /// Whether the files that the row names hold what it says.
-pub fn has_files(alloc: Global, row: &Value, host: &MemHost) -> Result<bool, Fail> {
+fn has_files(alloc: Global, row: &Value, host: &MemHost) -> Result<bool, Fail> {
     let Some(after) = row.get("after") else {
         return Ok(true);
     };

@@ -1,14 +1,12 @@
 //! Examples of documents, patches and commands, asked row by row.
 #![tactic(auto)]
 
-mod changes;
 mod commands;
 mod documents;
 mod patches;
 mod pointers;
 mod shapes;
 
-use changes::{Changes, read_inputs};
 use commands::Commands;
 use documents::Documents;
 use example_rows::{Fail, tell};
@@ -21,7 +19,5 @@ fn main(rt: HostRuntime) -> Result<(), Fail> {
     tell(&rt, "shapes.json", &Shapes)?;
     tell(&rt, "pointers.json", &Pointers)?;
     tell(&rt, "patches.json", &Patches)?;
-    tell(&rt, "commands.json", &Commands)?;
-    let inputs = read_inputs(&rt, "inputs.json")?;
-    tell(&rt, "changes.json", &Changes { inputs })
+    tell(&rt, "commands.json", &Commands)
 }

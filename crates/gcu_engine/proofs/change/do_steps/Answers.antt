@@ -1,5 +1,4 @@
 use Rattle.std.proofs.Common.{refl, sym, subst, List, ℕ}
-use Rattle.change_apply.specs.Ends.{HasCause as FaultHasCause, Stops}
 use Rattle.gcu_engine.specs.Lines.{last_line}
 use Rattle.gcu_engine.specs.declared.outcomes.Outcome.TheVariants.{Done, DiskFault, ServiceFault}
 use Rattle.gcu_engine.proofs.ChangeEnds.{IsLastIn, cut_in_step, disk_last, disk_printed, done_last, ends_left, ends_work, service_last, service_printed}

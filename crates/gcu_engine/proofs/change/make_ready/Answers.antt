@@ -1,5 +1,4 @@
-use Rattle.std.proofs.Common.{◌≡◌, inl, inr, option_map, refl, subst, ◌∙◌}
-use Rattle.host_core.specs.Crashes.{Elapses, MayLeaveNow}
+use Rattle.std.proofs.Common.{◌≡◌, inl, inr, option_map, refl, ◌∙◌}
 use Rattle.host_core.specs.State.{settled, with_pending}
 use Rattle.plan_options.specs.Views.{target_view}
 use Rattle.gcu_engine.specs.Doing.{IsKept}
