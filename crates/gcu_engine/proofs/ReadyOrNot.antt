@@ -18,7 +18,7 @@ use Rattle.gcu_engine.specs.PlanCommands.{IsSolved, RefusesOrEnds, planning_of}
 use Rattle.gcu_engine.specs.Plannings.{IsPlanFor}
 use Rattle.gcu_engine.specs.Preparing.{Finds, Refuses}
 use Rattle.gcu_engine.specs.Printing.{IsSaid, LeftInLine}
-use Rattle.gcu_engine.specs.Request.{Planning}
+use Rattle.gcu_engine.specs.Request.{Planning, Request}
 use Rattle.gcu_engine.specs.declared.change.ReadyChange.{ReadyChange}
 use Rattle.gcu_engine.specs.declared.outcomes.Outcome.{Outcome}
 use Rattle.gcu_engine.specs.declared.outcomes.Outcome.TheVariants.{Memory, InputFault, DiskFault, Unorderable, Budget}
