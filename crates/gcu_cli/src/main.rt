@@ -6,8 +6,9 @@ use host_core::Memory;
 use move_core::Kit;
 use move_extend::{DeleteExt, ReferrersExt, RequiredExt, UpperExt};
 use move_gen::{FieldGen, KeyGen, SeedGen, TableGen};
-use move_rules::{CreateOnlyRule, FullRule, NoDependencyRule, NoEmptyRule, RequiredRule};
+use move_rules::{CreateOnlyRule, NoDependencyRule, NoEmptyRule, RequiredRule};
 use real_host::{RealHost, words};
+use recheck::RecheckRule;
 use std::process::ExitCode;
 
 fn main(rt: HostRuntime) -> ExitCode {
@@ -38,7 +39,7 @@ fn obey(rt: HostRuntime) -> Result<Outcome, Memory> {
     )?;
     let rules = kit_rules(
         alloc,
-        Box::new(alloc, FullRule::new())?,
+        Box::new(alloc, RecheckRule::new(alloc))?,
         Box::new(alloc, NoDependencyRule::new())?,
         Box::new(alloc, NoEmptyRule::new())?,
         Box::new(alloc, CreateOnlyRule::new())?,

@@ -1,6 +1,9 @@
+pub mod Among
 pub mod AtKeys
 pub mod ByKind
+pub mod EntryWants
 pub mod Finding
+pub mod GoneKeys
 pub mod Kept
 pub mod KeptKeys
 pub mod Named
@@ -8,4 +11,5 @@ pub mod Names
 pub mod Removals
 pub mod Requireds
 pub mod Slots
+pub mod Texts
 pub mod Wanted

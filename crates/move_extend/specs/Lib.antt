@@ -2,5 +2,6 @@
 pub mod Entries
 pub mod Found
 pub mod KeptKeys
+pub mod Mentions
 pub mod Referrers
 pub mod Requireds

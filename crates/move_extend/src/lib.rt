@@ -6,6 +6,7 @@ mod delete;
 mod entries;
 mod found;
 mod kept_keys;
+mod mentions;
 mod referrers;
 mod required;
 mod required_values;

@@ -1,18 +1,25 @@
 //! The extender of referrers.
-ghost use Rattle.std.specs.Prelude.{◌≡◌, ◌↔◌, [], IfOk, IsTrue, OnOk};
+ghost use Rattle.std.specs.Prelude.{◌≡◌, ◌↔◌, [], map, Some, IfOk, IsTrue, OnOk};
 ghost use Rattle.conf_check.specs.Wants.{want_of};
+ghost use Rattle.conf_doc.specs.Pairs.{find};
 ghost use Rattle.conf_doc.specs.Paths.{IsPath};
 ghost use Rattle.move_core.specs.Appends.{Appends};
 ghost use Rattle.move_core.specs.Contexts.{rulebook};
 ghost use Rattle.move_core.specs.Extensions.{IsReferrer};
 ghost use Rattle.move_core.specs.Moves.{IsDefined};
+ghost use Rattle.key_split.specs.Key.{key_parts};
+ghost use Rattle.move_extend.specs.Entries.{entry_of};
+ghost use Rattle.move_extend.specs.Found.{Finds};
+ghost use Rattle.move_extend.specs.Mentions.{BreaksOnly, GivesOfChange, GivesOfEntry, GivesOfTable, IsRemovalOf, texts_of};
 ghost use Rattle.move_extend.specs.Referrers.{AddsRemoval, GivesRemovals, IsBroken, place_of};
 
+use crate::changes::Change;
 use crate::entries::table_of;
-use crate::found::{add_unless_last, append_moves};
+use crate::found::{add_move, add_unless_last, append_moves};
 use crate::kept_keys::keeps_keys;
-use conf_check::{Want, WantAt, is_satisfied, wants};
-use conf_doc::{Config, Path};
+use crate::mentions::{Gone, mentions_one, parts_of};
+use conf_check::{Want, WantAt, entry_wants, is_satisfied, wants};
+use conf_doc::{Config, Entry, Path, Table};
 use host_core::Memory;
 use move_core::{Ctx, Move, MoveExt, Moves, step};
 use std::alloc::Global;
@@ -112,6 +119,130 @@ fn broken_wants(
     Ok(found)
 }
 
+/// Adds the removal of the place of such a want, unless it is there.
+fn find_removal(
+    alloc: Global,
+    change: &Change<'_>,
+    gone: &str,
+    at: &WantAt,
+    found: &mut Moves,
+) -> Result<(), Memory>
+    requires { IsPath (place_of at.now) }
+    ensures { OnOk result
+        (Finds (IsRemovalOf change.now gone.now at.now) found.old found.new) }
+{
+    if is_broken(change.models, change.next, gone, &at.want) {
+        let path = path_of(alloc, at)?;
+        add_move(found, Move::Remove(path))
+    } else {
+        Ok(())
+    }
+}
+
+/// Adds the removals of the places of such wants of an entry.
+fn find_in_entry(
+    alloc: Global,
+    change: &Change<'_>,
+    gone: &str,
+    table: &str,
+    key: &str,
+    found: &mut Moves,
+) -> Result<(), Memory>
+    ensures { let Gives = GivesOfEntry change.now gone.now table.now key.now in
+        OnOk result (Finds Gives found.old found.new) }
+{
+    let _tables = change.cur.len();
+    for at in entry_wants(change.models, change.cur, table, key) {
+        find_removal(alloc, change, gone, &at, found)?;
+    }
+    Ok(())
+}
+
+/// The same, where the entry has one of the texts that alone can be wanted in vain.
+fn find_in_mentioning(
+    alloc: Global,
+    change: &Change<'_>,
+    gone: &Gone<'_>,
+    table: &str,
+    key: &str,
+    fields: &Entry,
+    found: &mut Moves,
+) -> Result<(), Memory>
+    requires entry { entry_of change.now.cur.now table.now key.now ≡ Some fields.now }
+    requires only { BreaksOnly change.now gone.now.table.now (texts_of gone.now) }
+    ensures { let Gives = GivesOfEntry change.now gone.now.table.now table.now key.now in
+        OnOk result (Finds Gives found.old found.new) }
+{
+    let _tables = change.cur.len();
+    if mentions_one(gone.parts, key, fields) {
+        find_in_entry(alloc, change, gone.table, table, key, found)
+    } else {
+        Ok(())
+    }
+}
+
+/// The same of each entry of a table.
+fn find_in_table(
+    alloc: Global,
+    change: &Change<'_>,
+    gone: &Gone<'_>,
+    table: &str,
+    entries: &Table,
+    found: &mut Moves,
+) -> Result<(), Memory>
+    requires table { find table.now change.now.cur.now ≡ Some entries.now }
+    requires only { BreaksOnly change.now gone.now.table.now (texts_of gone.now) }
+    ensures { let Gives = GivesOfTable change.now gone.now.table.now (table.now, entries.now) in
+        OnOk result (Finds Gives found.old found.new) }
+{
+    for i in 0..entries.len() {
+        let key = entries.name_at(i);
+        let fields = entries.part_at(i);
+        find_in_mentioning(alloc, change, gone, table, key, fields, found)?;
+    }
+    Ok(())
+}
+
+/// The removals of the places of all wants of a configuration that are broken, where the texts are known
+/// that these can have.
+fn find_in_config(alloc: Global, change: &Change<'_>, gone: &Gone<'_>) -> Result<Moves, Memory>
+    requires { BreaksOnly change.now gone.now.table.now (texts_of gone.now) }
+    ensures { IfOk result (Appends (GivesOfChange change.now gone.now.table.now) []) }
+{
+    let cur = change.cur;
+    let mut found = Moves::new(alloc);
+    for i in 0..cur.len() {
+        find_in_table(
+            alloc,
+            change,
+            gone,
+            cur.name_at(i),
+            cur.part_at(i),
+            &mut found,
+        )?;
+    }
+    Ok(found)
+}
+
+/// The removals of the referrers to a key that a move takes away. Only entries are looked at that have a
+/// part of the key among their texts: what all others want is there still.
+fn removals_of_key(
+    alloc: Global,
+    change: &Change<'_>,
+    table: &str,
+    key: &str,
+) -> Result<Moves, Memory>
+    requires { BreaksOnly change.now table.now (key_parts key.now) }
+    ensures { IfOk result (Appends (GivesOfChange change.now table.now) []) }
+{
+    let parts = parts_of(alloc, key)?;
+    let gone = Gone {
+        table,
+        parts: &parts,
+    };
+    find_in_config(alloc, change, &gone)
+}
+
 /// The removals of the referrers to what a move takes away.
 fn removals_of(alloc: Global, ctx: &Ctx, cur: &Config, mv: &Move) -> Result<Moves, Memory>
     requires { IsDefined cur.now mv.now }
@@ -119,8 +250,19 @@ fn removals_of(alloc: Global, ctx: &Ctx, cur: &Config, mv: &Move) -> Result<Move
 {
     let next = step(alloc, cur, mv)?;
     if keeps_keys(cur, &next, mv) {
-        Ok(Moves::new(alloc))
+        return Ok(Moves::new(alloc));
+    }
+    let models = &ctx.models;
+    let table = table_of(mv);
+    let place = mv.place();
+    if place.len() > 1 {
+        let change = Change {
+            models,
+            cur,
+            next: &next,
+        };
+        removals_of_key(alloc, &change, table, place.name_at(1))
     } else {
-        broken_wants(alloc, &ctx.models, cur, &next, table_of(mv))
+        broken_wants(alloc, models, cur, &next, table)
     }
 }

@@ -1,25 +1,26 @@
--- The whole list as one part.
-use Rattle.std.proofs.Common.{◌≡◌, ◌≢◌, ℕ, suc, ◌<◌, List, [], ◌∷◌, get_or, refl, sym, ap, subst, ◌∙◌, add-one, All, zero, arith}
-use Rattle.std.specs.Cmp.{tied_itself}
-use Rattle.std.specs.List.{AllPairs}
-use Rattle.std.specs.Ordering.{ordering_then}
+-- The list of a tier as a part.
+use Rattle.std.proofs.Common.{◌≡◌, ◌≢◌, ℕ, ◌+◌, ◌<◌, List, [], ◌∷◌, get_or, refl, sym, ap, subst, ◌∙◌, All, arith, nat_le, Bool, true, false, IsTrue, ◌⊎◌, inl, inr}
+use Rattle.std.specs.Cmp.{nat_cmp_is}
+use Rattle.std.specs.List.{AllPairs, Contains}
+use Rattle.std.specs.Ordering.{nat_cmp, ordering_then}
 use Rattle.std.specs.declared.cmp.Ordering.{Ordering}
 use Rattle.std.specs.declared.cmp.Ordering.TheVariants.{Less, Equal, Greater}
-use Rattle.std.proofs.lemmas.List.Elements.{All-contains, All-head, All-map, All-nil, All-tail, Contains-get_or}
+use Rattle.std.proofs.lemmas.List.Elements.{All-contains, All-head, All-map, All-tail, All-weaker, Contains-get_or}
+use Rattle.std.proofs.lemmas.Bool.Decides.{nat_tests}
 use Rattle.std.proofs.lemmas.List.Kept.{AllPairs-cons}
 use Rattle.conf_doc.specs.declared.configuration.Config.{Config}
 use Rattle.move_core.specs.Contexts.{rulebook}
-use Rattle.move_core.specs.Listed.{AreListed, IsRanked, moves_of}
+use Rattle.move_core.specs.Listed.{AreListed, IsListed, IsRanked, moves_of}
 use Rattle.move_core.specs.ListedOrder.{listed_cmp, move_cmp, rank_cmp}
 use Rattle.move_core.specs.ListedOrderLaws.{listed_same, listed_total}
 use Rattle.move_core.specs.Rulebook.{Rulebook}
+use Rattle.move_core.specs.declared.contexts.Ctx.{Ctx}
 use Rattle.move_core.specs.declared.moves.Move.{Move}
 use Rattle.move_core.specs.declared.moves.Ranked.{Ranked}
 use Rattle.plan_search.specs.FirstWays.{StandsBefore}
-use Rattle.plan_search.specs.Kits.{move_problem}
-use Rattle.plan_search.specs.Problems.{IsPart}
-use Rattle.plan_search.specs.declared.asking.Question.{Question}
-use Rattle.plan_search.proofs.Firsts.{listed_all, listed_each}
+use Rattle.plan_lists.specs.Tiers.{AreListedIn, EndsEarlier}
+use Rattle.plan_search.specs.Kits.{IsInTiers, move_problem, move_tied}
+use Rattle.plan_search.specs.Problems.{IsPart, PrecedesLater}
 use Rattle.plan_search.proofs.Pairs.{pairs_first, pairs_none, pairs_tail}
 
 -- ---- the order of chains
@@ -33,10 +34,6 @@ less_on r s t a b = by (listed_cmp s t) refl
     by Equal e = subst (λ x. listed_cmp r x ≡ Less) (listed_same s t e) a
     by Greater e = absurd (b e)
 
--- a move ties with itself
-tied : (m : Move) → move_cmp m m ≡ Equal
-tied m = tied_itself listed_total (record { tier = 0; depth = 0; class = 0; mv = m })
-
 -- of chains that end with one move that of lesser rank comes first
 by_rank : (s t : Ranked) → t.mv ≡ s.mv → rank_cmp s t ≢ Greater → listed_cmp s t ≢ Greater
 by_rank s t same least g = by (rank_cmp s t) refl
@@ -46,7 +43,7 @@ by_rank s t same least g = by (rank_cmp s t) refl
         let d : Less ≡ Greater = sym (ap (λ o. ordering_then o (move_cmp s.mv t.mv)) e) ∙ g in absurd cc
     by Equal e =
         let d : Equal ≡ Greater =
-        sym (tied s.mv) ∙ ap (move_cmp s.mv) (sym same)
+        sym (move_tied s.mv) ∙ ap (move_cmp s.mv) (sym same)
         ∙ sym (ap (λ o. ordering_then o (move_cmp s.mv t.mv)) e) ∙ g in
         absurd cc
     by Greater e = least e
@@ -82,23 +79,68 @@ module _ (book : Rulebook) (start goal cur : Config) where
   listed_order ms are =
       subst (AllPairs (StandsBefore book start goal cur)) (sym are.2) (in_order are.0 are.1.each are.1.order)
 
-module _ (q : Question) (start : Config) where
-  -- the whole list is the first part
-  pub whole_part : (ms : List Move) → AreListed (rulebook q.ctx.now) start q.cur.now q.goal.now ms
-      → IsPart (move_problem q.ctx.now start q.goal.now) q.cur.now 0 ms
-  whole_part ms are = record {
-    each = listed_each q start ms are;
-    all = λ m within out. listed_all q start ms are m within;
-    order = listed_order (rulebook q.ctx.now) start q.goal.now q.cur.now ms are;
-    later = λ k d lt n listed out. absurd (out listed);
+-- ---- tiers
+
+-- a tier that is no lesser one but not above the next is the next
+next_tier : (t k : ℕ) → nat_le t (k + 1) ≡ true → nat_le t k ≡ false → t ≡ k + 1
+next_tier t k a b = grind (arith, nat_tests)
+
+lesser_tier : (t k : ℕ) → t < k + 1 → nat_le t k ≡ true
+lesser_tier t k lt = grind (arith, nat_tests)
+
+above_tier : (t k : ℕ) → ¬ IsTrue (nat_le t k) → k < t
+above_tier t k out = grind (arith, nat_tests)
+
+-- the tier decides first
+by_tier : (r s : Ranked) → r.tier < s.tier → listed_cmp r s ≡ Less
+by_tier r s lt =
+    ap (λ o. ordering_then (ordering_then o (ordering_then (nat_cmp r.depth s.depth) (nat_cmp r.class s.class))) (move_cmp r.mv s.mv))
+    (sym (nat_cmp_is r.tier s.tier Less lt))
+
+module _ (ctx : Ctx) (start goal cur : Config) (k : ℕ) (ms : List Move)
+    (are : AreListedIn (rulebook ctx) start cur goal (k + 1) ms) where
+  abbrev IsHere : Ranked → Type 0
+  IsHere r = IsRanked (rulebook ctx) start cur goal r × (r.tier ≡ k + 1)
+
+  within_again : (m : Move) → IsInTiers (rulebook ctx) start goal cur (k + 1) m
+      → ¬ IsInTiers (rulebook ctx) start goal cur k m → Contains ms m
+  within_again m s out = by (nat_le s.0.tier k) refl
+    where
+      of : Contains (moves_of are.0) s.0.mv ⊎ EndsEarlier (rulebook ctx) start cur goal (k + 1) s.0.mv → Contains ms m
+      of (inl h) = subst (λ l. Contains l m) (sym are.2) (subst (Contains (moves_of are.0)) s.2 h)
+      of (inr e) = absurd (out (e.0, e.1, e.2 ∙ s.2, lesser_tier e.0.tier k e.3))
+
+      by : (b : Bool) → nat_le s.0.tier k ≡ b → Contains ms m
+      by true e = absurd (out (s.0, s.1, s.2, e))
+      by false e = of (are.1.all s.0 s.1 (next_tier s.0.tier k s.3 e))
+
+  before_later : (r : Ranked) → IsHere r → PrecedesLater (move_problem ctx start goal) cur (k + 1) r.mv
+  before_later r is n listed out = record {
+    chain = r;
+    ends = is.0.ends;
+    mv = refl;
+    before = λ s ends same.
+        let above = above_tier s.tier (k + 1) (λ le. out (s, ends, same, le)) in
+        let here = is.1 in
+        by_tier r s (omega (arith, above, here));
   }
 
-  -- and nothing is left for another
-  pub no_part : (k : ℕ) → 0 < k → IsPart (move_problem q.ctx.now start q.goal.now) q.cur.now k []
-  no_part zero lt = absurd (omega (arith, lt))
-  no_part (suc k) lt = record {
-    each = All-nil _;
-    all = λ m within out. absurd (out (subst (λ n. (move_problem q.ctx.now start q.goal.now).IsWithin q.cur.now n m) (add-one (suc k)) within));
-    order = pairs_none (StandsBefore (rulebook q.ctx.now) start q.goal.now q.cur.now);
-    later = All-nil _;
+  -- what is listed in a tier is a part of the list
+  pub part_of_tier : IsPart (move_problem ctx start goal) cur k ms
+  part_of_tier = record {
+    each =
+        subst (All (λ m. IsListed (rulebook ctx) cur goal m)) (sym are.2)
+        (All-map (λ m. IsListed (rulebook ctx) cur goal m) (λ r. r.mv) are.0
+        (All-weaker IsHere (λ r. IsListed (rulebook ctx) cur goal r.mv)
+        (λ r is. record { first = is.0.ends.first; depth = r.depth; generated = is.0.ends.generated; leads = is.0.ends.leads })
+        are.0 are.1.each));
+    all = within_again;
+    order =
+        subst (AllPairs (StandsBefore (rulebook ctx) start goal cur)) (sym are.2)
+        (in_order (rulebook ctx) start goal cur are.0
+        (All-weaker IsHere (IsRanked (rulebook ctx) start cur goal) (λ r is. is.0) are.0 are.1.each) are.1.order);
+    later =
+        subst (All (PrecedesLater (move_problem ctx start goal) cur (k + 1))) (sym are.2)
+        (All-map (PrecedesLater (move_problem ctx start goal) cur (k + 1)) (λ r. r.mv) are.0
+        (All-weaker IsHere (λ r. PrecedesLater (move_problem ctx start goal) cur (k + 1) r.mv) before_later are.0 are.1.each));
   }

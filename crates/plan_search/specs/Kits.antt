@@ -1,26 +1,29 @@
 -- The problem of a search whose moves come from a kit.
-use Rattle.std.proofs.Common.{◌≡◌, ◌≢◌, ◌⊎◌, inl, inr, ℕ, zero, suc, Bool, true, false, refl, sym, ap, ◌∙◌, true≢false}
-use Rattle.std.specs.Bool.{Decides}
-use Rattle.std.specs.Ordering.{eq_by_cmp, is_gt, ordering_reverse}
+use Rattle.std.proofs.Common.{◌≡◌, ◌≢◌, ◌⊎◌, inl, inr, ℕ, zero, suc, IsTrue, nat_le, refl, sym, ap, ◌∙◌, true≢false}
+use Rattle.std.specs.Cmp.{tied_itself}
+use Rattle.std.specs.Ordering.{is_gt, is_lt, ordering_reverse}
 use Rattle.std.specs.declared.cmp.Ordering.{Ordering}
-use Rattle.std.specs.declared.cmp.Ordering.TheVariants.{Less}
+use Rattle.std.specs.declared.cmp.Ordering.TheVariants.{Less, Equal, Greater}
 use Rattle.conf_doc.specs.declared.configuration.Config.{Config}
 use Rattle.move_core.specs.Contexts.{IsValidIn, rulebook}
-use Rattle.move_core.specs.Listed.{IsListed}
+use Rattle.move_core.specs.Generated.{IsRestoring}
+use Rattle.move_core.specs.Listed.{EndsChain, HasTier, IsListed, chain_class, other_tier, restoring_tier}
 use Rattle.move_core.specs.ListedOrder.{listed_cmp, move_cmp}
-use Rattle.move_core.specs.ListedOrderLaws.{listed_total}
+use Rattle.move_core.specs.ListedOrderLaws.{listed_same, listed_total}
 use Rattle.move_core.specs.Plans.{IsAllowed}
 use Rattle.move_core.specs.Rulebook.{Rulebook}
 use Rattle.move_core.specs.declared.contexts.Ctx.{Ctx}
+use Rattle.move_core.specs.declared.moves.Generated.{Generated}
 use Rattle.move_core.specs.declared.moves.Move.{Move}
+use Rattle.move_core.specs.declared.moves.Move.TheVariants.{Add, Remove, Replace}
+use Rattle.move_core.specs.declared.moves.Ranked.{Ranked}
 use Rattle.plan_search.specs.FirstWays.{StandsBefore}
-use Rattle.plan_search.specs.MoveKeys.{keys_decide}
 use Rattle.plan_search.specs.Problems.{Problem, IsLawful}
 
--- the first part of the list holds all of it
-abbrev pub IsInParts : Type 0 → ℕ → Type 0
-IsInParts Listed zero = ⊥
-IsInParts Listed (suc k) = Listed
+-- some chain of that tier or a lesser one ends with the move
+abbrev pub IsInTiers : Rulebook → Config → Config → Config → ℕ → Move → Type 0
+IsInTiers book start goal cur k m =
+    (s : Ranked) × EndsChain book start cur goal s × (s.mv ≡ m) × IsTrue (nat_le s.tier k)
 
 -- the moves of a context from start to goal; moves can be asked for where a configuration is valid
 abbrev pub move_problem : Ctx → Config → Config → Problem
@@ -30,10 +33,57 @@ move_problem ctx start goal =
       goal = goal;
       IsAllowed = IsAllowed (rulebook ctx) goal;
       IsListed = λ c m. IsListed (rulebook ctx) c goal m;
-      IsWithin = λ c k m. IsInParts (IsListed (rulebook ctx) c goal m) k;
+      IsWithin = IsInTiers (rulebook ctx) start goal;
       Precedes = StandsBefore (rulebook ctx) start goal;
       IsFit = IsValidIn ctx;
     }
+
+-- ---- tiers
+
+no_restoring : (d t : ℕ) → t ≡ restoring_tier d → ¬ IsTrue (nat_le t 0)
+no_restoring zero t e le = true≢false (sym le ∙ ap (λ x. nat_le x 0) e)
+no_restoring (suc d) t e le = true≢false (sym le ∙ ap (λ x. nat_le x 0) e)
+
+no_other : (m : Move) (d t : ℕ) → t ≡ other_tier m d → ¬ IsTrue (nat_le t 0)
+no_other m zero t e le = true≢false (sym le ∙ ap (λ x. nat_le x 0) e)
+no_other (Add p part) (suc d) t e le = true≢false (sym le ∙ ap (λ x. nat_le x 0) e)
+no_other (Remove p) (suc d) t e le = true≢false (sym le ∙ ap (λ x. nat_le x 0) e)
+no_other (Replace p part) (suc d) t e le = true≢false (sym le ∙ ap (λ x. nat_le x 0) e)
+
+-- no chain has the tier 0
+no_tier : (start goal : Config) (g : Generated) (d t : ℕ) → HasTier start goal g d t → ¬ IsTrue (nat_le t 0)
+no_tier start goal g d t has le =
+    no_other g.mv d t (has.other (λ r. no_restoring d t (has.restoring r) le)) le
+
+few_restoring : (d : ℕ) → IsTrue (nat_le (restoring_tier d) 4)
+few_restoring zero = refl
+few_restoring (suc d) = refl
+
+few_other : (m : Move) (d : ℕ) → IsTrue (nat_le (other_tier m d) 4)
+few_other m zero = refl
+few_other (Add p part) (suc d) = refl
+few_other (Remove p) (suc d) = refl
+few_other (Replace p part) (suc d) = refl
+
+-- a listed move has a chain of a tier up to 4
+some_tier : (book : Rulebook) (start goal cur : Config) (m : Move)
+    → IsListed book cur goal m → ¬ ¬ IsInTiers book start goal cur 4 m
+some_tier book start goal cur m is out =
+    otherwise (λ r. out (chain (restoring_tier is.depth)
+    (record { restoring = λ x. refl; other = λ n. absurd (n r) }) (few_restoring is.depth)))
+  where
+    chain : (t : ℕ) → HasTier start goal is.first is.depth t → IsTrue (nat_le t 4) → IsInTiers book start goal cur 4 m
+    chain t has few = (
+      record { tier = t; depth = is.depth; class = chain_class is.first is.depth m; mv = m },
+      record { first = is.first; generated = is.generated; leads = is.leads; tier = has; class = refl },
+      refl,
+      few,
+    )
+
+    otherwise : ¬ IsRestoring start goal is.first → ⊥
+    otherwise n =
+        out (chain (other_tier is.first.mv is.depth)
+        (record { restoring = λ r. absurd (n r); other = λ x. refl }) (few_other is.first.mv is.depth))
 
 -- ---- the order of moves
 
@@ -48,22 +98,33 @@ one_before book start goal cur m n a b =
     (a.before b.chain b.ends b.mv) (b.before a.chain a.ends a.mv)
     (listed_total.antisymm a.chain b.chain)
 
-told_by : {P : Type 0} (b : Bool) → Decides b P → P ⊎ ¬ P
-told_by true d = inl (d.0 refl)
-told_by false d = inr (λ h. true≢false (sym (d.1 h)))
+-- the move with the least rank
+abbrev unranked : Move → Ranked
+unranked m = record { tier = 0; depth = 0; class = 0; mv = m }
+
+-- a move ties with itself
+pub move_tied : (m : Move) → move_cmp m m ≡ Equal
+move_tied m = tied_itself listed_total (unranked m)
+
+told_by : (m n : Move) (o : Ordering) → move_cmp m n ≡ o → (m ≡ n) ⊎ (m ≢ n)
+told_by m n Less e =
+    inr (λ same. true≢false (ap is_lt (sym e ∙ ap (move_cmp m) (sym same) ∙ move_tied m)))
+told_by m n Equal e = inl (ap (λ r. r.mv) (listed_same (unranked m) (unranked n) e))
+told_by m n Greater e =
+    inr (λ same. true≢false (ap is_gt (sym e ∙ ap (move_cmp m) (sym same) ∙ move_tied m)))
 
 -- moves are the same or not
 pub moves_told : (m n : Move) → (m ≡ n) ⊎ (m ≢ n)
-moves_told m n = told_by (eq_by_cmp move_cmp m n) (keys_decide m n)
+moves_told m n = told_by m n (move_cmp m n) refl
 
--- an allowed move is a listed one, and its result is valid; the order is one
+-- an allowed move is a listed one, and its result is valid; each has a tier; the order is one
 pub moves_lawful : (ctx : Ctx) (start goal : Config) → IsLawful (move_problem ctx start goal)
 moves_lawful ctx start goal =
     record {
       listed = λ c m is. is.listed;
       fit = λ c m valid is. is.rules.full;
-      none = λ c m h. h;
-      all = λ c m is out. out is;
+      none = λ c m h. no_tier start goal h.1.first h.0.depth h.0.tier h.1.tier h.3;
+      all = some_tier (rulebook ctx) start goal;
       one_way = one_before (rulebook ctx) start goal;
       told = moves_told;
     }

@@ -1,17 +1,11 @@
-//! The list of moves at a configuration, and the search for a plan.
+//! The search for the first plan over the listed moves.
 #![tactic(auto)]
 
-mod agreeing;
-mod asking;
 mod errors;
 mod expanding;
 mod laws;
-mod listing;
 mod met_set;
-mod move_keys;
 mod planning;
-mod ranking;
-mod reaches;
 mod rules;
 mod searching;
 mod stacks;
@@ -19,6 +13,6 @@ mod steps;
 
 pub use errors::SearchError;
 pub use laws::{first_ways_are_least, searches_have_one_answer};
-pub use listing::listed;
+pub use plan_lists::listed;
 pub use planning::search;
 pub use steps::Steps;

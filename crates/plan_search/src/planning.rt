@@ -1,13 +1,11 @@
 //! The search for a plan: the moves come from a kit.
-ghost use Rattle.std.specs.Prelude.{◌≡◌, ◌↔◌, ◌+◌, ◌<◌, length, IsTrue};
+ghost use Rattle.std.specs.Prelude.{◌≡◌, ◌+◌, ◌<◌, length};
 ghost use Rattle.move_core.specs.Contexts.{IsNamed, IsValidIn, rulebook};
 ghost use Rattle.move_core.specs.Kinds.{AreBefore, AreOfKinds, extender_kinds, generator_kinds, rule_kinds};
 ghost use Rattle.plan_search.specs.Kits.{move_problem, moves_lawful};
 ghost use Rattle.plan_search.specs.Searches.{IsSearchAnswer};
 
-use crate::agreeing::agree_at;
 use crate::expanding::Expanding;
-use crate::listing::list_moves;
 use crate::rules::keep_rules;
 use crate::searching::find_plan;
 use crate::{SearchError, Steps};
@@ -16,6 +14,7 @@ use host_core::Memory;
 use move_core::{
     Boxes, Ctx, Kit, Move, MoveExt, MoveGen, MoveRule, Plan, listed_moves_are_defined, step,
 };
+use plan_lists::listed_in_tier;
 use std::alloc::Global;
 use std::marker::PhantomData;
 use std::sync::ledger::Ledger;
@@ -65,12 +64,7 @@ impl<'a> Expanding for KitMoves<'a> {
         cur: &Config,
         part: u8,
     ) -> Result<Vec<Move>, Memory> {
-        if part > 0 {
-            return Ok(Vec::new(alloc));
-        }
-        let moves = list_moves(alloc, self.ctx, kit, self.start, cur, self.goal);
-        kit.begin(self.ctx);
-        moves
+        listed_in_tier(alloc, self.ctx, kit, self.start, cur, self.goal, part + 1)
     }
 
     fn try_move(
@@ -83,23 +77,12 @@ impl<'a> Expanding for KitMoves<'a> {
         listed_moves_are_defined();
         let _tables = cur.len();
         let next = step(alloc, cur, mv)?;
-        if is_unchanged(cur, &next, mv) {
-            return Ok(None);
-        }
-        if keep_rules(self.ctx, kit, cur, &next, self.goal, mv) {
-            Ok(Some(next))
-        } else {
+        if !keep_rules(self.ctx, kit, cur, &next, self.goal, mv) || next.same(cur) {
             Ok(None)
+        } else {
+            Ok(Some(next))
         }
     }
-}
-
-/// Whether a move's result is the configuration that it was made of. The whole is looked at only where the
-/// same stands at the move's place.
-fn is_unchanged(cur: &Config, next: &Config, mv: &Move) -> bool
-    ensures { IsTrue result ↔ (next.now ≡ cur.now) }
-{
-    agree_at(cur, next, mv.place()) && next.same(cur)
 }
 
 /// The first plan from start to goal, by the moves and rules of the kit. Fewer than budget configurations

@@ -38,14 +38,27 @@ impl Read for Reads<'_> {
     }
 }
 
+fn name_of_bytes(bytes: &[u8]) -> &'static str {
+    if bytes == b"abcd".as_slice() {
+        "abcd"
+    } else {
+        "other bytes"
+    }
+}
+
+fn name_of_error(error: HostError) -> &'static str {
+    match error {
+        HostError::Failed => "failed",
+        HostError::Memory => "memory",
+    }
+}
+
 fn name_of(input: Result<Input, HostError>) -> &'static str {
     match input {
         Ok(Input::Absent) => "absent",
         Ok(Input::TooBig) => "too big",
-        Ok(Input::Bytes(bytes)) if bytes.items() == b"abcd".as_slice() => "abcd",
-        Ok(Input::Bytes(_)) => "other bytes",
-        Err(HostError::Failed) => "failed",
-        Err(HostError::Memory) => "memory",
+        Ok(Input::Bytes(bytes)) => name_of_bytes(bytes.items()),
+        Err(error) => name_of_error(error),
     }
 }
 
@@ -214,18 +227,15 @@ impl Print for Broken<'_> {
 fn name_of_file(file: Result<Option<Vec<u8>>, HostError>) -> &'static str {
     match file {
         Ok(None) => "absent",
-        Ok(Some(bytes)) if bytes.as_slice() == b"abcd".as_slice() => "abcd",
-        Ok(Some(_)) => "other bytes",
-        Err(HostError::Failed) => "failed",
-        Err(HostError::Memory) => "memory",
+        Ok(Some(bytes)) => name_of_bytes(&bytes),
+        Err(error) => name_of_error(error),
     }
 }
 
 fn name_of_names(names: Result<Names, HostError>) -> &'static str {
     match names {
         Ok(_) => "names",
-        Err(HostError::Failed) => "failed",
-        Err(HostError::Memory) => "memory",
+        Err(error) => name_of_error(error),
     }
 }
 

@@ -1,4 +1,4 @@
-use Rattle.std.proofs.Common.{[], refl}
+use Rattle.std.proofs.Common.{[], slice_get, refl, sym, ap, ◌∙◌}
 use Rattle.std.proofs.lemmas.Result.{IfOk-weaker}
 use Rattle.move_core.specs.Appends.{Appends}
 use Rattle.move_core.specs.Contexts.{rulebook}
@@ -7,6 +7,7 @@ use Rattle.move_core.specs.Moves.{place}
 use Rattle.move_core.specs.Services.{table_of}
 use Rattle.move_extend.specs.Referrers.{GivesRemovals}
 use Rattle.move_extend.proofs.Finding.{appends_as}
+use Rattle.move_extend.proofs.GoneKeys.{breaks_parts}
 use Rattle.move_extend.proofs.Removals.{no_removals, referrers}
 use Rattle.move_extend.proofs.referrers.removals_of.Goals as goal
 
@@ -15,13 +16,29 @@ returns-then-keeps_keys c =
     no_removals c.args.ctx.now c.args.cur.now c.in_ok-next.next c.args.mv.now (table_of (place c.args.mv.now)) c.in_ok-next.ensures.step refl
     (c.keeps_keys.ensures c.if-keeps_keys.true) c.new.result c.new.ensures
 
+pub removals_of_key-requires : goal.removals_of_key-requires
+removals_of_key-requires c = λ at w wanted broken.
+    breaks_parts c.args.ctx.now.models c.args.cur.now c.in_ok-next.next c.args.mv.now c.table_of-table.result.now c.name_at.result.now c.in_ok-next.ensures.step
+    c.table_of-table.ensures (ap (λ p. slice_get p 1) (sym c.place-place.ensures) ∙ c.name_at.ensures.name) at w wanted broken
+
+pub returns-then-len-gt1 : goal.returns-then-len-gt1
+returns-then-len-gt1 c =
+    let t = c.table_of-table.result.now in
+    let next = c.in_ok-next.next in
+    let Gives = GivesRemovals c.args.ctx.now.models c.args.cur.now next t in
+    let Is = IsReferrer (rulebook c.args.ctx.now) c.args.cur.now c.args.mv.now in
+    IfOk-weaker c.removals_of_key.result (Appends Gives []) (Appends Is [])
+    (λ found gives. appends_as Gives Is [] found
+    (λ x. referrers c.args.ctx.now c.args.cur.now next c.args.mv.now x t c.in_ok-next.ensures.step c.table_of-table.ensures) gives)
+    c.removals_of_key.ensures
+
 pub returns : goal.returns
 returns c =
-    let t = c.table_of.result.now in
+    let t = c.table_of-table.result.now in
     let next = c.in_ok-next.next in
     let Gives = GivesRemovals c.args.ctx.now.models c.args.cur.now next t in
     let Is = IsReferrer (rulebook c.args.ctx.now) c.args.cur.now c.args.mv.now in
     IfOk-weaker c.broken_wants.result (Appends Gives []) (Appends Is [])
     (λ found gives. appends_as Gives Is [] found
-    (λ x. referrers c.args.ctx.now c.args.cur.now next c.args.mv.now x t c.in_ok-next.ensures.step c.table_of.ensures) gives)
+    (λ x. referrers c.args.ctx.now c.args.cur.now next c.args.mv.now x t c.in_ok-next.ensures.step c.table_of-table.ensures) gives)
     c.broken_wants.ensures

@@ -1,0 +1,26 @@
+use Rattle.std.proofs.Common.{option_and_then, map, ap, ◌∙◌, arith}
+use Rattle.conf_doc.proofs.Edits.{find_at}
+use Rattle.conf_doc.proofs.Lists.{length-map}
+use Rattle.conf_doc.specs.Pairs.{find}
+use Rattle.move_extend.specs.Mentions.{GivesOfEntry}
+use Rattle.move_extend.proofs.Finding.{loop_begins, loop_ends, loop_more}
+use Rattle.move_extend.proofs.referrers.find_in_table.Goals as goal
+
+pub loop-i-init : goal.loop-i-init
+loop-i-init c =
+    loop_begins (GivesOfEntry c.args.change.now c.args.gone.now.table.now c.args.table.now) (map (λ e. e.0) c.args.entries.now) c.args.found.now
+
+pub find_in_mentioning-requires-clause-entry : goal.find_in_mentioning-requires-clause-entry
+find_in_mentioning-requires-clause-entry c =
+    ap (option_and_then (find c.name_at-key.result.now)) c.requires.table
+    ∙ find_at c.args.entries.now c.name_at-key.result.now c.loop-i.i c.part_at-fields.ensures.formed.shaped.rising c.name_at-key.ensures ∙ c.part_at-fields.ensures.part
+
+pub loop-i-preserved : goal.loop-i-preserved
+loop-i-preserved c =
+    loop_more (GivesOfEntry c.args.change.now c.args.gone.now.table.now c.args.table.now) (map (λ e. e.0) c.args.entries.now) c.loop-i.i c.name_at-key.result.now
+    c.name_at-key.ensures c.args.found.now c.loop-i.found c.find_in_mentioning.new.found c.loop-i.invariant c.in_ok-find_in_mentioning.ensures
+
+pub returns : goal.returns
+returns c =
+    loop_ends (GivesOfEntry c.args.change.now c.args.gone.now.table.now c.args.table.now) (map (λ e. e.0) c.args.entries.now) c.loop-i.i
+    c.args.found.now c.loop-i.found (rw (length-map (λ e. e.0) c.args.entries.now) (omega arith)) c.loop-i.invariant

@@ -1,0 +1,9 @@
+pub mod Adding
+pub mod Chains
+pub mod Firsts
+pub mod Gathered
+pub mod Members
+pub mod Noted
+pub mod Reached
+pub mod Tiers
+pub mod Walked

@@ -1,0 +1,8 @@
+-- what public clauses cite
+pub mod Tiers
+-- what only private clauses cite
+pub mod MoveKeys
+pub mod Places
+pub mod Questions
+pub mod Ranking
+pub mod Reaches

@@ -1,0 +1,13 @@
+//! The list of moves at a configuration, tier by tier.
+#![tactic(auto)]
+
+mod agreeing;
+mod asking;
+mod laws;
+mod listing;
+mod move_keys;
+mod ranking;
+mod reaches;
+
+pub use laws::tiers_make_the_list;
+pub use listing::{listed, listed_in_tier};

@@ -1,0 +1,224 @@
+//! The list of moves at a configuration.
+ghost use Rattle.std.specs.Prelude.{◌≡◌, ◌≤◌, ◌++◌, [], All, IfOk};
+ghost use Rattle.move_core.specs.Contexts.{IsNamed, IsValidIn, rulebook};
+ghost use Rattle.move_core.specs.Listed.{AreListed};
+ghost use Rattle.plan_lists.specs.Questions.{CanAsk, IsOffered};
+ghost use Rattle.plan_lists.specs.Ranking.{AreInOrder, AreSorted, HasFirsts, IsInTier, IsReachOf, LeadsEarly};
+ghost use Rattle.plan_lists.specs.Tiers.{AreListedIn};
+
+use crate::asking::{Question, generated_moves};
+use crate::laws::tiers_make_the_list;
+use crate::ranking::{Choice, chosen_moves, rank_alone, rank_reached};
+use crate::reaches::{Reach, reach_from};
+use conf_doc::Config;
+use host_core::{Memory, Sequence};
+use move_core::{Boxes, Ctx, Generated, Kit, Move, Moves, Ranked};
+use std::alloc::Global;
+
+/// The tier of an extended chain from a remove or a replace that isn't restoring, and of any other.
+const EXTENDED: u8 = 2;
+
+const OTHER: u8 = 4;
+
+/// All listed moves at a configuration towards goal, each once, in the order of the list.
+pub fn listed(
+    alloc: Global,
+    ctx: &Ctx,
+    kit: &mut Kit,
+    start: &Config,
+    cur: &Config,
+    goal: &Config,
+) -> Result<Moves, Memory>
+    requires kinds { ⟦<Kit as Boxes>⟧.HasKinds kit.old }
+    requires named { IsNamed ctx.now }
+    requires cur { IsValidIn ctx.now cur.now }
+    requires goal { IsValidIn ctx.now goal.now }
+    ensures kinds { ⟦<Kit as Boxes>⟧.HasKinds kit.new }
+    ensures rules { kit.new.rules ≡ kit.old.rules }
+    ensures listed { IfOk result (AreListed (rulebook ctx.now) start.now cur.now goal.now) }
+{
+    tiers_make_the_list();
+    let question = Question { ctx, cur, goal };
+    let first = first_tier(alloc, &question, kit, start)?;
+    let second = second_tier(alloc, &question, kit, start)?;
+    let third = third_tier(alloc, &question, kit, start)?;
+    let fourth = fourth_tier(alloc, &question, kit, start)?;
+    let last = joined(third, fourth)?;
+    let rest = joined(second, last)?;
+    let moves = joined(first, rest)?;
+    Ok(Sequence::from_vec(moves))
+}
+
+/// The moves of one list behind those of another.
+fn joined(first: Vec<Move>, rest: Vec<Move>) -> Result<Vec<Move>, Memory>
+    ensures { IfOk result (λ ms. ms.items ≡ first.items ++ rest.items) }
+{
+    let mut moves = first;
+    let mut rest = rest;
+    moves.append(&mut rest)?;
+    Ok(moves)
+}
+
+/// The listed moves whose least rank has a tier, each once, in the order of the list. For tier 1 no
+/// extender is asked.
+pub fn listed_in_tier(
+    alloc: Global,
+    ctx: &Ctx,
+    kit: &mut Kit,
+    start: &Config,
+    cur: &Config,
+    goal: &Config,
+    tier: u8,
+) -> Result<Vec<Move>, Memory>
+    requires kinds { ⟦<Kit as Boxes>⟧.HasKinds kit.old }
+    requires named { IsNamed ctx.now }
+    requires cur { IsValidIn ctx.now cur.now }
+    requires goal { IsValidIn ctx.now goal.now }
+    requires low { 1 ≤ tier }
+    requires high { tier ≤ 4 }
+    ensures kinds { ⟦<Kit as Boxes>⟧.HasKinds kit.new }
+    ensures rules { kit.new.rules ≡ kit.old.rules }
+    ensures listed { IfOk result
+        (λ ms. AreListedIn (rulebook ctx.now) start.now cur.now goal.now tier ms.items) }
+{
+    let question = Question { ctx, cur, goal };
+    match tier {
+        1 => first_tier(alloc, &question, kit, start),
+        2 => second_tier(alloc, &question, kit, start),
+        3 => third_tier(alloc, &question, kit, start),
+        _ => fourth_tier(alloc, &question, kit, start),
+    }
+}
+
+/// Tier 1: the generated moves that aren't restoring.
+fn first_tier(
+    alloc: Global,
+    question: &Question<'_>,
+    kit: &mut Kit,
+    start: &Config,
+) -> Result<Vec<Move>, Memory>
+    requires kinds { ⟦<Kit as Boxes>⟧.HasKinds kit.old }
+    requires asked { CanAsk question.now }
+    ensures kinds { ⟦<Kit as Boxes>⟧.HasKinds kit.new }
+    ensures rules { kit.new.rules ≡ kit.old.rules }
+    ensures listed { IfOk result (λ ms. IsInTier question.now start.now 1 ms.items) }
+{
+    let firsts = generated_moves(alloc, question, kit)?;
+    let ranked = rank_alone(alloc, start, question.goal, &firsts, false)?;
+    let none = Reach::new(alloc);
+    in_order(alloc, &none, ranked)
+}
+
+/// Tier 2: what extensions reach from those that are a remove or a replace, without those of tier 1.
+fn second_tier(
+    alloc: Global,
+    question: &Question<'_>,
+    kit: &mut Kit,
+    start: &Config,
+) -> Result<Vec<Move>, Memory>
+    requires kinds { ⟦<Kit as Boxes>⟧.HasKinds kit.old }
+    requires asked { CanAsk question.now }
+    ensures kinds { ⟦<Kit as Boxes>⟧.HasKinds kit.new }
+    ensures rules { kit.new.rules ≡ kit.old.rules }
+    ensures listed { IfOk result (λ ms. IsInTier question.now start.now 2 ms.items) }
+{
+    let firsts = generated_moves(alloc, question, kit)?;
+    let early = early_reach(alloc, question, kit, start, &firsts)?;
+    let ranked = rank_reached(alloc, &early, EXTENDED)?;
+    let others = chosen_moves(alloc, start, question.goal, &firsts, Choice::Other)?;
+    let none = Reach::new(alloc);
+    let mut known = Reach::new(alloc);
+    known.note_all(&none, others, 0)?;
+    in_order(alloc, &known, ranked)
+}
+
+/// Tier 3: the generated moves that are restoring, without those of tiers 1 and 2.
+fn third_tier(
+    alloc: Global,
+    question: &Question<'_>,
+    kit: &mut Kit,
+    start: &Config,
+) -> Result<Vec<Move>, Memory>
+    requires kinds { ⟦<Kit as Boxes>⟧.HasKinds kit.old }
+    requires asked { CanAsk question.now }
+    ensures kinds { ⟦<Kit as Boxes>⟧.HasKinds kit.new }
+    ensures rules { kit.new.rules ≡ kit.old.rules }
+    ensures listed { IfOk result (λ ms. IsInTier question.now start.now 3 ms.items) }
+{
+    let firsts = generated_moves(alloc, question, kit)?;
+    let mut known = early_reach(alloc, question, kit, start, &firsts)?;
+    let others = chosen_moves(alloc, start, question.goal, &firsts, Choice::Other)?;
+    let none = Reach::new(alloc);
+    known.note_all(&none, others, 0)?;
+    let ranked = rank_alone(alloc, start, question.goal, &firsts, true)?;
+    in_order(alloc, &known, ranked)
+}
+
+/// Tier 4: what extensions reach from the other generated moves, without those of the lesser tiers.
+fn fourth_tier(
+    alloc: Global,
+    question: &Question<'_>,
+    kit: &mut Kit,
+    start: &Config,
+) -> Result<Vec<Move>, Memory>
+    requires kinds { ⟦<Kit as Boxes>⟧.HasKinds kit.old }
+    requires asked { CanAsk question.now }
+    ensures kinds { ⟦<Kit as Boxes>⟧.HasKinds kit.new }
+    ensures rules { kit.new.rules ≡ kit.old.rules }
+    ensures listed { IfOk result (λ ms. IsInTier question.now start.now 4 ms.items) }
+{
+    let goal = question.goal;
+    let firsts = generated_moves(alloc, question, kit)?;
+    let mut known = early_reach(alloc, question, kit, start, &firsts)?;
+    let late = chosen_moves(alloc, start, goal, &firsts, Choice::Late)?;
+    let late = reach_from(alloc, question, kit, &known, late)?;
+    let ranked = rank_reached(alloc, &late, OTHER)?;
+    let none = Reach::new(alloc);
+    let others = chosen_moves(alloc, start, goal, &firsts, Choice::Other)?;
+    known.note_all(&none, others, 0)?;
+    let restoring = chosen_moves(alloc, start, goal, &firsts, Choice::Restoring)?;
+    known.note_all(&none, restoring, 0)?;
+    in_order(alloc, &known, ranked)
+}
+
+/// What extensions reach from the generated moves whose extended chains have the lesser tier.
+fn early_reach(
+    alloc: Global,
+    question: &Question<'_>,
+    kit: &mut Kit,
+    start: &Config,
+    firsts: &[Generated],
+) -> Result<Reach, Memory>
+    requires kinds { ⟦<Kit as Boxes>⟧.HasKinds kit.old }
+    requires asked { CanAsk question.now }
+    requires offered { All (IsOffered question.now) firsts.now }
+    ensures kinds { ⟦<Kit as Boxes>⟧.HasKinds kit.new }
+    ensures rules { kit.new.rules ≡ kit.old.rules }
+    ensures reached { let Is = LeadsEarly start.now question.now.goal.now in
+        IfOk result (IsReachOf question.now Is firsts.now []) }
+{
+    let early = chosen_moves(alloc, start, question.goal, firsts, Choice::Early)?;
+    let none = Reach::new(alloc);
+    reach_from(alloc, question, kit, &none, early)
+}
+
+/// The moves of chains in the order of the list, each once, those that are known left out.
+fn in_order(alloc: Global, known: &Reach, ranked: Vec<Ranked>) -> Result<Vec<Move>, Memory>
+    ensures { IfOk result (λ ms. AreInOrder known.now ranked.items ms.items) }
+{
+    let mut ranked = ranked;
+    ranked.sort()?;
+    first_of_each(alloc, known, ranked)
+}
+
+/// The first of each move among sorted chains, those that are known left out.
+fn first_of_each(alloc: Global, known: &Reach, ranked: Vec<Ranked>) -> Result<Vec<Move>, Memory>
+    requires { AreSorted ranked.items }
+    ensures { IfOk result (λ ms. HasFirsts known.now ranked.items ms.items) }
+{
+    let mut seen = Reach::new(alloc);
+    for chain in ranked {
+        seen.note(known, chain.mv, chain.depth)?;
+    }
+    seen.into_moves(alloc)
+}

@@ -1,0 +1,140 @@
+//! Chains of one tier with their ranks: at least one of least rank for each move that none of a lesser
+//! tier ends with.
+ghost use Rattle.std.specs.Prelude.{◌≡◌, ◌↔◌, [], IsTrue, IfOk};
+ghost use Rattle.move_core.specs.Listed.{place_class};
+ghost use Rattle.plan_lists.specs.Ranking.{AddsAlone, AddsExtended, AreMovesOf, IsChosen, LeadsEarly, lone_tier};
+
+use crate::agreeing::agree_at;
+use crate::reaches::Reach;
+use conf_doc::Config;
+use host_core::Memory;
+use move_core::{Generated, Move, Ranked};
+use std::alloc::Global;
+
+/// The tier of a chain of a generated move alone that isn't restoring, and of one that is.
+const ALONE: u8 = 1;
+
+const RESTORING: u8 = 3;
+
+/// Some of the generated moves.
+#[derive(Clone, Copy, Drop)]
+pub(crate) enum Choice {
+    /// Those whose extended chains have the lesser tier.
+    Early,
+    /// The others.
+    Late,
+    /// Those that are restoring.
+    Restoring,
+    /// Those that aren't.
+    Other,
+}
+
+/// Whether the extended chains from a generated move have the lesser tier: it is a remove or a replace, and
+/// isn't restoring.
+fn leads_early(start: &Config, goal: &Config, first: &Generated) -> bool
+    ensures { IsTrue result ↔ LeadsEarly start.now goal.now first.now }
+{
+    match &first.mv {
+        Move::Add(..) => false,
+        _ => !agree_at(start, goal, &first.place),
+    }
+}
+
+/// Whether a generated move is among those that are chosen.
+fn is_chosen(choice: Choice, start: &Config, goal: &Config, first: &Generated) -> bool
+    ensures { IsTrue result ↔ IsChosen choice start.now goal.now first.now }
+{
+    match choice {
+        Choice::Early => leads_early(start, goal, first),
+        Choice::Late => !leads_early(start, goal, first),
+        Choice::Restoring => agree_at(start, goal, &first.place),
+        Choice::Other => !agree_at(start, goal, &first.place),
+    }
+}
+
+/// Those of the generated moves that are chosen.
+pub(crate) fn chosen_moves(
+    alloc: Global,
+    start: &Config,
+    goal: &Config,
+    firsts: &[Generated],
+    choice: Choice,
+) -> Result<Vec<Move>, Memory>
+    ensures { IfOk result (λ ms.
+        AreMovesOf (IsChosen choice start.now goal.now) firsts.now ms.items) }
+{
+    let mut moves = Vec::new(alloc);
+    for first in firsts {
+        if is_chosen(choice, start, goal, first) {
+            let mv = first.mv.copy(alloc)?;
+            moves.push(mv)?;
+        }
+    }
+    Ok(moves)
+}
+
+/// The tier of a generated move alone.
+fn lone_tier(restoring: bool) -> u8
+    ensures { result ≡ lone_tier restoring }
+{
+    if restoring { RESTORING } else { ALONE }
+}
+
+/// The chains of a generated move alone, of those that are restoring or of the others.
+pub(crate) fn rank_alone(
+    alloc: Global,
+    start: &Config,
+    goal: &Config,
+    firsts: &[Generated],
+    restoring: bool,
+) -> Result<Vec<Ranked>, Memory>
+    ensures { IfOk result (λ rs.
+        AddsAlone start.now goal.now restoring firsts.now [] rs.items) }
+{
+    let tier = lone_tier(restoring);
+    let mut ranked = Vec::new(alloc);
+    for first in firsts {
+        if agree_at(start, goal, &first.place) == restoring {
+            let mv = first.mv.copy(alloc)?;
+            ranked.push(Ranked {
+                tier,
+                depth: 0,
+                class: first.class,
+                mv,
+            })?;
+        }
+    }
+    Ok(ranked)
+}
+
+/// The class of an extended move.
+fn place_class(mv: &Move) -> u8
+    ensures { result ≡ place_class mv.now }
+{
+    mv.place().len() as u8 - 1
+}
+
+/// The extended chains of a tier.
+pub(crate) fn rank_reached(
+    alloc: Global,
+    reached: &Reach,
+    tier: u8,
+) -> Result<Vec<Ranked>, Memory>
+    ensures { IfOk result (λ rs. AddsExtended reached.now tier [] rs.items) }
+{
+    let mut ranked = Vec::new(alloc);
+    for i in 0..reached.len() {
+        let (mv, depth) = reached.at(i);
+        if depth > 0 {
+            let class = place_class(mv);
+            let mv = mv.copy(alloc)?;
+            ranked.push(Ranked {
+                tier,
+                depth,
+                class,
+                mv,
+            })?;
+        }
+    }
+    Ok(ranked)
+}

@@ -1,0 +1,82 @@
+-- Verdicts that are found and noted on a walk.
+use Rattle.std.proofs.Common.{◌≡◌, ◌<◌, ◌==◌, ℕ, Bool, true, false, not, List, Some, length, map, is_some, IsTrue, slice_get, refl, sym, ap, ◌∙◌, subst, inl, inr, arith}
+use Rattle.std.specs.Bool.{OnTrue, OnFalse}
+use Rattle.std.proofs.lemmas.Bool.{and_parts}
+use Rattle.std.proofs.lemmas.List.Elements.{All-contains}
+use Rattle.std.proofs.lemmas.Slice.Eq.{bytes_eq-Decides}
+use Rattle.conf_doc.specs.WellFormed.{IsConfig}
+use Rattle.conf_doc.specs.declared.configuration.Config.{Config}
+use Rattle.conf_doc.specs.declared.configuration.Table.{Table}
+use Rattle.yang_model.specs.ModelSets.{ModelSet}
+use Rattle.yang_model.specs.declared.shapes.MustRule.{MustRule}
+use Rattle.yang_model.specs.declared.shapes.Shape.{Shape}
+use Rattle.conf_check.specs.Rows.{IsEntryAt, IsShapeOf}
+use Rattle.conf_check.specs.Validity.{IsValidAt}
+use Rattle.recheck.specs.Rechecks.{HasVerdict, IsNoted}
+use Rattle.recheck.specs.Verdicts.{AreSound, HasNoMusts, IsSound, entry_of}
+use Rattle.recheck.specs.declared.verdicts.Verdict.{Verdict}
+use Rattle.recheck.proofs.Lists.{all_insert, entry_found}
+use Rattle.recheck.proofs.Pairs.{holder_at, pair_at}
+use Rattle.recheck.proofs.Rows.{shape_once}
+
+-- what is answered true or false
+pub when_true : (b : Bool) (P : Type 0) → b ≡ true → OnTrue b P → P
+when_true true P e p = p
+when_true false P e p = cc
+
+pub when_false : (b : Bool) (P : Type 0) → b ≡ false → OnFalse b P → P
+when_false true P e p = cc
+when_false false P e p = p
+
+module _ (models : ModelSet) (table key : List ℕ) where
+  -- a shape without a must, or none
+  pub without_musts : (shape : Shape) → IsShapeOf models table key shape → length shape.musts ≡ 0 → HasNoMusts models table key
+  without_musts shape here none other must has contains =
+      let same : other ≡ shape = shape_once models table key other shape has here in
+      let within : contains.0 < length other.musts = contains.1 in
+      let len : length other.musts ≡ length shape.musts = ap (λ (s : Shape). length s.musts) same in
+      omega (arith, within, len, none)
+
+  -- whether there are musts
+  pub musts_answer : (b : Bool) (shape : Shape) (musts : List MustRule) → IsShapeOf models table key shape → musts ≡ shape.musts → b ≡ (length musts == 0)
+      → OnFalse (not b) (HasNoMusts models table key)
+  musts_answer true shape musts here is e =
+      let none : length musts ≡ 0 = grind (arith, e) in
+      without_musts shape here (ap length (sym is) ∙ none)
+  musts_answer false shape musts here is e = tt
+
+module _ (models : ModelSet) (config : Config) (table key : List ℕ) where
+  -- an entry with a verdict is valid
+  pub passed : (verdicts : List Verdict) → AreSound models config verdicts → HasVerdict table key verdicts → IsValidAt models config table key
+  passed verdicts sound has =
+      let parts = and_parts _ _ has.2 in
+      let k : has.0.key ≡ key = (bytes_eq-Decides has.0.key key).0 parts.0 in
+      let t : has.0.table ≡ table = (bytes_eq-Decides has.0.table table).0 parts.1 in
+      let is = All-contains (IsSound models config) verdicts has.0 sound has.1 in
+      subst (λ x. IsValidAt models config x key) t (subst (λ x. IsValidAt models config has.0.table x) k is.valid)
+
+  -- a true one is added
+  pub noted : (old new : List Verdict) → AreSound models config old → IsSound models config (record { table = table; key = key }) → IsNoted table key old new
+      → AreSound models config new
+  noted old new sound is (inl same) = subst (λ l. AreSound models config l) (sym same) sound
+  noted old new sound is (inr at) =
+      subst (λ l. AreSound models config l) (sym at.1) (all_insert (IsSound models config) old at.0 (record { table = table; key = key }) is sound)
+
+  -- one that is found there, valid and without a must is true
+  pub fresh : IsTrue (is_some (entry_of table key config)) → IsValidAt models config table key → HasNoMusts models table key
+      → IsSound models config (record { table = table; key = key })
+  fresh there valid free = record { there = there; valid = valid; free = free }
+
+  pub same_sound : (old new : List Verdict) → new ≡ old → AreSound models config old → AreSound models config new
+  same_sound old new e sound = subst (λ l. AreSound models config l) (sym e) sound
+
+-- what stands at a place is there
+pub there_at : (config : Config) (t k : ℕ) (table key : List ℕ) → IsConfig config → IsEntryAt config table key t k → IsTrue (is_some (entry_of table key config))
+there_at config t k table key formed is = subst (λ o. IsTrue (is_some o)) (sym (entry_found config table key t k formed is)) refl
+
+-- an entry by what is read at its places
+pub entry_at : (config : Config) (t k : ℕ) (table key : List ℕ) (entries : Table) → slice_get (map (λ p. p.0) config) t ≡ Some table
+    → slice_get (map (λ p. p.1) config) t ≡ Some entries → slice_get (map (λ p. p.0) entries) k ≡ Some key → IsEntryAt config table key t k
+entry_at config t k table key entries named part keyed =
+    let held = holder_at entries k key keyed in
+    record { entries = entries; at = pair_at config t table entries named part; fields = held.0; at_key = held.1 }

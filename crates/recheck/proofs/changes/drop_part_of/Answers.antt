@@ -1,0 +1,19 @@
+use Rattle.std.proofs.Common.{◌≡◌, Some, None, sym, ◌∙◌, subst}
+use Rattle.ref_index.specs.Referrers.{HasWant, want_for}
+use Rattle.recheck.proofs.Dropped.{among_itself}
+use Rattle.recheck.proofs.Pairs.{some_same}
+use Rattle.recheck.proofs.changes.drop_part_of.Goals as goal
+
+pub returns-in-Some-clause-dropped : goal.returns-in-Some-clause-dropped
+returns-in-Some-clause-dropped c = λ text p at has.
+    let same : text ≡ c.in-Some.text.now = some_same text c.in-Some.text.now (sym at ∙ sym c.in-Some.ensures) in
+    c.drop_part.ensures.dropped p
+    (subst (λ s. HasWant c.args.index.now.models c.args.index.now.config (want_for c.args.table.now c.args.shape c.args.part s) p) same has)
+
+pub returns-in_default-clause-among : goal.returns-in_default-clause-among
+returns-in_default-clause-among c = among_itself c.args.verdicts.now.items
+
+pub returns-in_default-clause-dropped : goal.returns-in_default-clause-dropped
+returns-in_default-clause-dropped c = λ text p at has.
+    let none : None ≡ Some text = c.in_default.ensures ∙ at in
+    absurd cc

@@ -1,0 +1,73 @@
+-- Which verdicts a change of the configuration may turn.
+use Rattle.std.specs.Prelude.{◌≡◌, ◌⊎◌, ◌<◌, ◌≤◌, ℕ, List, Some, length, slice_get}
+use Rattle.std.specs.List.{All, Contains}
+use Rattle.conf_doc.specs.declared.configuration.Config.{Config}
+use Rattle.key_split.specs.Key.{key_parts}
+use Rattle.conf_check.specs.Rows.{IsEntryAt}
+use Rattle.conf_check.specs.Wants.{Want, IsWantAt}
+use Rattle.conf_check.specs.declared.want_iter.WantPlace.{WantPlace}
+use Rattle.yang_model.specs.Belongs.{Belongs}
+use Rattle.yang_model.specs.ModelSets.{ModelSet, shapes_of}
+use Rattle.ref_index.specs.declared.places.Place.{Place}
+use Rattle.recheck.specs.Verdicts.{entry_of}
+use Rattle.recheck.specs.declared.verdicts.Verdict.{Verdict}
+
+-- the entry has the wanted text as the wanted part of its key
+pub record Meets (models : ModelSet) (table key : List ℕ) (w : Want) : Type 0 where
+  pub in_table : w.target.table ≡ table
+  pub belongs : Belongs (shapes_of table models) key (Some w.target.shape)
+  pub part : slice_get (key_parts key) w.target.part ≡ Some w.text
+
+-- the verdict's entry has a want that the entry of that key of the table meets
+pub record Wants (models : ModelSet) (config : Config) (table key : List ℕ)
+    (v : Verdict) : Type 0 where
+  pub place : WantPlace
+  pub want : Want
+  pub at : IsEntryAt config v.table v.key place.table place.key
+  pub wanted : IsWantAt models config place want
+  pub meets : Meets models table key want
+
+-- the verdict is on that entry
+abbrev pub IsOn : List ℕ → List ℕ → Verdict → Type 0
+IsOn table key v = (v.table ≡ table) × (v.key ≡ key)
+
+-- a verdict that a change of that entry may turn
+abbrev pub IsTouched : ModelSet → Config → List ℕ → List ℕ → Verdict → Type 0
+IsTouched models config table key v = IsOn table key v ⊎ Wants models config table key v
+
+-- none of the verdicts is
+abbrev pub AreUntouched : ModelSet → Config → List ℕ → List ℕ → List Verdict → Type 0
+AreUntouched models config table key verdicts =
+    All (λ v. ¬ IsTouched models config table key v) verdicts
+
+-- each verdict of the second list is in the first, which is as long at least
+pub record AreAmong (old new : List Verdict) : Type 0 where
+  pub each : All (Contains old) new
+  pub shorter : length new ≤ length old
+
+-- no verdict is on the entry of a place
+abbrev pub AreElsewhere : Place → List Verdict → Type 0
+AreElsewhere place verdicts = All (λ v. ¬ IsOn place.table place.key v) verdicts
+
+-- the entry is the same in both
+abbrev pub IsSame : Config → Config → List ℕ → List ℕ → Type 0
+IsSame config next table key = entry_of table key next ≡ entry_of table key config
+
+-- the entry is the same in both, or no verdict that its change may turn is left
+abbrev pub IsHandled :
+    ModelSet → Config → Config → List Verdict → List ℕ → List ℕ → Type 0
+IsHandled models config next verdicts table key =
+    IsSame config next table key ⊎ AreUntouched models config table key verdicts
+
+-- so are the entries of a table before a position
+abbrev pub AreKeysHandled :
+    ModelSet → Config → Config → List Verdict → ℕ → ℕ → Type 0
+AreKeysHandled models config next verdicts t n =
+    (table key : List ℕ) (k : ℕ) → IsEntryAt config table key t k → k < n
+    → IsHandled models config next verdicts table key
+
+-- so are all entries of the tables before a position
+abbrev pub AreHandled : ModelSet → Config → Config → List Verdict → ℕ → Type 0
+AreHandled models config next verdicts n =
+    (table key : List ℕ) (t k : ℕ) → IsEntryAt config table key t k → t < n
+    → IsHandled models config next verdicts table key

@@ -1,0 +1,46 @@
+-- What a verdict on an entry says.
+use Rattle.std.specs.Prelude.{ℕ, List, Option, option_and_then, is_some, IsTrue, Bool, ◌&&◌, not}
+use Rattle.std.specs.List.{All, Contains}
+use Rattle.std.specs.Str.{bytes_eq}
+use Rattle.conf_doc.specs.Pairs.{find}
+use Rattle.conf_doc.specs.declared.configuration.Config.{Config}
+use Rattle.conf_doc.specs.declared.configuration.Entry.{Entry}
+use Rattle.conf_check.specs.Rows.{IsShapeOf}
+use Rattle.conf_check.specs.Validity.{IsValidAt}
+use Rattle.yang_model.specs.ModelSets.{ModelSet}
+use Rattle.yang_model.specs.declared.shapes.MustRule.{MustRule}
+use Rattle.yang_model.specs.declared.shapes.Shape.{Shape}
+use Rattle.ref_index.specs.Referrers.{Indexed}
+use Rattle.recheck.specs.declared.verdicts.Verdict.{Verdict}
+
+-- the entry at a key of a table
+abbrev pub entry_of : List ℕ → List ℕ → Config → Option Entry
+entry_of table key config = option_and_then (find key) (find table config)
+
+-- entries of that key of the table have no must
+abbrev pub HasNoMusts : ModelSet → List ℕ → List ℕ → Type 0
+HasNoMusts models table key =
+    (shape : Shape) (must : MustRule) → IsShapeOf models table key shape
+    → ¬ Contains shape.musts must
+
+-- the entry is there, and it has no violation and no must
+pub record IsSound (models : ModelSet) (config : Config) (v : Verdict) : Type 0 where
+  pub there : IsTrue (is_some (entry_of v.table v.key config))
+  pub valid : IsValidAt models config v.table v.key
+  pub free : HasNoMusts models v.table v.key
+
+-- all of them are true
+abbrev pub AreSound : ModelSet → Config → List Verdict → Type 0
+AreSound models config verdicts = All (IsSound models config) verdicts
+
+-- all of them are true in the configuration of an index, by its models
+abbrev pub AreKept : Indexed → List Verdict → Type 0
+AreKept index verdicts = AreSound index.models index.config verdicts
+
+-- the verdict is on that entry
+abbrev pub is_on : List ℕ → List ℕ → Verdict → Bool
+is_on table key v = bytes_eq v.key key && bytes_eq v.table table
+
+-- it is on another one
+abbrev pub is_elsewhere : List ℕ → List ℕ → Verdict → Bool
+is_elsewhere table key v = not (is_on table key v)

@@ -1,0 +1,11 @@
+//! The rule that each step leads to a valid configuration, as a box that looks again only at what changed.
+#![tactic(auto)]
+
+mod changes;
+mod kept;
+mod rechecks;
+mod rule;
+mod verdicts;
+mod walks;
+
+pub use rule::RecheckRule;

@@ -1,0 +1,150 @@
+//! The entries of a configuration gone through in order, and those without a verdict checked.
+ghost use Rattle.std.specs.Prelude.{◌≡◌, ◌↔◌, ◌<◌, ◌≤◌, length, IfOk, IsTrue, None, is_some, MatchOption};
+ghost use Rattle.conf_check.specs.Rows.{IsShapeOf};
+ghost use Rattle.conf_check.specs.Validity.{IsValid, IsValidAt};
+ghost use Rattle.yang_model.specs.Belongs.{Belongs};
+ghost use Rattle.yang_model.specs.ModelSets.{shapes_of};
+ghost use Rattle.std.specs.Bool.{OnFalse};
+ghost use Rattle.recheck.specs.Rechecks.{IsTableValid};
+ghost use Rattle.recheck.specs.Verdicts.{AreSound, HasNoMusts, entry_of};
+
+use crate::walks::Walk;
+use conf_check::check_entry;
+use conf_doc::Config;
+use host_core::Memory;
+use key_split::KeyView;
+use yang_model::{Models, Shape};
+
+/// The shape that an entry of a table belongs to by its key.
+fn shape_of<'a>(models: &'a Models, table: &str, key: &str) -> Option<&'a Shape>
+    ensures { MatchOption result
+        (Belongs (shapes_of table.now models.now) key.now None)
+        (λ shape. IsShapeOf models.now table.now key.now shape.now) }
+{
+    match models.list_of(table, &KeyView::new(key)) {
+        Some(place) => models.shape_at(table, place),
+        None => None,
+    }
+}
+
+/// Whether entries of a key of a table have a must.
+fn has_musts(models: &Models, table: &str, key: &str) -> bool
+    ensures { OnFalse result (HasNoMusts models.now table.now key.now) }
+{
+    match shape_of(models, table, key) {
+        Some(shape) => !shape.musts.items().is_empty(),
+        None => false,
+    }
+}
+
+/// Whether an entry breaks no rule.
+fn is_valid_at(models: &Models, config: &Config, table: &str, key: &str) -> bool
+    ensures { IsTrue result ↔ IsValidAt models.now config.now table.now key.now }
+{
+    match check_entry(models, config, table, key) {
+        Ok(()) => true,
+        Err(_) => false,
+    }
+}
+
+/// Both of two answers.
+fn both(first: bool, second: bool) -> bool
+    ensures { IsTrue result ↔ (IsTrue first × IsTrue second) }
+{
+    first && second
+}
+
+/// Whether an entry breaks no rule: it has a verdict, or it is checked and counted, and gets one if it breaks
+/// none. A must may read other entries, so an entry with a must gets no verdict.
+fn check_at(
+    walk: &mut Walk,
+    checked: &mut u64,
+    models: &Models,
+    config: &Config,
+    table: &str,
+    key: &str,
+) -> Result<bool, Memory>
+    requires there { IsTrue (is_some (entry_of table.now key.now config.now)) }
+    requires sound { AreSound models.now config.now walk.old.verdicts.items }
+    ensures valid { IfOk result
+        (λ b. IsTrue b ↔ IsValidAt models.now config.now table.now key.now) }
+    ensures sound { AreSound models.now config.now walk.new.verdicts.items }
+    ensures rises { checked.old ≤ checked.new }
+{
+    if walk.passes(table, key) {
+        return Ok(true);
+    }
+    *checked = checked.saturating_add(1);
+    if !is_valid_at(models, config, table, key) {
+        return Ok(false);
+    }
+    if !has_musts(models, table, key) {
+        walk.note(table, key)?;
+    }
+    Ok(true)
+}
+
+/// Whether no entry of a table breaks a rule.
+fn check_keys(
+    walk: &mut Walk,
+    checked: &mut u64,
+    models: &Models,
+    config: &Config,
+    table: usize,
+) -> Result<bool, Memory>
+    requires within { table < length config.now }
+    requires sound { AreSound models.now config.now walk.old.verdicts.items }
+    ensures valid { IfOk result (λ b. IsTrue b ↔ IsTableValid models.now config.now table) }
+    ensures sound { AreSound models.now config.now walk.new.verdicts.items }
+    ensures rises { checked.old ≤ checked.new }
+{
+    let name = config.name_at(table);
+    let entries = config.part_at(table);
+    let mut valid = true;
+    for i in 0..entries.len() {
+        let holds = check_at(walk, checked, models, config, name, entries.name_at(i))?;
+        valid = both(valid, holds);
+    }
+    Ok(valid)
+}
+
+/// The same, where the table has a model. In one without a model nothing is looked at.
+fn check_table(
+    walk: &mut Walk,
+    checked: &mut u64,
+    models: &Models,
+    config: &Config,
+    table: usize,
+) -> Result<bool, Memory>
+    requires within { table < length config.now }
+    requires sound { AreSound models.now config.now walk.old.verdicts.items }
+    ensures valid { IfOk result (λ b. IsTrue b ↔ IsTableValid models.now config.now table) }
+    ensures sound { AreSound models.now config.now walk.new.verdicts.items }
+    ensures rises { checked.old ≤ checked.new }
+{
+    if models.modelled(config.name_at(table)) {
+        check_keys(walk, checked, models, config, table)
+    } else {
+        Ok(true)
+    }
+}
+
+/// Whether a configuration breaks no rule. Entries without a verdict are checked, and get one where they may.
+pub(crate) fn check_rest(
+    walk: &mut Walk,
+    checked: &mut u64,
+    models: &Models,
+    config: &Config,
+) -> Result<bool, Memory>
+    requires sound { AreSound models.now config.now walk.old.verdicts.items }
+    ensures valid { IfOk result (λ b. IsTrue b ↔ IsValid models.now config.now) }
+    ensures sound { AreSound models.now config.now walk.new.verdicts.items }
+    ensures rises { checked.old ≤ checked.new }
+{
+    let mut valid = true;
+    for table in 0..config.len() {
+        let holds = check_table(walk, checked, models, config, table)?;
+        valid = both(valid, holds);
+    }
+    Ok(valid)
+}

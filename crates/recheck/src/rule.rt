@@ -1,0 +1,145 @@
+//! The rule that each step leads to a valid configuration, with what it keeps between calls.
+ghost use Rattle.std.specs.Prelude.{◌≡◌, ◌↔◌, ◌≤◌, IfOk, IfSome, IsTrue};
+ghost use Rattle.conf_check.specs.Validity.{IsValid};
+ghost use Rattle.move_core.specs.Contexts.{rulebook};
+ghost use Rattle.move_core.specs.Rules.{Passes};
+
+use crate::kept::Kept;
+use crate::rechecks::check_rest;
+use crate::walks::Walk;
+use conf_check::check;
+use conf_doc::Config;
+use host_core::Memory;
+use move_core::{Ctx, Move, MoveRule};
+use std::alloc::Global;
+use yang_model::Models;
+
+/// Each move leads to a configuration that is valid by its models. It keeps an index of the configuration
+/// that it judged last and verdicts on entries of it, and checks what has none. Where memory is refused it
+/// keeps nothing, and tests the whole configuration.
+#[derive(Drop)]
+pub struct RecheckRule {
+    alloc: Global,
+    checked: u64,
+    kept: Option<Kept>,
+}
+
+/// How many entries a configuration has, or the greatest number.
+fn count_entries(config: &Config) -> u64 {
+    let mut count: u64 = 0;
+    for i in 0..config.len() {
+        count = count.saturating_add(config.part_at(i).len() as u64);
+    }
+    count
+}
+
+/// Whether a configuration breaks no rule of its models.
+fn is_valid(models: &Models, config: &Config) -> bool
+    ensures { IsTrue result ↔ IsValid models.now config.now }
+{
+    match check(models, config) {
+        Ok(()) => true,
+        Err(_) => false,
+    }
+}
+
+/// What is kept, moved to a configuration or made for it.
+fn keep(alloc: Global, kept: Option<Kept>, models: &Models, config: &Config) -> Result<Kept, Memory>
+    requires { IfSome kept (λ k. k.index.models ≡ models.now) }
+    ensures { IfOk result (λ k. k.index ≡ record { models = models.now; config = config.now }) }
+{
+    match kept {
+        Some(kept) => kept.move_to(alloc, models, config),
+        None => Kept::build(alloc, models, config),
+    }
+}
+
+/// Whether a configuration is valid, by what is kept of another one, and what is kept then.
+fn recheck(
+    alloc: Global,
+    checked: &mut u64,
+    kept: Option<Kept>,
+    models: &Models,
+    config: &Config,
+) -> Result<(bool, Kept), Memory>
+    requires { IfSome kept (λ k. k.index.models ≡ models.now) }
+    ensures valid { IfOk result (λ r. IsTrue r.0 ↔ IsValid models.now config.now) }
+    ensures models { IfOk result (λ r. r.1.index.models ≡ models.now) }
+    ensures rises { checked.old ≤ checked.new }
+{
+    let Kept { index, verdicts } = keep(alloc, kept, models, config)?;
+    let mut walk = Walk::new(alloc, verdicts);
+    let valid = check_rest(&mut walk, checked, models, config)?;
+    let verdicts = walk.into_verdicts();
+    Ok((valid, Kept { index, verdicts }))
+}
+
+impl RecheckRule {
+    /// The rule, which keeps nothing yet and has checked nothing. It takes no memory.
+    pub fn new(alloc: Global) -> RecheckRule
+        ensures kind { ⟦<RecheckRule as MoveRule>⟧.rule_kind result ≡ 1 }
+        ensures checked { result.checked ≡ 0 }
+    {
+        RecheckRule {
+            alloc,
+            checked: 0,
+            kept: None,
+        }
+    }
+
+    /// How many entries it has checked for violations since it was made, an entry counted each time. It stays
+    /// at the greatest number.
+    pub fn checked(&self) -> u64
+        ensures { result ≡ self.now.checked }
+    {
+        self.checked
+    }
+}
+
+impl MoveRule for RecheckRule {
+    ghost rule_kind = { λ _. 1 };
+
+    ghost fits = { λ rule models. IfSome rule.kept (λ k. k.index.models ≡ models) };
+
+    fn kind(&self) -> u32 {
+        1
+    }
+
+    fn begin(&mut self, ctx: &Ctx)
+        ensures fits { ⟦<RecheckRule as MoveRule>⟧.fits self.new ctx.now.models }
+        ensures kind { ⟦<RecheckRule as MoveRule>⟧.rule_kind self.new
+            ≡ ⟦<RecheckRule as MoveRule>⟧.rule_kind self.old }
+        ensures checked { self.new.checked ≡ self.old.checked }
+    {
+        self.kept = None;
+    }
+
+    fn allows(
+        &mut self,
+        ctx: &Ctx,
+        _cur: &Config,
+        next: &Config,
+        _goal: &Config,
+        _mv: &Move,
+    ) -> bool
+        requires { ⟦<RecheckRule as MoveRule>⟧.fits self.old ctx.now.models }
+        ensures allows { IsTrue result
+            ↔ Passes (rulebook ctx.now) 1 _cur.now next.now _mv.now }
+        ensures fits { ⟦<RecheckRule as MoveRule>⟧.fits self.new ctx.now.models }
+        ensures kind { ⟦<RecheckRule as MoveRule>⟧.rule_kind self.new
+            ≡ ⟦<RecheckRule as MoveRule>⟧.rule_kind self.old }
+        ensures checked { self.old.checked ≤ self.new.checked }
+    {
+        let kept = self.kept.take();
+        match recheck(self.alloc, &mut self.checked, kept, &ctx.models, next) {
+            Ok((valid, kept)) => {
+                self.kept = Some(kept);
+                valid
+            }
+            Err(Memory) => {
+                self.checked = self.checked.saturating_add(count_entries(next));
+                is_valid(&ctx.models, next)
+            }
+        }
+    }
+}
