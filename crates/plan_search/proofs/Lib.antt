@@ -1,5 +1,12 @@
+pub mod Ended
+pub mod Frames
 pub mod Kept
 pub mod Members
+pub mod OneAnswer
+pub mod Orders
+pub mod Pairs
+pub mod Parts
+pub mod Positions
 pub mod Routes
 pub mod Ruled
 pub mod Same

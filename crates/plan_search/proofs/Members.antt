@@ -67,3 +67,17 @@ module _ {A : Type 0} where
     where
       differs : (z : A) → Contains xs z → x ≢ z
       differs z h e = apart 0 (suc h.0) z (omega arith) (omega (arith, h.1)) (e ∙ sym h.2)
+
+  -- where items can be told apart, it can be told whether one is a member
+  pub is_member : ((x y : A) → (x ≡ y) ⊎ (x ≢ y)) → (xs : List A) (x : A) → Contains xs x ⊎ ¬ Contains xs x
+  is_member told [] x = inr (λ h. no_member x h)
+  is_member told (y ∷ xs) x = by (told y x) (is_member told xs x)
+    where
+      neither : y ≢ x → ¬ Contains xs x → (y ≡ x) ⊎ Contains xs x → ⊥
+      neither ne out (inl e) = ne e
+      neither ne out (inr r) = out r
+
+      by : (y ≡ x) ⊎ (y ≢ x) → Contains xs x ⊎ ¬ Contains xs x → Contains (y ∷ xs) x ⊎ ¬ Contains (y ∷ xs) x
+      by (inl e) rest = inl (subst (Contains (y ∷ xs)) e (first_member y xs))
+      by (inr ne) (inl h) = inl (later_member y xs x h)
+      by (inr ne) (inr out) = inr (λ h. neither ne out (member_cases y xs x h))

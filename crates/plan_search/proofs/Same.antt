@@ -1,5 +1,5 @@
 -- Configurations that `==` finds equal are the same.
-use Rattle.std.proofs.Common.{◌≡◌, ◌⊎◌, inl, inr, ℕ, Bool, true, false, ◌||◌, IsTrue, if◌then◌else◌, List, [], ◌∷◌, ◌++◌, refl, sym, ap, ◌∙◌, true≢false}
+use Rattle.std.proofs.Common.{◌≡◌, ◌⊎◌, inl, inr, ℕ, Bool, true, false, ◌||◌, MatchBool, not, if◌then◌else◌, List, [], ◌∷◌, ◌++◌, refl, sym, ap, subst, ◌∙◌, true≢false}
 use Rattle.std.specs.Bool.{Decides}
 use Rattle.std.specs.List.{Contains, list_any}
 use Rattle.indexmap.specs.IndexSet.{insert_key}
@@ -66,15 +66,25 @@ module _ {A : Type 0} (E : A → A → Bool) (decides : (x y : A) → Decides (E
       by rest (inl e) = ap (λ b. b || list_any (E x) ks) ((decides x k).1 (sym e))
       by rest (inr r) = ap (λ b. E x k || b) (rest r) ∙ or_true (E x k)
 
-  pub decided : (ks now : List A) (x : A) (r : Bool) → r ≡ list_any (E x) ks → ks ≡ now
-      → (IsTrue r → Contains now x) × (Contains now x → IsTrue r)
-  decided ks now x r is view =
-      let e : r ≡ list_any (E x) now = is ∙ ap (λ l. list_any (E x) l) view in
-      (λ h. Contains-list_any E (λ y z same. (decides y z).0 same) now x (sym e ∙ h), λ h. e ∙ found now x h)
-
-  pub inserted : (ks now : List A) (x : A) → ks ≡ now → ¬ Contains now x → insert_key E ks x ≡ now ++ x ∷ []
-  inserted ks now x view new = by (list_any (E x) now) refl
+  -- what adding an item says and does
+  pub added : (ks now new : List A) (x : A) (is_new : Bool) → ks ≡ now
+      → is_new ≡ not (list_any (E x) ks) → new ≡ insert_key E ks x
+      → MatchBool is_new (¬ Contains now x × (new ≡ now ++ x ∷ [])) (Contains now x × (new ≡ now))
+  added ks now new x is_new view said keys = by (list_any (E x) now) refl
     where
-      by : (b : Bool) → list_any (E x) now ≡ b → insert_key E ks x ≡ now ++ x ∷ []
-      by true e = absurd (new (Contains-list_any E (λ y z same. (decides y z).0 same) now x e))
-      by false e = ap (λ l. insert_key E l x) view ∙ ap (λ b. if b then now else now ++ x ∷ []) e
+      told : (b : Bool) → list_any (E x) now ≡ b → is_new ≡ not b
+      told b e = said ∙ ap (λ l. not (list_any (E x) l)) view ∙ ap not e
+
+      made : (b : Bool) → list_any (E x) now ≡ b → new ≡ (if b then now else now ++ x ∷ [])
+      made b e = keys ∙ ap (λ l. insert_key E l x) view ∙ ap (λ c. if c then now else now ++ x ∷ []) e
+
+      by : (b : Bool) → list_any (E x) now ≡ b
+          → MatchBool is_new (¬ Contains now x × (new ≡ now ++ x ∷ [])) (Contains now x × (new ≡ now))
+      by true e =
+          subst (λ b. MatchBool b (¬ Contains now x × (new ≡ now ++ x ∷ [])) (Contains now x × (new ≡ now)))
+          (sym (told true e))
+          (Contains-list_any E (λ y z same. (decides y z).0 same) now x e, made true e)
+      by false e =
+          subst (λ b. MatchBool b (¬ Contains now x × (new ≡ now ++ x ∷ [])) (Contains now x × (new ≡ now)))
+          (sym (told false e))
+          (λ h. true≢false (sym (found now x h) ∙ e), made false e)

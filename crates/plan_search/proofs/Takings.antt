@@ -1,215 +1,271 @@
--- What taking the next move does to a stack.
-use Rattle.std.proofs.Common.{◌≡◌, ◌⊎◌, inl, inr, ℕ, ◌<◌, ◌≤◌, ◌+◌, List, [], ◌∷◌, length, map, reverse, set, get_or, ◌-◌, ◌++◌, length-append, Option, None, Some, refl, sym, ap, subst, ◌∙◌, arith}
-use Rattle.std.specs.List.{All, Contains}
+-- What stays true when a move is taken, a part is made, or a configuration is dropped.
+use Rattle.std.proofs.Common.{◌≡◌, ◌⊎◌, inl, inr, ◌<◌, List, [], ◌∷◌, ◌++◌, length, reverse, None, Some, refl, sym, ap, subst, ◌∙◌, arith}
+use Rattle.std.specs.List.{All, AllPairs, Contains}
 use Rattle.std.proofs.lemmas.List.Elements.{All-head, All-tail}
-use Rattle.std.specs.Option.{option_to_list}
-use Rattle.std.proofs.lemmas.List.{reverse-append, set-append_right, get_or-append_right}
 use Rattle.conf_doc.specs.declared.configuration.Config.{Config}
+use Rattle.move_core.specs.Moves.{step}
 use Rattle.move_core.specs.declared.moves.Move.{Move}
-use Rattle.plan_search.specs.declared.stacks.Frame.{Frame}
-use Rattle.plan_search.specs.Problems.{Problem}
-use Rattle.plan_search.specs.Searching.{IsTrail, AreAsked, IsAskedAtTop}
-use Rattle.plan_search.specs.Stacks.{Spot, Taking, IsAfterTop, IsTop, Waits, spot, weight, but_first, take_from, take_next}
-use Rattle.plan_search.proofs.Members.{no_member, member_cases}
+use Rattle.plan_search.specs.Problems.{Problem, IsLawful, IsPart, PrecedesLater, part_count}
+use Rattle.plan_search.specs.Searching.{Awaits, Begins, IsAsked, IsLeft, IsPassed, IsStanding, IsTrail, IsTrying, IsUnderWay, Waits, weight}
+use Rattle.plan_search.specs.Stacks.{Spot, IsAfterTop, IsSpent, IsTop, but_first, next_spot, rest_length, rest_spot}
+use Rattle.plan_search.proofs.Members.{is_member, member_cases, no_member}
+use Rattle.plan_search.proofs.Pairs.{pairs_first, pairs_tail}
+use Rattle.plan_search.proofs.Trails.{turned_rest}
 
--- the move is the first one that is left at the last configuration
-pub record TakesHere (s : Spot) (ss : List Spot) (ms : List Move) (t : Taking) : Type 0 where
-  pub rest : List Move
-  pub were : s.rest ≡ t.0 ∷ rest
-  pub spots : t.1 ≡ record { config = s.config; rest = rest } ∷ ss
-  pub moves : t.2 ≡ ms
+module _ (p : Problem) where
+  -- a trail speaks of the last configuration alone, not of what is left there
+  pub same_trail : (s t : Spot) → s.config ≡ t.config → (ss : List Spot) (ms : List Move)
+      → IsTrail p (s ∷ ss) ms → IsTrail p (t ∷ ss) ms
+  same_trail s t e [] [] tr = sym e ∙ tr
+  same_trail s t e [] (m ∷ ms) tr = tr
+  same_trail s t e (u ∷ ss) [] tr = tr
+  same_trail s t e (u ∷ ss) (m ∷ ms) tr =
+      (record { allowed = tr.0.allowed; leads = sym e ∙ tr.0.leads; first = tr.0.first }, tr.1)
 
--- it is so there, or no move is left there and it is so below
-abbrev pub Takes : List Spot → List Move → Taking → Type 0
-Takes [] ms t = ⊥
-Takes (s ∷ ss) ms t = TakesHere s ss ms t ⊎ ((s.rest ≡ []) × Takes ss (but_first ms) t)
+  -- ---- a move taken
 
--- no move is left anywhere
-abbrev pub AreSpent : List Spot → Type 0
-AreSpent [] = Unit {0}
-AreSpent (s ∷ ss) = (s.rest ≡ []) × AreSpent ss
+  module _ (s : Spot) (m : Move) (rest : List Move) (were : s.rest ≡ m ∷ rest) where
+    -- what was left is the move or is left still
+    left_taken : (n : Move) → IsLeft p s n → (m ≡ n) ⊎ IsLeft p (rest_spot s rest) n
+    left_taken n (inl h) = by (member_cases m rest n (subst (λ l. Contains l n) were h))
+      where
+        by : (m ≡ n) ⊎ Contains rest n → (m ≡ n) ⊎ IsLeft p (rest_spot s rest) n
+        by (inl e) = inl e
+        by (inr r) = inr (inl r)
+    left_taken n (inr h) = inr (inr h)
 
-same_some : {A : Type 0} (x y : A) → Some x ≡ Some y → x ≡ y
-same_some x y e = cc
+    -- the move stands before what is left still
+    first_taken : IsAsked p s → (n : Move) → IsLeft p (rest_spot s rest) n → p.Precedes s.config m n
+    first_taken a n (inl h) =
+        pairs_first (p.Precedes s.config) m rest (subst (AllPairs (p.Precedes s.config)) were a.order) n h
+    first_taken a n (inr h) =
+        All-head (PrecedesLater p s.config s.parts) m rest
+        (subst (All (PrecedesLater p s.config s.parts)) were a.later) n h.0 h.1
 
-pub takes : (ss : List Spot) (ms : List Move) (t : Taking) → take_next ss ms ≡ Some t → Takes ss ms t
-takes [] ms t e = absurd cc
-takes (s ∷ ss) ms t e = by (takes ss (but_first ms) t) s.rest refl e
-  where
-    by : (take_next ss (but_first ms) ≡ Some t → Takes ss (but_first ms) t)
-        → (rest : List Move) → s.rest ≡ rest
-        → take_from s.config ss ms (take_next ss (but_first ms)) rest ≡ Some t → Takes (s ∷ ss) ms t
-    by below [] is e = inr (is, below e)
-    by below (m ∷ rest) is e =
-        let same : (m, record { config = s.config; rest = rest } ∷ ss, ms) ≡ t = same_some _ _ e in
-        inl (record {
-          rest = rest;
-          were = is ∙ ap (λ u. u.0 ∷ rest) same;
-          spots = sym (ap (λ u. u.1) same);
-          moves = sym (ap (λ u. u.2) same);
-        })
+    asked_taken : IsAsked p s → IsAsked p (rest_spot s rest)
+    asked_taken a = record {
+      fit = a.fit;
+      parts = a.parts;
+      each = All-tail (p.IsListed s.config) m rest (subst (All (p.IsListed s.config)) were a.each);
+      order = pairs_tail (p.Precedes s.config) m rest (subst (AllPairs (p.Precedes s.config)) were a.order);
+      later =
+          All-tail (PrecedesLater p s.config s.parts) m rest
+          (subst (All (PrecedesLater p s.config s.parts)) were a.later);
+    }
 
-pub spent : (ss : List Spot) (ms : List Move) → take_next ss ms ≡ None → AreSpent ss
-spent [] ms e = tt
-spent (s ∷ ss) ms e = by (spent ss (but_first ms)) s.rest refl e
-  where
-    by : (take_next ss (but_first ms) ≡ None → AreSpent ss)
-        → (rest : List Move) → s.rest ≡ rest
-        → take_from s.config ss ms (take_next ss (but_first ms)) rest ≡ None → AreSpent (s ∷ ss)
-    by below [] is e = (is, below e)
-    by below (m ∷ rest) is e = absurd cc
+    standing_taken : (met : List Config) (ss : List Spot) (ms : List Move)
+        → IsStanding p met (s ∷ ss) ms → IsStanding p met (rest_spot s rest ∷ ss) ms
+    standing_taken met ss ms st = record {
+      trail = same_trail s (rest_spot s rest) refl ss ms st.trail;
+      asked = (asked_taken st.asked.0, st.asked.1);
+      apart = st.apart;
+      known = st.known;
+      depth = st.depth;
+    }
 
--- ---- what is left to try
+    waits_taken : (ss : List Spot) (c : Config) (n : Move)
+        → Waits p (s ∷ ss) c n → Waits p (rest_spot s rest ∷ ss) c n ⊎ ((s.config ≡ c) × (n ≡ m))
+    waits_taken ss c n (inl at) = by (left_taken n at.1)
+      where
+        by : (m ≡ n) ⊎ IsLeft p (rest_spot s rest) n
+            → Waits p (rest_spot s rest ∷ ss) c n ⊎ ((s.config ≡ c) × (n ≡ m))
+        by (inl e) = inr (at.0, sym e)
+        by (inr l) = inl (inl (at.0, l))
+    waits_taken ss c n (inr below) = inl (inr below)
 
-pub waits_taken : (ss : List Spot) (ms : List Move) (t : Taking) (c : Config) (m : Move)
-    → Takes ss ms t → Waits ss c m → Waits t.1 c m ⊎ (IsTop t.1 c × (m ≡ t.0))
-waits_taken [] ms t c m k w = absurd k
-waits_taken (s ∷ ss) ms t c m (inl here) (inr below) =
-    inl (subst (λ l. Waits l c m) (sym here.spots) (inr below))
-waits_taken (s ∷ ss) ms t c m (inl here) (inl at) =
-    by (member_cases t.0 here.rest m (subst (λ l. Contains l m) here.were at.1))
-  where
-    by : (t.0 ≡ m) ⊎ Contains here.rest m → Waits t.1 c m ⊎ (IsTop t.1 c × (m ≡ t.0))
-    by (inl e) = inr (subst (λ l. IsTop l c) (sym here.spots) at.0, sym e)
-    by (inr r) = inl (subst (λ l. Waits l c m) (sym here.spots) (inl (at.0, r)))
-waits_taken (s ∷ ss) ms t c m (inr k) (inl at) =
-    absurd (no_member m (subst (λ l. Contains l m) k.0 at.1))
-waits_taken (s ∷ ss) ms t c m (inr k) (inr below) = waits_taken ss (but_first ms) t c m k.1 below
+    awaits_taken : (ss : List Spot) (ms way : List Move)
+        → Awaits p (s ∷ ss) ms way → Awaits p (rest_spot s rest ∷ ss) ms way ⊎ Begins p (reverse (m ∷ ms)) way
+    awaits_taken ss ms way (inl at) = by (left_taken at.0 at.3)
+      where
+        by : (m ≡ at.0) ⊎ IsLeft p (rest_spot s rest) at.0
+            → Awaits p (rest_spot s rest ∷ ss) ms way ⊎ Begins p (reverse (m ∷ ms)) way
+        by (inl e) =
+            inr (at.1, at.2 ∙ ap (λ n. reverse ms ++ n ∷ at.1) (sym e) ∙ sym (turned_rest m ms at.1))
+        by (inr l) = inl (inl (at.0, at.1, at.2, l))
+    awaits_taken ss ms way (inr w) = inl (inr w)
 
-pub none_waits : (ss : List Spot) (c : Config) (m : Move) → AreSpent ss → ¬ Waits ss c m
-none_waits [] c m sp w = w
-none_waits (s ∷ ss) c m sp (inl at) = no_member m (subst (λ l. Contains l m) sp.0 at.1)
-none_waits (s ∷ ss) c m sp (inr below) = none_waits ss c m sp.1 below
+    trying : (met : List Config) (ss : List Spot) (ms : List Move)
+        → IsUnderWay p met (s ∷ ss) ms → IsTrying p met (rest_spot s rest ∷ ss) ms m
+    trying met ss ms w = record {
+      standing = standing_taken met ss ms w.standing;
+      next = (
+        All-head (p.IsListed s.config) m rest (subst (All (p.IsListed s.config)) were w.standing.asked.0.each),
+        first_taken w.standing.asked.0,
+      );
+      on = λ c n known allowed. on c n (w.on c n known allowed);
+      ways = λ way x simple. ways way x (w.ways way x simple);
+    }
+      where
+        on : (c : Config) (n : Move) → Contains met (step c n) ⊎ Waits p (s ∷ ss) c n
+            → (Contains met (step c n) ⊎ Waits p (rest_spot s rest ∷ ss) c n)
+            ⊎ (IsTop (rest_spot s rest ∷ ss) c × (n ≡ m))
+        on c n (inl h) = inl (inl h)
+        on c n (inr waits) = of (waits_taken ss c n waits)
+          where
+            of : Waits p (rest_spot s rest ∷ ss) c n ⊎ ((s.config ≡ c) × (n ≡ m))
+                → (Contains met (step c n) ⊎ Waits p (rest_spot s rest ∷ ss) c n)
+                ⊎ (IsTop (rest_spot s rest ∷ ss) c × (n ≡ m))
+            of (inl h) = inl (inr h)
+            of (inr h) = inr h
+
+        ways : (way : List Move) (x : Config)
+            → Contains met x ⊎ (Awaits p (s ∷ ss) ms way ⊎ ⊥)
+            → Contains met x ⊎ (Awaits p (rest_spot s rest ∷ ss) ms way ⊎ Begins p (reverse (m ∷ ms)) way)
+        ways way x (inl h) = inl h
+        ways way x (inr (inl a)) = inr (awaits_taken ss ms way a)
+        ways way x (inr (inr n)) = absurd n
+
+  pub trying_taken : (met : List Config) (ss new : List Spot) (ms : List Move) (m : Move)
+      → IsAfterTop ss new (Some m) → IsUnderWay p met ss ms → IsTrying p met new ms m
+  trying_taken met [] new ms m h w = absurd h
+  trying_taken met (s ∷ ss) new ms m h w =
+      subst (λ l. IsTrying p met l ms m) (sym h.2) (trying s m h.0 h.1 met ss ms w)
+
+  -- with none left of the part all stays
+  pub spent_same : (ss new : List Spot) → IsAfterTop ss new None → (new ≡ ss) × IsSpent new
+  spent_same [] new h = absurd h
+  spent_same (s ∷ ss) new h = (h.1, subst IsSpent (sym h.1) h.0)
+
+  -- ---- a part made
+
+  module _ (lawful : IsLawful p) (s : Spot) (moves : List Move) (empty : s.rest ≡ [])
+      (more : s.parts < part_count) (part : IsPart p s.config s.parts moves) where
+    left_filled : (n : Move) → IsLeft p s n → IsLeft p (next_spot s moves) n
+    left_filled n (inl h) = absurd (no_member n (subst (λ l. Contains l n) empty h))
+    left_filled n (inr h) = by (is_member lawful.told moves n)
+      where
+        by : Contains moves n ⊎ ¬ Contains moves n → IsLeft p (next_spot s moves) n
+        by (inl there) = inl there
+        by (inr out) = inr (h.0, λ within. out (part.all n within h.1))
+
+    waits_filled : (ss : List Spot) (c : Config) (n : Move)
+        → Waits p (s ∷ ss) c n → Waits p (next_spot s moves ∷ ss) c n
+    waits_filled ss c n (inl at) = inl (at.0, left_filled n at.1)
+    waits_filled ss c n (inr below) = inr below
+
+    awaits_filled : (ss : List Spot) (ms way : List Move)
+        → Awaits p (s ∷ ss) ms way → Awaits p (next_spot s moves ∷ ss) ms way
+    awaits_filled ss ms way (inl at) = inl (at.0, at.1, at.2, left_filled at.0 at.3)
+    awaits_filled ss ms way (inr w) = inr w
+
+    asked_filled : IsAsked p s → IsAsked p (next_spot s moves)
+    asked_filled a = record {
+      fit = a.fit;
+      parts = omega (arith, more);
+      each = part.each;
+      order = part.order;
+      later = part.later;
+    }
+
+    filled : (met : List Config) (ss : List Spot) (ms : List Move)
+        → IsUnderWay p met (s ∷ ss) ms → IsUnderWay p met (next_spot s moves ∷ ss) ms
+    filled met ss ms w = record {
+      standing = record {
+        trail = same_trail s (next_spot s moves) refl ss ms w.standing.trail;
+        asked = (asked_filled w.standing.asked.0, w.standing.asked.1);
+        apart = w.standing.apart;
+        known = w.standing.known;
+        depth = w.standing.depth;
+      };
+      on = λ c n known allowed. on c n (w.on c n known allowed);
+      ways = λ way x simple. ways way x (w.ways way x simple);
+    }
+      where
+        on : (c : Config) (n : Move) → Contains met (step c n) ⊎ Waits p (s ∷ ss) c n
+            → Contains met (step c n) ⊎ Waits p (next_spot s moves ∷ ss) c n
+        on c n (inl h) = inl h
+        on c n (inr waits) = inr (waits_filled ss c n waits)
+
+        ways : (way : List Move) (x : Config)
+            → Contains met x ⊎ (Awaits p (s ∷ ss) ms way ⊎ ⊥)
+            → Contains met x ⊎ (Awaits p (next_spot s moves ∷ ss) ms way ⊎ ⊥)
+        ways way x (inl h) = inl h
+        ways way x (inr (inl a)) = inr (inl (awaits_filled ss ms way a))
+        ways way x (inr (inr n)) = absurd n
+
+  -- ---- a configuration dropped
+
+  module _ (lawful : IsLawful p) (s : Spot) (empty : s.rest ≡ []) (all : s.parts ≡ part_count) where
+    none_left : (n : Move) → ¬ IsLeft p s n
+    none_left n (inl h) = no_member n (subst (λ l. Contains l n) empty h)
+    none_left n (inr h) =
+        lawful.all s.config n h.0 (λ within. h.1 (subst (λ k. p.IsWithin s.config k n) (sym all) within))
+
+    waits_dropped : (ss : List Spot) (c : Config) (n : Move) → Waits p (s ∷ ss) c n → Waits p ss c n
+    waits_dropped ss c n (inl at) = absurd (none_left n at.1)
+    waits_dropped ss c n (inr below) = below
+
+    awaits_dropped : (ss : List Spot) (ms way : List Move)
+        → Awaits p (s ∷ ss) ms way → Awaits p ss (but_first ms) way
+    awaits_dropped ss ms way (inl at) = absurd (none_left at.0 at.3)
+    awaits_dropped ss ms way (inr w) = w
+
+    trail_dropped : (ss : List Spot) (ms : List Move) → IsTrail p (s ∷ ss) ms → IsTrail p ss (but_first ms)
+    trail_dropped [] [] tr = refl
+    trail_dropped [] (m ∷ ms) tr = absurd tr
+    trail_dropped (u ∷ ss) [] tr = absurd tr
+    trail_dropped (u ∷ ss) (m ∷ ms) tr = tr.1
+
+    dropped : (met : List Config) (ss : List Spot) (ms : List Move)
+        → IsUnderWay p met (s ∷ ss) ms → IsUnderWay p met ss (but_first ms)
+    dropped met ss ms w = record {
+      standing = record {
+        trail = trail_dropped ss ms w.standing.trail;
+        asked = w.standing.asked.1;
+        apart = w.standing.apart.1;
+        known = λ c h. w.standing.known c (inr h);
+        depth = let d = w.standing.depth in omega (arith, d);
+      };
+      on = λ c n known allowed. on c n (w.on c n known allowed);
+      ways = λ way x simple. ways way x (w.ways way x simple);
+    }
+      where
+        on : (c : Config) (n : Move) → Contains met (step c n) ⊎ Waits p (s ∷ ss) c n
+            → Contains met (step c n) ⊎ Waits p ss c n
+        on c n (inl h) = inl h
+        on c n (inr waits) = inr (waits_dropped ss c n waits)
+
+        ways : (way : List Move) (x : Config)
+            → Contains met x ⊎ (Awaits p (s ∷ ss) ms way ⊎ ⊥)
+            → Contains met x ⊎ (Awaits p ss (but_first ms) way ⊎ ⊥)
+        ways way x (inl h) = inl h
+        ways way x (inr (inl a)) = inr (inl (awaits_dropped ss ms way a))
+        ways way x (inr (inr n)) = absurd n
+
+  -- ---- one of the two
+
+  pub passed_on : (met : List Config) (ss new : List Spot) (ms taken : List Move)
+      → IsLawful p → IsSpent ss → IsPassed p ss ms new taken → IsUnderWay p met ss ms → IsUnderWay p met new taken
+  passed_on met [] new ms taken lawful spent h w = absurd h
+  passed_on met (s ∷ ss) new ms taken lawful spent (inl h) w =
+      subst (λ l. IsUnderWay p met l taken) (sym h.1)
+      (subst (IsUnderWay p met ss) (sym h.2) (dropped lawful s spent h.0 met ss ms w))
+  passed_on met (s ∷ ss) new ms taken lawful spent (inr h) w =
+      subst (λ l. IsUnderWay p met l taken) (sym h.0.is)
+      (subst (IsUnderWay p met (next_spot s h.0.moves ∷ ss)) (sym h.1)
+      (filled lawful s h.0.moves spent h.0.more h.0.part met ss ms w))
 
 -- ---- sizes
 
-pub depth_taken : (ss : List Spot) (ms : List Move) (t : Taking) → Takes ss ms t → length t.1 ≤ length ss
-depth_taken [] ms t k = absurd k
-depth_taken (s ∷ ss) ms t (inl here) = let e = ap length here.spots in omega (arith, e)
-depth_taken (s ∷ ss) ms t (inr k) =
-    let h = depth_taken ss (but_first ms) t k.1 in omega (arith, h)
+-- a move taken leaves as many parts
+pub weight_taken : (ss new : List Spot) (m : Move) → IsAfterTop ss new (Some m) → weight new ≡ weight ss
+weight_taken [] new m h = absurd h
+weight_taken (s ∷ ss) new m h = ap weight h.2
 
-pub weight_taken : (ss : List Spot) (ms : List Move) (t : Taking) → Takes ss ms t → weight t.1 < weight ss
-weight_taken [] ms t k = absurd k
-weight_taken (s ∷ ss) ms t (inl here) =
-    let e = ap weight here.spots in let f = ap length here.were in omega (arith, e, f)
-weight_taken (s ∷ ss) ms t (inr k) =
-    let h = weight_taken ss (but_first ms) t k.1 in omega (arith, h)
+-- and a configuration
+pub some_taken : (ss new : List Spot) (m : Move) → IsAfterTop ss new (Some m) → 0 < length new
+some_taken [] new m h = absurd h
+some_taken (s ∷ ss) new m h = let e = ap length h.2 in omega (arith, e)
 
--- ---- the trail
+-- and a move less
+pub rest_taken : (ss new : List Spot) (m : Move) → IsAfterTop ss new (Some m) → rest_length new < rest_length ss
+rest_taken [] new m h = absurd h
+rest_taken (s ∷ ss) new m h =
+    let left = ap rest_length h.2 in
+    let was = ap length h.1 in
+    omega (arith, left, was)
 
-module _ (p : Problem) where
-  -- the moves that are left don't matter
-  pub same_trail : (c : Config) (rest other : List Move) (ss : List Spot) (ms : List Move)
-      → IsTrail p (record { config = c; rest = rest } ∷ ss) ms
-      → IsTrail p (record { config = c; rest = other } ∷ ss) ms
-  same_trail c rest other [] [] tr = tr
-  same_trail c rest other [] (m ∷ ms) tr = tr
-  same_trail c rest other (u ∷ ss) [] tr = tr
-  same_trail c rest other (u ∷ ss) (m ∷ ms) tr = tr
-
-  trail_below : (s u : Spot) (ss : List Spot) (ms : List Move)
-      → IsTrail p (s ∷ u ∷ ss) ms → IsTrail p (u ∷ ss) (but_first ms)
-  trail_below s u ss [] tr = absurd tr
-  trail_below s u ss (m ∷ ms) tr = tr.2
-
-  pub trail_taken : (ss : List Spot) (ms : List Move) (t : Taking)
-      → Takes ss ms t → IsTrail p ss ms → IsTrail p t.1 t.2
-  trail_taken [] ms t k tr = absurd k
-  trail_taken (s ∷ ss) ms t (inl here) tr =
-      subst (λ l. IsTrail p t.1 l) (sym here.moves)
-      (subst (λ l. IsTrail p l ms) (sym here.spots) (same_trail s.config s.rest here.rest ss ms tr))
-  trail_taken (s ∷ []) ms t (inr k) tr = absurd k.1
-  trail_taken (s ∷ u ∷ ss) ms t (inr k) tr =
-      trail_taken (u ∷ ss) (but_first ms) t k.1 (trail_below s u ss ms tr)
-
-  pub asked_taken : (ss : List Spot) (ms : List Move) (t : Taking)
-      → Takes ss ms t → AreAsked p ss → AreAsked p t.1 × IsAskedAtTop p t.1 t.0
-  asked_taken [] ms t k a = absurd k
-  asked_taken (s ∷ ss) ms t (inl here) a =
-      let l : All (p.IsListed s.config) (t.0 ∷ here.rest) = subst (All (p.IsListed s.config)) here.were a.0.1 in (
-        subst (AreAsked p) (sym here.spots) ((a.0.0, All-tail (p.IsListed s.config) t.0 here.rest l), a.1),
-        subst (λ x. IsAskedAtTop p x t.0) (sym here.spots) (a.0.0, All-head (p.IsListed s.config) t.0 here.rest l),
-      )
-  asked_taken (s ∷ ss) ms t (inr k) a = asked_taken ss (but_first ms) t k.1 a.1
-
--- ---- the last configuration
-
--- the next move is the one that was taken there
-pub next_here : (ss new : List Spot) (ms : List Move) (m : Move)
-    → IsAfterTop ss new (Some m) → take_next ss ms ≡ Some (m, new, ms)
-next_here [] new ms m h = absurd h
-next_here (s ∷ ss) new ms m h =
-    ap (take_from s.config ss ms (take_next ss (but_first ms))) h.1 ∙ ap (λ l. Some (m, l, ms)) (sym h.2)
-
--- with none there, it is the next one below
-pub next_below : (ss new : List Spot) (ms : List Move)
-    → IsAfterTop ss new None → take_next ss ms ≡ take_next (but_first new) (but_first ms)
-next_below [] new ms h = absurd h
-next_below (s ∷ ss) new ms h =
-    ap (take_from s.config ss ms (take_next ss (but_first ms))) h.0
-    ∙ ap (λ l. take_next (but_first l) (but_first ms)) (sym h.1)
-
--- ---- frames
-
--- a list that isn't empty is what stands before its last item, and that item
-split_last : {A : Type 0} (x : A) (xs : List A) → (front : List A) × (last : A) × (x ∷ xs ≡ front ++ last ∷ [])
-split_last x [] = ([], x, refl)
-split_last x (y ∷ ys) =
-    let s = split_last y ys in
-    (x ∷ s.0, s.1, ap (λ zs. x ∷ zs) s.2)
-
--- a list turned round begins with the last item
-turned : {A : Type 0} (front : List A) (last : A) → reverse (front ++ last ∷ []) ≡ last ∷ reverse front
-turned front last = reverse-append front (last ∷ [])
-
--- a spot is what a frame says
-spot_of : (f new : Frame) → new.config ≡ f.config
-    → spot new ≡ record { config = f.config; rest = reverse new.rest.items }
-spot_of f new e = ap (λ c. record { config = c; rest = reverse new.rest.items }) e
-
-after_top : (f new : Frame) (ss : List Spot) (r : Option Move)
-    → new.config ≡ f.config → f.rest.items ≡ new.rest.items ++ option_to_list r
-    → (r ≡ None → new.rest.items ≡ []) → IsAfterTop (spot f ∷ ss) (spot new ∷ ss) r
-after_top f new ss None config items none =
-    let empty : f.rest.items ≡ [] = items ∙ ap (λ l. l ++ []) (none refl) in (
-      ap reverse empty,
-      ap (λ s. s ∷ ss) (spot_of f new config ∙ ap (λ l. record { config = f.config; rest = reverse l }) (none refl ∙ sym empty)),
-    )
-after_top f new ss (Some m) config items none =
-    (reverse new.rest.items, ap reverse items ∙ turned new.rest.items m, ap (λ s. s ∷ ss) (spot_of f new config))
-
-written : (front : List Frame) (last f new : Frame) (i : ℕ) (r : Option Move)
-    → i ≡ length front → f ≡ get_or (front ++ last ∷ []) i f
-    → new.config ≡ f.config → f.rest.items ≡ new.rest.items ++ option_to_list r
-    → (r ≡ None → new.rest.items ≡ [])
-    → IsAfterTop (map spot (reverse (front ++ last ∷ []))) (map spot (reverse (set (front ++ last ∷ []) i new))) r
-written front last f new i r is at config items none =
-    let zero : i - length front ≡ 0 = omega arith in
-    let read : f ≡ last =
-    at ∙ get_or-append_right front (last ∷ []) (length front) i f refl (omega arith)
-    ∙ ap (λ n. get_or (last ∷ []) n f) zero in
-    let write : set (front ++ last ∷ []) i new ≡ front ++ new ∷ [] =
-    set-append_right front (last ∷ []) (length front) i new refl (omega arith)
-    ∙ ap (λ n. front ++ set (last ∷ []) n new) zero in
-    let old : map spot (reverse (front ++ last ∷ [])) ≡ spot f ∷ map spot (reverse front) =
-    ap (map spot) (turned front last) ∙ ap (λ g. spot g ∷ map spot (reverse front)) (sym read) in
-    let later : map spot (reverse (set (front ++ last ∷ []) i new)) ≡ spot new ∷ map spot (reverse front) =
-    ap (λ l. map spot (reverse l)) write ∙ ap (map spot) (turned front new) in
-    subst (λ l. IsAfterTop l (map spot (reverse (set (front ++ last ∷ []) i new))) r) (sym old)
-    (subst (λ l. IsAfterTop (spot f ∷ map spot (reverse front)) l r) (sym later)
-    (after_top f new (map spot (reverse front)) r config items none))
-
--- the last frame is written
-pub top_written : (fs : List Frame) (f new : Frame) (i : ℕ) (r : Option Move)
-    → i + 1 ≡ length fs → f ≡ get_or fs i f
-    → new.config ≡ f.config → f.rest.items ≡ new.rest.items ++ option_to_list r
-    → (r ≡ None → new.rest.items ≡ [])
-    → IsAfterTop (map spot (reverse fs)) (map spot (reverse (set fs i new))) r
-top_written [] f new i r is at config items none = absurd (omega arith)
-top_written (x ∷ xs) f new i r is at config items none =
-    let s = split_last x xs in
-    let long = ap length s.2 in
-    let more = length-append s.0 (s.1 ∷ []) in
-    let w = written s.0 s.1 f new i r (omega (arith, is, long, more)) (at ∙ ap (λ l. get_or l i f) s.2) config items none in
-    subst (λ l. IsAfterTop (map spot (reverse l)) (map spot (reverse (set l i new))) r) (sym s.2) w
+-- where no configuration is left
+pub some_spots : (ss : List Spot) → (ss ≡ [] → ⊥) → 0 < length ss
+some_spots [] ne = absurd (ne refl)
+some_spots (s ∷ ss) ne = omega arith

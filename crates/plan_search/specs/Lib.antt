@@ -1,5 +1,7 @@
 -- what public clauses cite
 pub mod Counting
+pub mod FirstLaws
+pub mod FirstWays
 pub mod Searches
 -- what only private clauses cite
 pub mod Answers

@@ -1,41 +1,69 @@
 -- What a search keeps true.
-use Rattle.std.specs.Prelude.{◌≡◌, ◌≢◌, ◌⊎◌, ◌≤◌, ◌<◌, List, [], ◌∷◌, ◌++◌, length, reverse, All}
+use Rattle.std.specs.Prelude.{◌≡◌, ◌≢◌, ◌⊎◌, ℕ, ◌+◌, ◌-◌, ◌≤◌, ◌<◌, List, [], ◌∷◌, ◌++◌, length, reverse, All}
 use Rattle.std.specs.List.{AllPairs, Contains}
 use Rattle.conf_doc.specs.declared.configuration.Config.{Config}
 use Rattle.move_core.specs.Moves.{step}
 use Rattle.move_core.specs.declared.moves.Move.{Move}
-use Rattle.plan_search.specs.Problems.{Problem, IsRoute, CanReachBeside}
-use Rattle.plan_search.specs.Stacks.{Spot, IsTop, Waits}
+use Rattle.plan_search.specs.Problems.{Problem, IsAhead, IsPart, IsSimpleRoute, PrecedesLater, part_count}
+use Rattle.plan_search.specs.Stacks.{Spot, IsTop, but_first, next_spot}
 use Rattle.plan_search.specs.declared.searching.Found.{Found}
 use Rattle.plan_search.specs.declared.searching.Found.TheVariants.{Goal, New, Nothing}
 
 module _ (p : Problem) where
   -- ---- the stack
 
+  -- the move is left to try there: in the rest of a part, or in a later part
+  abbrev pub IsLeft : Spot → Move → Type 0
+  IsLeft s m =
+      Contains s.rest m ⊎ (p.IsListed s.config m × ¬ p.IsWithin s.config s.parts m)
+
+  -- the move is left to try at the configuration
+  abbrev pub Waits : List Spot → Config → Move → Type 0
+  Waits [] c m = ⊥
+  Waits (s ∷ ss) c m = ((s.config ≡ c) × IsLeft s m) ⊎ Waits ss c m
+
+  -- a move was taken there that leads to a configuration, and stands before those that are left
+  pub record IsTaken (s : Spot) (m : Move) (next : Config) : Type 0 where
+    pub allowed : p.IsAllowed s.config m
+    pub leads : next ≡ step s.config m
+    pub first : (n : Move) → IsLeft s n → p.Precedes s.config m n
+
   -- the moves lead from start through the configurations
   abbrev pub IsTrail : List Spot → List Move → Type 0
-  IsTrail [] ms = ⊥
+  IsTrail [] ms = ms ≡ []
   IsTrail (s ∷ []) [] = s.config ≡ p.start
   IsTrail (s ∷ []) (m ∷ ms) = ⊥
   IsTrail (s ∷ t ∷ ss) [] = ⊥
-  IsTrail (s ∷ t ∷ ss) (m ∷ ms) =
-      p.IsAllowed t.config m × (s.config ≡ step t.config m) × IsTrail (t ∷ ss) ms
+  IsTrail (s ∷ t ∷ ss) (m ∷ ms) = IsTaken t m s.config × IsTrail (t ∷ ss) ms
 
-  -- at each configuration of the stack moves can be asked for, and those left are listed
+  -- the configuration stands on the stack
+  abbrev pub IsOn : List Spot → Config → Type 0
+  IsOn [] c = ⊥
+  IsOn (s ∷ ss) c = (s.config ≡ c) ⊎ IsOn ss c
+
+  -- no configuration stands on it twice
+  abbrev pub AreApart : List Spot → Type 0
+  AreApart [] = Unit {0}
+  AreApart (s ∷ ss) = ¬ IsOn ss s.config × AreApart ss
+
+  -- moves can be asked for there, and those left of a part are listed, in order, before all later ones
+  pub record IsAsked (s : Spot) : Type 0 where
+    pub fit : p.IsFit s.config
+    pub parts : s.parts ≤ part_count
+    pub each : All (p.IsListed s.config) s.rest
+    pub order : AllPairs (p.Precedes s.config) s.rest
+    pub later : All (PrecedesLater p s.config s.parts) s.rest
+
+  -- it is so at each configuration of the stack
   abbrev pub AreAsked : List Spot → Type 0
   AreAsked [] = Unit {0}
-  AreAsked (s ∷ ss) = (p.IsFit s.config × All (p.IsListed s.config) s.rest) × AreAsked ss
-
-  -- moves can be asked for at the stack's last configuration, and the move is listed there
-  abbrev pub IsAskedAtTop : List Spot → Move → Type 0
-  IsAskedAtTop [] m = ⊥
-  IsAskedAtTop (s ∷ ss) m = p.IsFit s.config × p.IsListed s.config m
+  AreAsked (s ∷ ss) = IsAsked s × AreAsked ss
 
   -- ---- what was met
 
-  -- each configuration that was met can be reached, isn't goal, and stands once; start is among them
+  -- each configuration that was met is ahead of goal, and stands once; start is among them
   pub record AreMet (met : List Config) : Type 0 where
-    pub each : All (CanReachBeside p) met
+    pub each : All (IsAhead p) met
     pub distinct : AllPairs (λ a b. a ≢ b) met
     pub first : Contains met p.start
 
@@ -50,50 +78,109 @@ module _ (p : Problem) where
   IsClosed met =
       (c : Config) (m : Move) → Contains met c → p.IsAllowed c m → Contains met (step c m)
 
+  -- ---- ways
+
+  -- the way follows the trail to the spot, and its next move is left to try there
+  abbrev pub AwaitsAt : Spot → List Move → List Move → Type 0
+  AwaitsAt s ms way =
+      (n : Move) × (rest : List Move) × (way ≡ reverse ms ++ n ∷ rest) × IsLeft s n
+
+  -- it is so at some configuration of the stack
+  abbrev pub Awaits : List Spot → List Move → List Move → Type 0
+  Awaits [] ms way = ⊥
+  Awaits (s ∷ ss) ms way = AwaitsAt s ms way ⊎ Awaits ss (but_first ms) way
+
+  -- the way begins with the moves
+  abbrev pub Begins : List Move → List Move → Type 0
+  Begins ms way = (rest : List Move) × (way ≡ ms ++ rest)
+
+  -- what some simple way leads to was met, or the way goes on where moves are left, or is another one
+  abbrev pub WaysLead : (List Move → Type 0) → List Config → List Spot → List Move → Type 0
+  WaysLead IsOther met ss ms =
+      (way : List Move) (x : Config) → IsSimpleRoute p way x
+      → Contains met x ⊎ (Awaits ss ms way ⊎ IsOther way)
+
   -- ---- the search
 
-  -- the stack stands on a trail, and what was met leads on
-  pub record IsUnderWay (met known : List Config) (ss : List Spot) (ms : List Move) : Type 0 where
+  -- the stack stands on a trail of configurations that were met
+  pub record IsStanding (met : List Config) (ss : List Spot) (ms : List Move) : Type 0 where
     pub trail : IsTrail ss ms
     pub asked : AreAsked ss
-    pub on : LeadsOn met known ss
+    pub apart : AreApart ss
+    pub known : (c : Config) → IsOn ss c → Contains met c
     pub depth : length ss ≤ length met
 
-  -- so it is but for a move at the stack's last configuration
+  -- so it is, and what was met leads on
+  pub record IsUnderWay (met : List Config) (ss : List Spot) (ms : List Move) : Type 0 where
+    pub standing : IsStanding met ss ms
+    pub on : LeadsOn met met ss
+    pub ways : WaysLead (λ way. ⊥) met ss ms
+
+  -- a move at the stack's last configuration leads to another
+  abbrev pub IsTakenLast : List Spot → Move → Config → Type 0
+  IsTakenLast [] m next = ⊥
+  IsTakenLast (s ∷ ss) m next = IsTaken s m next
+
+  -- the move is listed at the stack's last configuration and stands before those that are left there
+  abbrev pub IsNextLast : List Spot → Move → Type 0
+  IsNextLast [] m = ⊥
+  IsNextLast (s ∷ ss) m =
+      p.IsListed s.config m × ((n : Move) → IsLeft s n → p.Precedes s.config m n)
+
+  -- it is under way but for a move at the stack's last configuration
   pub record IsTrying (met : List Config) (ss : List Spot) (ms : List Move) (mv : Move)
       : Type 0 where
-    pub trail : IsTrail ss ms
-    pub asked : AreAsked ss
-    pub top : IsAskedAtTop ss mv
+    pub standing : IsStanding met ss ms
+    pub next : IsNextLast ss mv
     pub on :
         (c : Config) (m : Move) → Contains met c → p.IsAllowed c m
         → (Contains met (step c m) ⊎ Waits ss c m) ⊎ (IsTop ss c × (m ≡ mv))
-    pub depth : length ss ≤ length met
+    pub ways : WaysLead (Begins (reverse (mv ∷ ms))) met ss ms
 
-  -- the move leads to goal
-  pub record LeadsToGoal (met : List Config) (ms : List Move) (mv : Move) : Type 0 where
-    pub route : IsRoute p p.start (reverse (mv ∷ ms)) p.goal
-    pub short : length ms < length met
+  -- the move leads to goal, and each other simple way goes on where moves are left
+  pub record LeadsToGoal (met : List Config) (ss : List Spot) (ms : List Move) (mv : Move)
+      : Type 0 where
+    pub standing : IsStanding met ss ms
+    pub taken : IsTakenLast ss mv p.goal
+    pub ways : WaysLead (Begins (reverse (mv ∷ ms))) met ss ms
 
   -- the move leads to a configuration that wasn't met
   pub record LeadsToNew
       (met : List Config) (ss : List Spot) (ms : List Move) (mv : Move) (next : Config)
       : Type 0 where
-    pub way : IsUnderWay met (met ++ next ∷ []) ss ms
-    pub trail : IsTrail (record { config = next; rest = [] } ∷ ss) (mv ∷ ms)
+    pub standing : IsStanding met ss ms
+    pub taken : IsTakenLast ss mv next
+    pub on : LeadsOn met (met ++ next ∷ []) ss
+    pub ways : WaysLead (Begins (reverse (mv ∷ ms))) met ss ms
     pub other : next ≢ p.goal
     pub new : ¬ Contains met next
     pub fit : p.IsFit next
 
-  -- what was found is so
-  abbrev pub IsFound : List Config → List Spot → List Move → Found → Type 0
-  IsFound met ss ms (Goal mv) = LeadsToGoal met ms mv
-  IsFound met ss ms (New mv next) = LeadsToNew met ss ms mv next
-  IsFound met ss ms Nothing = IsClosed met
+  -- what was found is so, and what was met then
+  abbrev pub IsFound : List Config → List Config → List Spot → List Move → Found → Type 0
+  IsFound old new ss ms (Goal mv) = (new ≡ old) × LeadsToGoal old ss ms mv
+  IsFound old new ss ms (New mv next) = (new ≡ old ++ next ∷ []) × LeadsToNew old ss ms mv next
+  IsFound old new ss ms Nothing = (new ≡ old) × IsClosed old
 
-  -- the stack has one more configuration, with all its listed moves
-  pub record IsEntered (old new : List Spot) (next : Config) : Type 0 where
+  -- nothing new was found yet, and nothing else was met
+  abbrev pub IsStillUnderWay : List Config → List Config → List Spot → List Move → Type 0
+  IsStillUnderWay old new ss ms = (new ≡ old) × IsUnderWay old ss ms
+
+  -- it has the moves of one part more
+  pub record IsFilled (s : Spot) (ss new : List Spot) : Type 0 where
     pub moves : List Move
-    pub is : new ≡ record { config = next; rest = moves } ∷ old
-    pub each : All (p.IsListed next) moves
-    pub all : (m : Move) → p.IsListed next m → Contains moves m
+    pub more : s.parts < part_count
+    pub part : IsPart p s.config s.parts moves
+    pub is : new ≡ next_spot s moves ∷ ss
+
+  -- The last configuration has one part more, or where it has all of them, it was dropped.
+  abbrev pub IsPassed : List Spot → List Move → List Spot → List Move → Type 0
+  IsPassed [] ms new taken = ⊥
+  IsPassed (s ∷ ss) ms new taken =
+      ((s.parts ≡ part_count) × (new ≡ ss) × (taken ≡ but_first ms))
+      ⊎ (IsFilled s ss new × (taken ≡ ms))
+
+-- how many steps are left to pass the configurations of a stack
+abbrev pub weight : List Spot → ℕ
+weight [] = 0
+weight (s ∷ ss) = part_count + 1 - s.parts + weight ss

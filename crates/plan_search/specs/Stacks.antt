@@ -1,19 +1,20 @@
 -- The stack of a search as a list, the last configuration first.
-use Rattle.std.specs.Prelude.{◌≡◌, ◌⊎◌, ℕ, ◌+◌, List, [], ◌∷◌, Option, None, Some, reverse, map, length}
-use Rattle.std.specs.List.{Contains}
+use Rattle.std.specs.Prelude.{◌≡◌, ℕ, ◌+◌, List, [], ◌∷◌, Option, None, Some, reverse, map, length}
 use Rattle.conf_doc.specs.declared.configuration.Config.{Config}
 use Rattle.move_core.specs.declared.moves.Move.{Move}
 use Rattle.plan_search.specs.declared.stacks.Frame.{Frame}
 use Rattle.plan_search.specs.declared.stacks.Stack.{Stack}
 
--- a configuration and the moves that are left to try there, in order
+-- a configuration, how many parts of its list were made, and the moves of the last one that are left to
+-- try, in order
 pub record Spot : Type 0 where
   pub config : Config
+  pub parts : ℕ
   pub rest : List Move
 
 -- what a frame says
 abbrev pub spot : Frame → Spot
-spot f = record { config = f.config; rest = reverse f.rest.items }
+spot f = record { config = f.config; parts = f.parts; rest = reverse f.rest.items }
 
 -- the configurations of the stack
 abbrev pub spots : Stack → List Spot
@@ -28,41 +29,46 @@ abbrev pub but_first : {X : Type 0} → List X → List X
 but_first [] = []
 but_first (x ∷ xs) = xs
 
--- the stack's last configuration is this one
+-- ---- the last configuration
+
+-- something holds of it
+abbrev pub OfTop : (Spot → Type 0) → List Spot → Type 0
+OfTop P [] = ⊥
+OfTop P (s ∷ ss) = P s
+
+-- it is this one
 abbrev pub IsTop : List Spot → Config → Type 0
-IsTop [] c = ⊥
-IsTop (s ∷ ss) c = s.config ≡ c
+IsTop ss c = OfTop (λ s. s.config ≡ c) ss
 
--- the move is left to try at the configuration
-abbrev pub Waits : List Spot → Config → Move → Type 0
-Waits [] c m = ⊥
-Waits (s ∷ ss) c m = ((s.config ≡ c) × Contains s.rest m) ⊎ Waits ss c m
+-- no move of its part is left there
+abbrev pub IsSpent : List Spot → Type 0
+IsSpent ss = OfTop (λ s. s.rest ≡ []) ss
 
--- how many moves are left
-abbrev pub weight : List Spot → ℕ
-weight [] = 0
-weight (s ∷ ss) = length s.rest + weight ss
+-- a configuration that nothing was asked at
+abbrev pub new_spot : Config → Spot
+new_spot c = record { config = c; parts = 0; rest = [] }
 
--- ---- a move taken
+-- a configuration with the rest of a part
+abbrev pub rest_spot : Spot → List Move → Spot
+rest_spot s rest = record { config = s.config; parts = s.parts; rest = rest }
 
--- a move, and the stack without it
-abbrev pub Taking : Type 0
-Taking = Move × List Spot × List Move
-
--- the first move of a list, where there is one, is taken from its configuration; else another taking
-abbrev pub take_from : Config → List Spot → List Move → Option Taking → List Move → Option Taking
-take_from c ss ms other [] = other
-take_from c ss ms other (m ∷ rest) = Some (m, record { config = c; rest = rest } ∷ ss, ms)
-
--- the first move that is left, without the configurations before that have none
-abbrev pub take_next : List Spot → List Move → Option Taking
-take_next [] ms = None
-take_next (s ∷ ss) ms = take_from s.config ss ms (take_next ss (but_first ms)) s.rest
+-- a configuration with one part more
+abbrev pub next_spot : Spot → List Move → Spot
+next_spot s moves = record { config = s.config; parts = s.parts + 1; rest = moves }
 
 -- the next move of the last configuration was taken, or it has none left
 abbrev pub IsAfterTop : List Spot → List Spot → Option Move → Type 0
 IsAfterTop [] new r = ⊥
 IsAfterTop (s ∷ ss) new None = (s.rest ≡ []) × (new ≡ s ∷ ss)
 IsAfterTop (s ∷ ss) new (Some m) =
-    (rest : List Move) × (s.rest ≡ m ∷ rest)
-    × (new ≡ record { config = s.config; rest = rest } ∷ ss)
+    (rest : List Move) × (s.rest ≡ m ∷ rest) × (new ≡ rest_spot s rest ∷ ss)
+
+-- the last configuration has the moves of one part more
+abbrev pub HasMore : List Spot → List Spot → List Move → Type 0
+HasMore [] new moves = ⊥
+HasMore (s ∷ ss) new moves = new ≡ next_spot s moves ∷ ss
+
+-- how many moves are left of the part at the last configuration
+abbrev pub rest_length : List Spot → ℕ
+rest_length [] = 0
+rest_length (s ∷ ss) = length s.rest

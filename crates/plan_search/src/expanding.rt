@@ -1,14 +1,15 @@
-//! What a search asks: the moves at a configuration, and whether one is allowed.
-ghost use Rattle.std.specs.Prelude.{◌≡◌, All, IfOk, MatchOption};
-ghost use Rattle.std.specs.List.{Contains};
+//! What a search asks: the moves at a configuration, part by part, and whether one is allowed.
+ghost use Rattle.std.specs.Prelude.{◌≡◌, ◌<◌, IfOk, MatchOption};
 ghost use Rattle.move_core.specs.Moves.{step};
-ghost use Rattle.move_core.specs.declared.moves.Move.{Move as Change};
-ghost use Rattle.plan_search.specs.Problems.{Problem, IsLawful};
+ghost use Rattle.plan_search.specs.Problems.{Problem, IsLawful, IsPart, part_count};
 
 use conf_doc::Config;
 use host_core::Memory;
 use move_core::Move;
 use std::alloc::Global;
+
+/// Into how many parts the list at a configuration is divided.
+pub(crate) const PART_COUNT: u8 = 4;
 
 /// A search's problem, asked by a kit that may change with each call.
 pub(crate) trait Expanding {
@@ -29,14 +30,19 @@ pub(crate) trait Expanding {
     fn goal(&self) -> &Config
         ensures { result.now ≡ (problem self.now).goal };
 
-    /// The listed moves, in the order in which they are tried.
-    fn list(&self, alloc: Global, kit: &mut Self::Kit, cur: &Config) -> Result<Vec<Move>, Memory>
+    /// The part of the list that follows that many: its moves, in the order in which they are tried.
+    fn list(
+        &self,
+        alloc: Global,
+        kit: &mut Self::Kit,
+        cur: &Config,
+        part: u8,
+    ) -> Result<Vec<Move>, Memory>
         requires ready { is_ready self.now kit.old }
         requires fit { (problem self.now).IsFit cur.now }
+        requires part { part < part_count }
         ensures ready { is_ready self.now kit.new }
-        ensures each { IfOk result (λ ms. All ((problem self.now).IsListed cur.now) ms.items) }
-        ensures all { IfOk result (λ ms.
-            (m : Change) → (problem self.now).IsListed cur.now m → Contains ms.items m) };
+        ensures part { IfOk result (λ ms. IsPart (problem self.now) cur.now part ms.items) };
 
     /// What a listed move makes of the configuration, or None where it isn't allowed.
     fn try_move(
@@ -54,6 +60,6 @@ pub(crate) trait Expanding {
             (¬ (problem self.now).IsAllowed cur.now mv.now)
             (λ next. (problem self.now).IsAllowed cur.now mv.now × (next ≡ step cur.now mv.now))) };
 
-    /// An allowed move is a listed one, and after it the search can go on.
+    /// An allowed move is a listed one, after it the search can go on, and the list has an order.
     ghost lawful: { (s : Self) → IsLawful (problem s) };
 }

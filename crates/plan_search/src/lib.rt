@@ -3,6 +3,7 @@
 
 mod errors;
 mod expanding;
+mod laws;
 mod met_set;
 mod planning;
 mod rules;
@@ -11,6 +12,7 @@ mod stacks;
 mod steps;
 
 pub use errors::SearchError;
+pub use laws::{first_ways_are_least, searches_have_one_answer};
 pub use plan_lists::listed;
 pub use planning::search;
 pub use steps::Steps;

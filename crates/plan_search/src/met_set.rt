@@ -1,5 +1,5 @@
 //! The configurations that a search met, in the order of meeting.
-ghost use Rattle.std.specs.Prelude.{◌≡◌, ◌↔◌, [], ◌∷◌, ◌++◌, length, IsTrue, OnOk};
+ghost use Rattle.std.specs.Prelude.{◌≡◌, [], ◌∷◌, ◌++◌, length, IfOk, MatchBool};
 ghost use Rattle.std.specs.List.{Contains};
 
 use conf_doc::Config;
@@ -40,19 +40,12 @@ impl Met {
         self.configs.len()
     }
 
-    /// Whether the configuration is one of them.
-    pub(crate) fn contains(&self, config: &Config) -> bool
-        ensures { IsTrue result ↔ Contains self.now config.now }
+    /// Adds one at the end where it is new, and says whether it was; else nothing changes.
+    pub(crate) fn insert(&mut self, config: Config) -> Result<bool, Memory>
+        ensures { IfOk result (λ new. MatchBool new
+            (¬ Contains self.old config × (self.new ≡ self.old ++ config ∷ []))
+            (Contains self.old config × (self.new ≡ self.old))) }
     {
-        self.configs.contains(config)
-    }
-
-    /// Adds one.
-    pub(crate) fn push(&mut self, config: Config) -> Result<(), Memory>
-        requires { ¬ Contains self.old config }
-        ensures { OnOk result (self.new ≡ self.old ++ config ∷ []) }
-    {
-        self.configs.insert(config)?;
-        Ok(())
+        Ok(self.configs.insert(config)?)
     }
 }

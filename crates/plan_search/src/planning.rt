@@ -1,5 +1,5 @@
 //! The search for a plan: the moves come from a kit.
-ghost use Rattle.std.specs.Prelude.{◌≡◌, ◌+◌, ◌<◌, length};
+ghost use Rattle.std.specs.Prelude.{◌≡◌, ◌↔◌, ◌+◌, ◌<◌, length, IsTrue};
 ghost use Rattle.move_core.specs.Contexts.{IsNamed, IsValidIn, rulebook};
 ghost use Rattle.move_core.specs.Kinds.{AreBefore, AreOfKinds, extender_kinds, generator_kinds, rule_kinds};
 ghost use Rattle.plan_search.specs.Kits.{move_problem, moves_lawful};
@@ -14,7 +14,7 @@ use host_core::Memory;
 use move_core::{
     Boxes, Ctx, Kit, Move, MoveExt, MoveGen, MoveRule, Plan, listed_moves_are_defined, step,
 };
-use plan_lists::listed;
+use plan_lists::{agree_at, listed_in_tier};
 use std::alloc::Global;
 use std::marker::PhantomData;
 use std::sync::ledger::Ledger;
@@ -57,10 +57,14 @@ impl<'a> Expanding for KitMoves<'a> {
         self.goal
     }
 
-    fn list(&self, alloc: Global, kit: &mut Kit, cur: &Config) -> Result<Vec<Move>, Memory> {
-        let moves = listed(alloc, self.ctx, kit, self.start, cur, self.goal);
-        kit.begin(self.ctx);
-        Ok(moves?.into_vec())
+    fn list(
+        &self,
+        alloc: Global,
+        kit: &mut Kit,
+        cur: &Config,
+        part: u8,
+    ) -> Result<Vec<Move>, Memory> {
+        listed_in_tier(alloc, self.ctx, kit, self.start, cur, self.goal, part + 1)
     }
 
     fn try_move(
@@ -73,7 +77,7 @@ impl<'a> Expanding for KitMoves<'a> {
         listed_moves_are_defined();
         let _tables = cur.len();
         let next = step(alloc, cur, mv)?;
-        if next.same(cur) {
+        if is_unchanged(cur, &next, mv) {
             return Ok(None);
         }
         if keep_rules(self.ctx, kit, cur, &next, self.goal, mv) {
@@ -84,8 +88,16 @@ impl<'a> Expanding for KitMoves<'a> {
     }
 }
 
-/// A plan from start to goal, by the moves and rules of the kit. Fewer than budget configurations are
-/// expanded, each a step.
+/// Whether a move's result is the configuration that it was made of. The whole is looked at only where the
+/// same stands at the move's place.
+fn is_unchanged(cur: &Config, next: &Config, mv: &Move) -> bool
+    ensures { IsTrue result ↔ (next.now ≡ cur.now) }
+{
+    agree_at(cur, next, mv.place()) && next.same(cur)
+}
+
+/// The first plan from start to goal, by the moves and rules of the kit. Fewer than budget configurations
+/// are expanded, each a step.
 pub fn search<L: Ledger>(
     alloc: Global,
     ctx: &Ctx,

@@ -1,11 +1,11 @@
 //! The search: depth first over the lists of moves, with no configuration expanded twice.
-ghost use Rattle.std.specs.Prelude.{◌≡◌, ◌+◌, ◌<◌, [], ◌∷◌, ◌++◌, length, reverse, Err, IfErr, IfOk, OnOk, MatchOption, MatchResult};
+ghost use Rattle.std.specs.Prelude.{◌≡◌, ◌+◌, ◌<◌, ◌≤◌, [], ◌∷◌, ◌++◌, length, reverse, Err, IfErr, IfOk, OnOk, MatchOption, MatchResult, IfNone};
 ghost use Rattle.std.specs.List.{Contains};
 ghost use Rattle.plan_search.specs.Answers.{IsAnswer};
-ghost use Rattle.plan_search.specs.Searching.{AreMet, IsEntered, IsFound, IsTrying, IsUnderWay, LeadsToNew};
-ghost use Rattle.plan_search.specs.Stacks.{spots, taken};
+ghost use Rattle.plan_search.specs.Searching.{AreAsked, AreMet, IsFound, IsPassed, IsStillUnderWay, IsTrying, IsUnderWay, LeadsToNew, weight};
+ghost use Rattle.plan_search.specs.Stacks.{IsSpent, new_spot, spots, taken};
 
-use crate::expanding::Expanding;
+use crate::expanding::{Expanding, PART_COUNT};
 use crate::met_set::Met;
 use crate::stacks::Stack;
 use crate::{SearchError, Steps};
@@ -26,35 +26,87 @@ enum Found {
     Nothing,
 }
 
-/// What a move at the stack's last configuration leads to, or None where it leads nowhere new.
+/// What a move at the stack's last configuration leads to, or None where it leads nowhere new. A new
+/// configuration is met.
 fn try_one<S: Expanding>(
     alloc: Global,
     source: &S,
     kit: &mut S::Kit,
-    met: &Met,
+    met: &mut Met,
     stack: &Stack,
     mv: Move,
 ) -> Result<Option<Found>, Memory>
     requires ready { S.is_ready source.now kit.old }
-    requires trying { IsTrying (S.problem source.now) met.now
+    requires trying { IsTrying (S.problem source.now) met.old
         (spots stack.now) (taken stack.now) mv }
     ensures ready { S.is_ready source.now kit.new }
     ensures found { IfOk result (λ found. MatchOption found
-        (IsUnderWay (S.problem source.now) met.now met.now (spots stack.now) (taken stack.now))
-        (IsFound (S.problem source.now) met.now (spots stack.now) (taken stack.now))) }
+        (IsStillUnderWay (S.problem source.now) met.old met.new (spots stack.now) (taken stack.now))
+        (IsFound (S.problem source.now) met.old met.new (spots stack.now) (taken stack.now))) }
 {
-    match source.try_move(alloc, kit, stack.top(), &mv)? {
-        None => Ok(None),
-        Some(next) => {
-            if next.same(source.goal()) {
-                Ok(Some(Found::Goal(mv)))
-            } else if met.contains(&next) {
-                Ok(None)
-            } else {
-                Ok(Some(Found::New(mv, next)))
-            }
+    let next = match source.try_move(alloc, kit, stack.top(), &mv)? {
+        None => return Ok(None),
+        Some(next) => next,
+    };
+    if next.same(source.goal()) {
+        return Ok(Some(Found::Goal(mv)));
+    }
+    if met.insert(next.copy(alloc)?)? {
+        Ok(Some(Found::New(mv, next)))
+    } else {
+        Ok(None)
+    }
+}
+
+/// Takes the moves of a part until one leads to goal or to a configuration that wasn't met.
+fn try_rest<S: Expanding>(
+    alloc: Global,
+    source: &S,
+    kit: &mut S::Kit,
+    met: &mut Met,
+    stack: &mut Stack,
+) -> Result<Option<Found>, Memory>
+    requires ready { S.is_ready source.now kit.old }
+    requires way { IsUnderWay (S.problem source.now) met.old (spots stack.old) (taken stack.old) }
+    requires some { 0 < length (spots stack.old) }
+    ensures ready { S.is_ready source.now kit.new }
+    ensures found { IfOk result (λ found. MatchOption found
+        (IsStillUnderWay (S.problem source.now) met.old met.new (spots stack.new) (taken stack.new))
+        (IsFound (S.problem source.now) met.old met.new (spots stack.new) (taken stack.new))) }
+    ensures spent { IfOk result (λ found. IfNone found (IsSpent (spots stack.new))) }
+    ensures parts { weight (spots stack.new) ≡ weight (spots stack.old) }
+{
+    while let Some(mv) = stack.take_at_top() {
+        if let Some(found) = try_one(alloc, source, kit, met, stack, mv)? {
+            return Ok(Some(found));
         }
     }
+    Ok(None)
+}
+
+/// Makes one more part of the last configuration's list, or drops the configuration where all are made.
+fn pass_on<S: Expanding>(
+    alloc: Global,
+    source: &S,
+    kit: &mut S::Kit,
+    stack: &mut Stack,
+) -> Result<(), Memory>
+    requires ready { S.is_ready source.now kit.old }
+    requires asked { AreAsked (S.problem source.now) (spots stack.old) }
+    requires some { 0 < length (spots stack.old) }
+    ensures ready { S.is_ready source.now kit.new }
+    ensures passed { OnOk result (IsPassed (S.problem source.now)
+        (spots stack.old) (taken stack.old) (spots stack.new) (taken stack.new)) }
+    ensures nearer { OnOk result (weight (spots stack.new) < weight (spots stack.old)) }
+{
+    let parts = stack.parts();
+    if parts < PART_COUNT {
+        let moves = source.list(alloc, kit, stack.top(), parts)?;
+        stack.refill(moves);
+    } else {
+        stack.drop_top();
+    }
+    Ok(())
 }
 
 /// Takes moves until one leads to goal or to a configuration that wasn't met.
@@ -62,88 +114,39 @@ fn find_new<S: Expanding>(
     alloc: Global,
     source: &S,
     kit: &mut S::Kit,
-    met: &Met,
+    met: &mut Met,
     stack: &mut Stack,
 ) -> Result<Found, Memory>
     requires ready { S.is_ready source.now kit.old }
-    requires way { IsUnderWay (S.problem source.now) met.now met.now
-        (spots stack.old) (taken stack.old) }
+    requires way { IsUnderWay (S.problem source.now) met.old (spots stack.old) (taken stack.old) }
     ensures ready { S.is_ready source.now kit.new }
     ensures found { IfOk result
-        (IsFound (S.problem source.now) met.now (spots stack.new) (taken stack.new)) }
+        (IsFound (S.problem source.now) met.old met.new (spots stack.new) (taken stack.new)) }
 {
-    while let Some(mv) = stack.take() {
-        if let Some(found) = try_one(alloc, source, kit, met, stack, mv)? {
-            return Ok(found);
+    while !stack.is_empty() {
+        match try_rest(alloc, source, kit, met, stack)? {
+            Some(found) => return Ok(found),
+            None => pass_on(alloc, source, kit, stack)?,
         }
     }
     Ok(Found::Nothing)
 }
 
-/// Expands a configuration that wasn't met.
-fn enter<S: Expanding, L: Ledger>(
+/// Expands a configuration: it is put on the stack.
+fn expand<L: Ledger>(
     alloc: Global,
-    source: &S,
-    kit: &mut S::Kit,
-    met: &mut Met,
-    stack: &mut Stack,
-    next: Config,
-    steps: &mut Steps<L>,
-) -> Result<(), Memory>
-    requires ready { S.is_ready source.now kit.old }
-    requires fit { (S.problem source.now).IsFit next }
-    requires new { ¬ Contains met.old next }
-    ensures ready { S.is_ready source.now kit.new }
-    ensures met { OnOk result (met.new ≡ met.old ++ next ∷ []) }
-    ensures entered { OnOk result
-        (IsEntered (S.problem source.now) (spots stack.old) (spots stack.new) next) }
-    ensures taken { taken stack.new ≡ taken stack.old }
-    ensures steps { steps.new ≡ steps.old + 1 }
-{
-    steps.tick();
-    let moves = source.list(alloc, kit, &next)?;
-    met.push(next.copy(alloc)?)?;
-    stack.push(next, moves)
-}
-
-/// Meets a configuration: it is expanded, unless the budget is met with it.
-fn meet<S: Expanding, L: Ledger>(
-    alloc: Global,
-    source: &S,
-    kit: &mut S::Kit,
-    budget: u32,
-    met: &mut Met,
     stack: &mut Stack,
     mv: Move,
     next: Config,
     steps: &mut Steps<L>,
-) -> Result<(), SearchError>
-    requires ready { S.is_ready source.now kit.old }
-    requires met { AreMet (S.problem source.now) met.old }
-    requires leads { LeadsToNew (S.problem source.now) met.old
-        (spots stack.old) (taken stack.old) mv next }
-    requires below { length met.old < budget }
-    ensures ready { S.is_ready source.now kit.new }
-    ensures met { OnOk result (AreMet (S.problem source.now) met.new) }
-    ensures way { OnOk result (IsUnderWay (S.problem source.now) met.new met.new
-        (spots stack.new) (taken stack.new)) }
-    ensures more { OnOk result (length met.new ≡ length met.old + 1) }
-    ensures below { OnOk result (length met.new < budget) }
-    ensures steps { OnOk result (steps.new ≡ steps.old + 1) }
-    ensures err { IfErr result (λ e. IsAnswer (S.problem source.now) budget (Err e)) }
-    ensures cost { steps.new + length met.old < steps.old + budget }
+) -> Result<(), Memory>
+    ensures spots { OnOk result (spots stack.new ≡ new_spot next ∷ spots stack.old) }
+    ensures taken { OnOk result (taken stack.new ≡ mv ∷ taken stack.old) }
+    ensures steps { steps.new ≡ steps.old + 1 }
 {
-    if met.len() + 1 == budget as usize {
-        return Err(SearchError::Budget(budget));
-    }
-    match stack.follow(mv) {
-        Ok(()) => {}
-        Err(_) => return Err(SearchError::Memory),
-    }
-    match enter(alloc, source, kit, met, stack, next, steps) {
-        Ok(()) => Ok(()),
-        Err(_) => Err(SearchError::Memory),
-    }
+    steps.tick();
+    stack.follow(mv)?;
+    stack.push(alloc, next)
 }
 
 /// Goes on from what was met until there is an answer.
@@ -159,7 +162,7 @@ fn go_on<S: Expanding, L: Ledger>(
 ) -> Result<Plan, SearchError>
     requires ready { S.is_ready source.now kit.old }
     requires met { AreMet (S.problem source.now) met }
-    requires way { IsUnderWay (S.problem source.now) met met (spots stack) (taken stack) }
+    requires way { IsUnderWay (S.problem source.now) met (spots stack) (taken stack) }
     requires below { length met < budget }
     ensures ready { S.is_ready source.now kit.new }
     ensures answer { IsAnswer (S.problem source.now) budget result }
@@ -168,16 +171,17 @@ fn go_on<S: Expanding, L: Ledger>(
     let mut met = met;
     let mut stack = stack;
     loop {
-        match find_new(alloc, source, kit, &met, &mut stack) {
+        match find_new(alloc, source, kit, &mut met, &mut stack) {
             Err(_) => return Err(SearchError::Memory),
             Ok(Found::Nothing) => return Err(SearchError::Unorderable),
             Ok(Found::Goal(mv)) => return whole(stack, mv),
             Ok(Found::New(mv, next)) => {
-                match meet(
-                    alloc, source, kit, budget, &mut met, &mut stack, mv, next, steps,
-                ) {
+                if met.len() == budget as usize {
+                    return Err(SearchError::Budget(budget));
+                }
+                match expand(alloc, &mut stack, mv, next, steps) {
                     Ok(()) => {}
-                    Err(error) => return Err(error),
+                    Err(_) => return Err(SearchError::Memory),
                 }
             }
         }
@@ -195,7 +199,27 @@ fn whole(stack: Stack, last: Move) -> Result<Plan, SearchError>
     }
 }
 
-/// A list of allowed moves from start to goal.
+/// Meets start, and puts it on a new stack.
+fn begin<S: Expanding, L: Ledger>(
+    alloc: Global,
+    source: &S,
+    met: &mut Met,
+    stack: &mut Stack,
+    steps: &mut Steps<L>,
+) -> Result<(), Memory>
+    requires met { met.old ≡ [] }
+    requires stack { spots stack.old ≡ [] }
+    ensures met { OnOk result (met.new ≡ (S.problem source.now).start ∷ []) }
+    ensures spots { OnOk result (spots stack.new ≡ new_spot (S.problem source.now).start ∷ []) }
+    ensures taken { taken stack.new ≡ taken stack.old }
+    ensures steps { steps.new ≡ steps.old + 1 }
+{
+    steps.tick();
+    met.insert(source.start().copy(alloc)?)?;
+    stack.push(alloc, source.start().copy(alloc)?)
+}
+
+/// The first list of allowed moves from start to goal.
 #[tactic(none)]
 pub(crate) fn find_plan<S: Expanding, L: Ledger>(
     alloc: Global,
@@ -219,11 +243,7 @@ pub(crate) fn find_plan<S: Expanding, L: Ledger>(
     }
     let mut met = Met::new(alloc);
     let mut stack = Stack::new(alloc);
-    let start = match source.start().copy(alloc) {
-        Ok(start) => start,
-        Err(_) => return Err(SearchError::Memory),
-    };
-    match enter(alloc, source, kit, &mut met, &mut stack, start, steps) {
+    match begin(alloc, source, &mut met, &mut stack, steps) {
         Ok(()) => go_on(alloc, source, kit, budget, met, stack, steps),
         Err(_) => Err(SearchError::Memory),
     }

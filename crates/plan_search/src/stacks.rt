@@ -1,18 +1,20 @@
 //! The stack of a search: the configurations on the way to the last one, each with the moves that are
 //! left to try there, and the moves that were taken between them.
-ghost use Rattle.std.specs.Prelude.{◌≡◌, ◌<◌, ◌-◌, [], ◌∷◌, reverse, length, IfOk, OnOk};
-ghost use Rattle.std.specs.Option.{option_map};
-ghost use Rattle.plan_search.specs.Stacks.{IsAfterTop, IsTop, but_first, spots, taken, take_next};
+ghost use Rattle.std.specs.Prelude.{◌≡◌, ◌↔◌, ◌<◌, [], ◌∷◌, reverse, length, IfOk, IsTrue, OnOk};
+ghost use Rattle.plan_search.specs.Problems.{part_count};
+ghost use Rattle.plan_search.specs.Stacks.{HasMore, IsAfterTop, IsTop, OfTop, but_first, new_spot, spots, taken};
 
 use conf_doc::Config;
 use host_core::{Memory, Sequence};
 use move_core::{Move, Plan};
 use std::alloc::Global;
 
-/// A configuration and the moves that are left to try there, the next one last.
+/// A configuration, how many parts of its list were made, and the moves of the last one that are left to
+/// try, the next one last.
 #[derive(Drop)]
 struct Frame {
     config: Config,
+    parts: u8,
     rest: Vec<Move>,
 }
 
@@ -35,6 +37,13 @@ impl Stack {
         }
     }
 
+    /// Whether there is no configuration.
+    pub(crate) fn is_empty(&self) -> bool
+        ensures { IsTrue result ↔ (spots self.now ≡ []) }
+    {
+        self.frames.is_empty()
+    }
+
     /// The last configuration.
     pub(crate) fn top(&self) -> &Config
         requires { 0 < length (spots self.now) }
@@ -43,15 +52,24 @@ impl Stack {
         &self.frames[self.frames.len() - 1].config
     }
 
-    /// Adds a configuration and the moves to try there, in order.
-    pub(crate) fn push(&mut self, config: Config, moves: Vec<Move>) -> Result<(), Memory>
-        ensures spots { OnOk result (spots self.new
-            ≡ record { config = config; rest = moves.items } ∷ spots self.old) }
+    /// How many parts of its list were made.
+    pub(crate) fn parts(&self) -> u8
+        requires { 0 < length (spots self.now) }
+        ensures { OfTop (λ s. s.parts ≡ result) (spots self.now) }
+    {
+        self.frames[self.frames.len() - 1].parts
+    }
+
+    /// Adds a configuration at which nothing was asked.
+    pub(crate) fn push(&mut self, alloc: Global, config: Config) -> Result<(), Memory>
+        ensures spots { OnOk result (spots self.new ≡ new_spot config ∷ spots self.old) }
         ensures taken { taken self.new ≡ taken self.old }
     {
-        let mut rest = moves;
-        rest.reverse();
-        self.frames.push(Frame { config, rest })?;
+        self.frames.push(Frame {
+            config,
+            parts: 0,
+            rest: Vec::new(alloc),
+        })?;
         Ok(())
     }
 
@@ -64,39 +82,37 @@ impl Stack {
         Ok(())
     }
 
-    /// Takes the next move that is left, after dropping configurations that have none.
-    pub(crate) fn take(&mut self) -> Option<Move>
-        ensures { take_next (spots self.old) (taken self.old)
-            ≡ option_map (λ m. (m, spots self.new, taken self.new)) result }
-    {
-        while !self.frames.is_empty() {
-            if let Some(mv) = self.take_at_top() {
-                return Some(mv);
-            }
-            self.drop_top();
-        }
-        None
-    }
-
-    /// Drops the last configuration and the move that led to it.
-    fn drop_top(&mut self)
-        ensures spots { spots self.new ≡ but_first (spots self.old) }
-        ensures taken { taken self.new ≡ but_first (taken self.old) }
-        ensures len { length self.new.frames.items ≡ length self.old.frames.items - 1 }
-    {
-        self.frames.pop();
-        self.moves.pop();
-    }
-
     /// Takes the next move of the last configuration.
-    fn take_at_top(&mut self) -> Option<Move>
-        requires { 0 < length self.old.frames.items }
+    pub(crate) fn take_at_top(&mut self) -> Option<Move>
+        requires { 0 < length (spots self.old) }
         ensures spots { IsAfterTop (spots self.old) (spots self.new) result }
         ensures taken { taken self.new ≡ taken self.old }
-        ensures len { length self.new.frames.items ≡ length self.old.frames.items }
     {
         let last = self.frames.len() - 1;
         self.frames[last].rest.pop()
+    }
+
+    /// Gives the last configuration, which has no move left, the moves of one more part, in order.
+    pub(crate) fn refill(&mut self, moves: Vec<Move>)
+        requires { OfTop (λ s. s.parts < part_count) (spots self.old) }
+        ensures spots { HasMore (spots self.old) (spots self.new) moves.items }
+        ensures taken { taken self.new ≡ taken self.old }
+    {
+        let mut rest = moves;
+        rest.reverse();
+        let last = self.frames.len() - 1;
+        let frame = &mut self.frames[last];
+        frame.parts += 1;
+        frame.rest = rest;
+    }
+
+    /// Drops the last configuration and the move that led to it.
+    pub(crate) fn drop_top(&mut self)
+        ensures spots { spots self.new ≡ but_first (spots self.old) }
+        ensures taken { taken self.new ≡ but_first (taken self.old) }
+    {
+        self.frames.pop();
+        self.moves.pop();
     }
 
     /// The moves that were taken, and one more.

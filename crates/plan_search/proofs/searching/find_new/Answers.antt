@@ -1,18 +1,20 @@
-use Rattle.plan_search.specs.Stacks.{Taking, spots, taken}
-use Rattle.plan_search.proofs.Kept.{trying_taken, closed_spent}
-use Rattle.plan_search.proofs.Takings.{takes, weight_taken}
+use Rattle.std.proofs.Common.{sym, subst, ◌∙◌}
+use Rattle.plan_search.specs.Searching.{IsUnderWay}
+use Rattle.plan_search.specs.Stacks.{spots, taken}
+use Rattle.plan_search.proofs.Takings.{passed_on}
 use Rattle.plan_search.proofs.searching.find_new.Goals as goal
 
-pub try_one-requires-clause-trying : goal.try_one-requires-clause-trying
-try_one-requires-clause-trying g c =
-    trying_taken _ c.args.met.now _ _ (c.in-Some.mv, spots c.take.new.self, taken c.take.new.self)
-    c.in-Some.ensures c.loop-mv.invariant.way
-
-pub loop-mv-smaller : goal.loop-mv-smaller
-loop-mv-smaller g c =
-    let t : Taking = (c.in-Some.mv, spots c.take.new.self, taken c.take.new.self) in
-    weight_taken _ _ t (takes _ _ t c.in-Some.ensures)
-
-pub returns-clause-found : goal.returns-clause-found
-returns-clause-found g c =
-    closed_spent _ c.args.met.now _ _ c.in_default.ensures c.loop-mv.invariant.way
+pub loop-alloc-preserved : goal.loop-alloc-preserved
+loop-alloc-preserved g c =
+    let p = g.S.Expanding.problem c.args.source.now in
+    let still = rw c.in-None.is at c.in_ok-found.ensures.found in
+    let spent = rw c.in-None.is at c.in_ok-found.ensures.spent in
+    record {
+      ready = c.pass_on.ensures.ready;
+      same = still.0 ∙ c.loop-alloc.invariant.same;
+      way =
+          subst (λ l. IsUnderWay p l (spots c.pass_on.new.stack) (taken c.pass_on.new.stack)) (sym still.0)
+          (passed_on p c.loop-alloc.met (spots c.try_rest.new.stack) (spots c.pass_on.new.stack)
+          (taken c.try_rest.new.stack) (taken c.pass_on.new.stack) (g.met.S.Expanding.lawful c.args.source.now)
+          spent c.in_ok-pass_on-in-None.ensures.passed still.1);
+    }

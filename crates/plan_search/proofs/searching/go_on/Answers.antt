@@ -1,6 +1,8 @@
-use Rattle.std.proofs.Common.{refl, arith}
-use Rattle.plan_search.specs.Stacks.{taken}
-use Rattle.plan_search.proofs.Kept.{goal_unreachable, few_reachable, whole_answer}
+use Rattle.std.proofs.Common.{[], ◌∷◌, ◌++◌, length, refl, sym, ap, subst, ◌∙◌, arith, length-append}
+use Rattle.plan_search.specs.Searching.{AreMet, IsUnderWay}
+use Rattle.plan_search.specs.Stacks.{new_spot, spots, taken}
+use Rattle.plan_search.proofs.Ended.{budget_met, no_order, whole_answer}
+use Rattle.plan_search.proofs.Kept.{met_expanded, under_way_expanded}
 use Rattle.plan_search.proofs.searching.go_on.Goals as goal
 
 pub loop-stack-init : goal.loop-stack-init
@@ -33,10 +35,8 @@ returns-in-Ok-Nothing-clause-ready g c = c.find_new.ensures.ready
 pub returns-in-Ok-Nothing-clause-answer : goal.returns-in-Ok-Nothing-clause-answer
 returns-in-Ok-Nothing-clause-answer g c =
     let p = g.S.Expanding.problem c.args.source.now in
-    let closed = rw c.in-Ok-Nothing.field-0-is at c.in-Ok-Nothing.ensures.found in (
-      goal_unreachable p c.loop-stack.met c.loop-stack.invariant.met closed,
-      few_reachable p c.loop-stack.met c.args.budget c.loop-stack.invariant.met closed c.loop-stack.invariant.below,
-    )
+    let found = rw c.in-Ok-Nothing.field-0-is at c.in-Ok-Nothing.ensures.found in
+    no_order p c.loop-stack.met c.args.budget c.loop-stack.invariant.met found.1 c.loop-stack.invariant.below
 
 pub returns-in-Ok-Nothing-clause-steps : goal.returns-in-Ok-Nothing-clause-steps
 returns-in-Ok-Nothing-clause-steps g c =
@@ -50,8 +50,10 @@ returns-in-Ok-Goal-clause-ready g c = c.find_new.ensures.ready
 pub returns-in-Ok-Goal-clause-answer : goal.returns-in-Ok-Goal-clause-answer
 returns-in-Ok-Goal-clause-answer g c =
     let p = g.S.Expanding.problem c.args.source.now in
-    whole_answer p c.args.budget c.loop-stack.met (taken c.find_new.new.stack) c.in-Ok-Goal.mv c.whole.result c.whole.ensures
-    (rw c.in-Ok-Goal.field-0-is at c.in-Ok-Goal.ensures.found) c.loop-stack.invariant.below
+    let found = rw c.in-Ok-Goal.field-0-is at c.in-Ok-Goal.ensures.found in
+    whole_answer p c.loop-stack.met (spots c.find_new.new.stack) (taken c.find_new.new.stack) c.in-Ok-Goal.mv
+    (g.met.S.Expanding.lawful c.args.source.now) c.loop-stack.invariant.met found.1
+    c.args.budget c.whole.result c.whole.ensures c.loop-stack.invariant.below
 
 pub returns-in-Ok-Goal-clause-steps : goal.returns-in-Ok-Goal-clause-steps
 returns-in-Ok-Goal-clause-steps g c =
@@ -59,51 +61,85 @@ returns-in-Ok-Goal-clause-steps g c =
     let below = c.loop-stack.invariant.below in
     omega (arith, steps, below)
 
+pub returns-then-len-budget-clause-ready : goal.returns-then-len-budget-clause-ready
+returns-then-len-budget-clause-ready g c = c.find_new.ensures.ready
+
+pub returns-then-len-budget-clause-answer : goal.returns-then-len-budget-clause-answer
+returns-then-len-budget-clause-answer g c =
+    let p = g.S.Expanding.problem c.args.source.now in
+    let found = rw c.in-Ok-New.field-0-is at c.in-Ok-New.ensures.found in
+    budget_met p c.find_new.new.met c.args.budget
+    (subst (AreMet p) (sym found.0)
+    (met_expanded p c.loop-stack.met (spots c.find_new.new.stack) (taken c.find_new.new.stack) c.in-Ok-New.mv c.in-Ok-New.next
+    (g.met.S.Expanding.lawful c.args.source.now) found.1 c.loop-stack.invariant.met))
+    (sym c.len.ensures ∙ c.if-len-budget.true)
+
+pub returns-then-len-budget-clause-steps : goal.returns-then-len-budget-clause-steps
+returns-then-len-budget-clause-steps g c =
+    let steps = c.loop-stack.invariant.steps in
+    let below = c.loop-stack.invariant.below in
+    omega (arith, steps, below)
+
 pub same-met : goal.same-met
 same-met g c = refl
 
-pub meet-requires-clause-ready : goal.meet-requires-clause-ready
-meet-requires-clause-ready g c = c.find_new.ensures.ready
-
-pub meet-requires-clause-met : goal.meet-requires-clause-met
-meet-requires-clause-met g c = c.loop-stack.invariant.met
-
-pub meet-requires-clause-leads : goal.meet-requires-clause-leads
-meet-requires-clause-leads g c = rw c.in-Ok-New.field-0-is at c.in-Ok-New.ensures.found
-
-pub meet-requires-clause-below : goal.meet-requires-clause-below
-meet-requires-clause-below g c = c.loop-stack.invariant.below
-
-pub same-met-in-Ok : goal.same-met-in-Ok
-same-met-in-Ok g c = refl
-
 pub loop-stack-smaller : goal.loop-stack-smaller
 loop-stack-smaller g c =
-    let more = c.in-Ok.ensures.more in
+    let found = rw c.in-Ok-New.field-0-is at c.in-Ok-New.ensures.found in
+    let more = ap length found.0 ∙ length-append c.loop-stack.met (c.in-Ok-New.next ∷ []) in
     let below = c.loop-stack.invariant.below in
     omega (arith, more, below)
 
 pub loop-stack-preserved : goal.loop-stack-preserved
 loop-stack-preserved g c =
-    let more = c.in-Ok.ensures.more in
-    let step = c.in-Ok.ensures.steps in
+    let p = g.S.Expanding.problem c.args.source.now in
+    let lawful = g.met.S.Expanding.lawful c.args.source.now in
+    let found = rw c.in-Ok-New.field-0-is at c.in-Ok-New.ensures.found in
+    let met = c.loop-stack.met ++ c.in-Ok-New.next ∷ [] in
+    let ss = spots c.find_new.new.stack in
+    let ms = taken c.find_new.new.stack in
+    let more = ap length found.0 ∙ length-append c.loop-stack.met (c.in-Ok-New.next ∷ []) in
+    let below = c.loop-stack.invariant.below in
+    let len = c.len.ensures in
+    let other = c.if-len-budget.false in
+    let step = c.expand.ensures.steps in
     let steps = c.loop-stack.invariant.steps in
     record {
-      ready = c.meet.ensures.ready;
-      met = c.in-Ok.ensures.met;
-      way = c.in-Ok.ensures.way;
-      below = c.in-Ok.ensures.below;
+      ready = c.find_new.ensures.ready;
+      met =
+          subst (AreMet p) (sym found.0)
+          (met_expanded p c.loop-stack.met ss ms c.in-Ok-New.mv c.in-Ok-New.next lawful found.1 c.loop-stack.invariant.met);
+      way =
+          subst (λ l. IsUnderWay p l (spots c.expand.new.stack) (taken c.expand.new.stack)) (sym found.0)
+          (subst (λ l. IsUnderWay p met l (taken c.expand.new.stack)) (sym c.in-Ok.ensures.spots)
+          (subst (IsUnderWay p met (new_spot c.in-Ok-New.next ∷ ss)) (sym c.in-Ok.ensures.taken)
+          (under_way_expanded p c.loop-stack.met ss ms c.in-Ok-New.mv c.in-Ok-New.next lawful found.1)));
+      below = omega (arith, more, below, len, other);
       steps = omega (arith, more, step, steps);
     }
 
-pub returns-in-Err-meet-clause-ready : goal.returns-in-Err-meet-clause-ready
-returns-in-Err-meet-clause-ready g c = c.meet.ensures.ready
+pub returns-in-Err-expand-clause-ready : goal.returns-in-Err-expand-clause-ready
+returns-in-Err-expand-clause-ready g c = c.find_new.ensures.ready
 
-pub returns-in-Err-meet-clause-answer : goal.returns-in-Err-meet-clause-answer
-returns-in-Err-meet-clause-answer g c = c.in-Err-meet.ensures.err
-
-pub returns-in-Err-meet-clause-steps : goal.returns-in-Err-meet-clause-steps
-returns-in-Err-meet-clause-steps g c =
-    let cost = c.meet.ensures.cost in
+pub returns-in-Err-expand-clause-steps : goal.returns-in-Err-expand-clause-steps
+returns-in-Err-expand-clause-steps g c =
+    let found = rw c.in-Ok-New.field-0-is at c.in-Ok-New.ensures.found in
+    let more = ap length found.0 ∙ length-append c.loop-stack.met (c.in-Ok-New.next ∷ []) in
+    let below = c.loop-stack.invariant.below in
+    let len = c.len.ensures in
+    let other = c.if-len-budget.false in
+    let step = c.expand.ensures.steps in
     let steps = c.loop-stack.invariant.steps in
-    omega (arith, cost, steps)
+    omega (arith, more, below, len, other, step, steps)
+
+pub array_drop-mv-requires : goal.array_drop-mv-requires
+array_drop-mv-requires g c = omega arith
+
+pub array_drop-mv-requires-then-len-budget-2 : goal.array_drop-mv-requires-then-len-budget-2
+array_drop-mv-requires-then-len-budget-2 g c = omega arith
+
+pub array_drop-mv-requires-then-len-budget-3 : goal.array_drop-mv-requires-then-len-budget-3
+array_drop-mv-requires-then-len-budget-3 g c = omega arith
+
+pub same-next : goal.same-next
+same-next g c = refl

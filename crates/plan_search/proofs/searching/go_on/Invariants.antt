@@ -8,7 +8,7 @@ abbrev pub invariant-loop-stack : goal.invariant-loop-stack
 invariant-loop-stack g l = record {
   ready : g.S.Expanding.is_ready l.fn.source l.kit;
   met : AreMet (g.S.Expanding.problem l.fn.source) l.met;
-  way : IsUnderWay (g.S.Expanding.problem l.fn.source) l.met l.met (spots l.stack) (taken l.stack);
+  way : IsUnderWay (g.S.Expanding.problem l.fn.source) l.met (spots l.stack) (taken l.stack);
   below : length l.met < l.fn.budget;
   steps : l.steps + length l.fn.met ≡ l.fn.steps + length l.met;
 }

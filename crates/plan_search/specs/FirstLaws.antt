@@ -1,0 +1,34 @@
+-- What holds of first ways.
+use Rattle.std.specs.Prelude.{◌≡◌, List}
+use Rattle.conf_doc.specs.declared.configuration.Config.{Config}
+use Rattle.move_core.specs.Contexts.{rulebook}
+use Rattle.move_core.specs.Listed.{AreListed}
+use Rattle.move_core.specs.Plans.{IsReachable}
+use Rattle.move_core.specs.Ways.{IsAhead, IsLeast}
+use Rattle.move_core.specs.declared.contexts.Ctx.{Ctx}
+use Rattle.move_core.specs.declared.moves.Move.{Move}
+use Rattle.plan_search.specs.FirstWays.{IsAheadOfGoal, IsFirstWay}
+
+-- there is no second one
+abbrev pub FirstIsOne : Type 0
+FirstIsOne =
+    (ctx : Ctx) (start goal : Config) (ms ns : List Move)
+    → IsFirstWay (rulebook ctx) start goal ms → IsFirstWay (rulebook ctx) start goal ns → ms ≡ ns
+
+-- each configuration that can be reached has its list of moves
+abbrev pub HaveLists : Ctx → Config → Config → Type 0
+HaveLists ctx start goal =
+    (c : Config) → IsReachable (rulebook ctx) goal start c
+    → (list : List Move) × AreListed (rulebook ctx) start c goal list
+
+-- then it is the least way by positions in the lists
+abbrev pub FirstIsLeast : Type 0
+FirstIsLeast =
+    (ctx : Ctx) (start goal : Config) (ms : List Move) → HaveLists ctx start goal
+    → IsFirstWay (rulebook ctx) start goal ms → IsLeast (rulebook ctx) start goal ms goal
+
+-- and what is ahead of goal is ahead by positions
+abbrev pub AheadByPositions : Type 0
+AheadByPositions =
+    (ctx : Ctx) (start goal x : Config) → HaveLists ctx start goal
+    → IsAheadOfGoal (rulebook ctx) start goal x → IsAhead (rulebook ctx) start goal x

@@ -1,0 +1,17 @@
+//! What holds of searches and of first ways.
+ghost use Rattle.plan_search.specs.FirstLaws.{AheadByPositions, FirstIsLeast, FirstIsOne};
+ghost use Rattle.plan_search.specs.Searches.{SearchesAgree};
+
+/// A context, start, goal and budget have one answer, wants of memory aside. So it doesn't depend on what
+/// the boxes of a kit were asked before.
+pub fn searches_have_one_answer()
+    ensures { SearchesAgree }
+{}
+
+/// There is one first way. Where each configuration that can be reached has its list of moves, it is the
+/// least by positions in the lists, and what is ahead of goal is ahead by them.
+pub fn first_ways_are_least()
+    ensures one { FirstIsOne }
+    ensures least { FirstIsLeast }
+    ensures ahead { AheadByPositions }
+{}
