@@ -6,7 +6,7 @@ ghost use Rattle.plan_lists.specs.Places.{entry_of, value_of};
 use conf_doc::{Config, Entry, Path, Table, Value};
 
 /// Whether the same stands at a place in both, or nothing in either.
-pub fn agree_at(a: &Config, b: &Config, place: &Path) -> bool
+pub(crate) fn agree_at(a: &Config, b: &Config, place: &Path) -> bool
     ensures { IsTrue result ↔ Agree a.now b.now place.now }
 {
     let names = place.len();

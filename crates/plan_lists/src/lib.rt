@@ -9,6 +9,5 @@ mod move_keys;
 mod ranking;
 mod reaches;
 
-pub use agreeing::agree_at;
 pub use laws::tiers_make_the_list;
 pub use listing::{listed, listed_in_tier};

@@ -1,4 +1,3 @@
-<<<<<<< HEAD
 -- The list of a tier as a part.
 use Rattle.std.proofs.Common.{◌≡◌, ◌≢◌, ℕ, ◌+◌, ◌<◌, List, [], ◌∷◌, get_or, refl, sym, ap, subst, ◌∙◌, All, arith, nat_le, Bool, true, false, IsTrue, ◌⊎◌, inl, inr}
 use Rattle.std.specs.Cmp.{nat_cmp_is}
@@ -12,21 +11,6 @@ use Rattle.std.proofs.lemmas.List.Kept.{AllPairs-cons}
 use Rattle.conf_doc.specs.declared.configuration.Config.{Config}
 use Rattle.move_core.specs.Contexts.{rulebook}
 use Rattle.move_core.specs.Listed.{AreListed, IsListed, IsRanked, moves_of}
-=======
--- The lists of the tiers as the parts of the list.
-use Rattle.std.proofs.Common.{◌≡◌, ◌≢◌, ◌⊎◌, inl, inr, ℕ, ◌+◌, ◌<◌, ◌≤◌, List, [], ◌∷◌, get_or, refl, sym, ap, subst, ◌∙◌, All, arith}
-use Rattle.std.specs.Cmp.{tied_itself}
-use Rattle.std.specs.List.{AllPairs, Contains}
-use Rattle.std.specs.Ordering.{ordering_then}
-use Rattle.std.specs.declared.cmp.Ordering.{Ordering}
-use Rattle.std.specs.declared.cmp.Ordering.TheVariants.{Less, Equal, Greater}
-use Rattle.std.proofs.lemmas.Bool.{cases_lt}
-use Rattle.std.proofs.lemmas.List.Elements.{All-contains, All-head, All-map, All-tail, All-weaker, Contains-get_or}
-use Rattle.std.proofs.lemmas.List.Kept.{AllPairs-cons}
-use Rattle.conf_doc.specs.declared.configuration.Config.{Config}
-use Rattle.move_core.specs.Contexts.{rulebook}
-use Rattle.move_core.specs.Listed.{AreListed, EndsChain, IsRanked, moves_of}
->>>>>>> 14648cf3d2e6a6128fc0e6c5929022363f45692c
 use Rattle.move_core.specs.ListedOrder.{listed_cmp, move_cmp, rank_cmp}
 use Rattle.move_core.specs.ListedOrderLaws.{listed_same, listed_total}
 use Rattle.move_core.specs.Rulebook.{Rulebook}
@@ -34,17 +18,9 @@ use Rattle.move_core.specs.declared.contexts.Ctx.{Ctx}
 use Rattle.move_core.specs.declared.moves.Move.{Move}
 use Rattle.move_core.specs.declared.moves.Ranked.{Ranked}
 use Rattle.plan_search.specs.FirstWays.{StandsBefore}
-<<<<<<< HEAD
 use Rattle.plan_lists.specs.Tiers.{AreListedIn, EndsEarlier}
 use Rattle.plan_search.specs.Kits.{IsInTiers, move_problem, move_tied}
 use Rattle.plan_search.specs.Problems.{IsPart, PrecedesLater}
-=======
-use Rattle.plan_search.specs.Kits.{move_problem}
-use Rattle.plan_search.specs.Problems.{IsPart, PrecedesLater}
-use Rattle.plan_lists.specs.Tiers.{AreListedIn, EndsEarlier}
-use Rattle.plan_lists.proofs.Firsts.{tier_each}
-use Rattle.plan_lists.proofs.Tiers.{tier_first}
->>>>>>> 14648cf3d2e6a6128fc0e6c5929022363f45692c
 use Rattle.plan_search.proofs.Pairs.{pairs_first, pairs_none, pairs_tail}
 
 -- ---- the order of chains
@@ -103,7 +79,6 @@ module _ (book : Rulebook) (start goal cur : Config) where
   listed_order ms are =
       subst (AllPairs (StandsBefore book start goal cur)) (sym are.2) (in_order are.0 are.1.each are.1.order)
 
-<<<<<<< HEAD
 -- ---- tiers
 
 -- a tier that is no lesser one but not above the next is the next
@@ -168,51 +143,4 @@ module _ (ctx : Ctx) (start goal cur : Config) (k : ℕ) (ms : List Move)
         subst (All (PrecedesLater (move_problem ctx start goal) cur (k + 1))) (sym are.2)
         (All-map (PrecedesLater (move_problem ctx start goal) cur (k + 1)) (λ r. r.mv) are.0
         (All-weaker IsHere (λ r. PrecedesLater (move_problem ctx start goal) cur (k + 1) r.mv) before_later are.0 are.1.each));
-=======
-module _ (ctx : Ctx) (start goal cur : Config) (k : ℕ) (ms : List Move) (are : AreListedIn (rulebook ctx) start cur goal (k + 1) ms) where
-  abbrev book : Rulebook
-  book = rulebook ctx
-
-  abbrev IsOfTier : Ranked → Type 0
-  IsOfTier r = IsRanked book start cur goal r × (r.tier ≡ k + 1)
-
-  split : (a b : ℕ) → a < b + 1 → (a < b) ⊎ (a ≡ b)
-  split a b lt = grind arith
-
-  -- a move within the tier, and not before, is there
-  member : (m : Move) → EndsEarlier book start cur goal (k + 1 + 1) m → ¬ EndsEarlier book start cur goal (k + 1) m → Contains ms m
-  member m within out = by (split within.0.tier (k + 1) within.3)
-    where
-      of : Contains (moves_of are.0) within.0.mv ⊎ EndsEarlier book start cur goal (k + 1) within.0.mv → Contains ms m
-      of (inl h) = subst (λ l. Contains l m) (sym are.2) (subst (Contains (moves_of are.0)) within.2 h)
-      of (inr e) = absurd (out (e.0, e.1, e.2 ∙ within.2, e.3))
-
-      by : (within.0.tier < k + 1) ⊎ (within.0.tier ≡ k + 1) → Contains ms m
-      by (inl less) = absurd (out (within.0, within.1, within.2, less))
-      by (inr same) = of (are.1.all within.0 within.1 same)
-
-  -- a move of the tier stands before each that no chain up to the tier ends with
-  before_later : (r : Ranked) → IsOfTier r → (n : Move) → ¬ EndsEarlier book start cur goal (k + 1 + 1) n → StandsBefore book start goal cur r.mv n
-  before_later r is n out = record {
-    chain = r;
-    ends = is.0.ends;
-    mv = refl;
-    before = λ s ends same. by s ends same (cases_lt s.tier (k + 1 + 1));
-  }
-    where
-      by : (s : Ranked) → EndsChain book start cur goal s → s.mv ≡ n → (s.tier < k + 1 + 1) ⊎ (k + 1 + 1 ≤ s.tier) → listed_cmp r s ≡ Less
-      by s ends same (inl lt) = absurd (out (s, ends, same, lt))
-      by s ends same (inr not) = let t = is.1 in tier_first r s (omega (arith, t, not))
-
-  -- the list of a tier is a part
-  pub tier_part : IsPart (move_problem ctx start goal) cur k ms
-  tier_part = record {
-    each = tier_each book start cur goal (k + 1) ms are;
-    all = member;
-    order = subst (AllPairs (StandsBefore book start goal cur)) (sym are.2)
-        (in_order book start goal cur are.0 (All-weaker IsOfTier (IsRanked book start cur goal) (λ r h. h.0) are.0 are.1.each) are.1.order);
-    later = subst (All (PrecedesLater (move_problem ctx start goal) cur (k + 1))) (sym are.2)
-        (All-map (PrecedesLater (move_problem ctx start goal) cur (k + 1)) (λ r. r.mv) are.0
-        (All-weaker IsOfTier (λ r. PrecedesLater (move_problem ctx start goal) cur (k + 1) r.mv) (λ r h n listed out. before_later r h n out) are.0 are.1.each));
->>>>>>> 14648cf3d2e6a6128fc0e6c5929022363f45692c
   }

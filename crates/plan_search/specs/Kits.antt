@@ -1,13 +1,7 @@
 -- The problem of a search whose moves come from a kit.
-<<<<<<< HEAD
 use Rattle.std.proofs.Common.{◌≡◌, ◌≢◌, ◌⊎◌, inl, inr, ℕ, zero, suc, IsTrue, nat_le, refl, sym, ap, ◌∙◌, true≢false}
 use Rattle.std.specs.Cmp.{tied_itself}
 use Rattle.std.specs.Ordering.{is_gt, is_lt, ordering_reverse}
-=======
-use Rattle.std.proofs.Common.{◌≡◌, ◌≢◌, ◌⊎◌, inl, inr, ◌+◌, Bool, true, false, refl, sym, ap, ◌∙◌, true≢false}
-use Rattle.std.specs.Bool.{Decides}
-use Rattle.std.specs.Ordering.{eq_by_cmp, is_gt, ordering_reverse}
->>>>>>> 14648cf3d2e6a6128fc0e6c5929022363f45692c
 use Rattle.std.specs.declared.cmp.Ordering.{Ordering}
 use Rattle.std.specs.declared.cmp.Ordering.TheVariants.{Less, Equal, Greater}
 use Rattle.conf_doc.specs.declared.configuration.Config.{Config}
@@ -24,7 +18,6 @@ use Rattle.move_core.specs.declared.moves.Move.{Move}
 use Rattle.move_core.specs.declared.moves.Move.TheVariants.{Add, Remove, Replace}
 use Rattle.move_core.specs.declared.moves.Ranked.{Ranked}
 use Rattle.plan_search.specs.FirstWays.{StandsBefore}
-<<<<<<< HEAD
 use Rattle.plan_search.specs.Problems.{Problem, IsLawful}
 
 -- some chain of that tier or a lesser one ends with the move
@@ -33,15 +26,6 @@ IsInTiers book start goal cur k m =
     (s : Ranked) × EndsChain book start cur goal s × (s.mv ≡ m) × IsTrue (nat_le s.tier k)
 
 -- the moves of a context from start to goal; moves can be asked for where a configuration is valid
-=======
-use Rattle.plan_lists.specs.MoveKeys.{keys_decide}
-use Rattle.plan_lists.specs.Tiers.{EndsEarlier}
-use Rattle.plan_lists.proofs.Tiers.{listed_earlier, none_earlier}
-use Rattle.plan_search.specs.Problems.{Problem, IsLawful}
-
--- The moves of a context from start to goal. The parts of a list are its tiers. Moves can be asked for where
--- a configuration is valid.
->>>>>>> 14648cf3d2e6a6128fc0e6c5929022363f45692c
 abbrev pub move_problem : Ctx → Config → Config → Problem
 move_problem ctx start goal =
     record {
@@ -49,11 +33,7 @@ move_problem ctx start goal =
       goal = goal;
       IsAllowed = IsAllowed (rulebook ctx) goal;
       IsListed = λ c m. IsListed (rulebook ctx) c goal m;
-<<<<<<< HEAD
       IsWithin = IsInTiers (rulebook ctx) start goal;
-=======
-      IsWithin = λ c k m. EndsEarlier (rulebook ctx) start c goal (k + 1) m;
->>>>>>> 14648cf3d2e6a6128fc0e6c5929022363f45692c
       Precedes = StandsBefore (rulebook ctx) start goal;
       IsFit = IsValidIn ctx;
     }
@@ -143,13 +123,8 @@ moves_lawful ctx start goal =
     record {
       listed = λ c m is. is.listed;
       fit = λ c m valid is. is.rules.full;
-<<<<<<< HEAD
       none = λ c m h. no_tier start goal h.1.first h.0.depth h.0.tier h.1.tier h.3;
       all = some_tier (rulebook ctx) start goal;
-=======
-      none = λ c m. none_earlier ctx start c goal m;
-      all = λ c m is out. out (listed_earlier ctx start c goal m is);
->>>>>>> 14648cf3d2e6a6128fc0e6c5929022363f45692c
       one_way = one_before (rulebook ctx) start goal;
       told = moves_told;
     }

@@ -14,11 +14,7 @@ use host_core::Memory;
 use move_core::{
     Boxes, Ctx, Kit, Move, MoveExt, MoveGen, MoveRule, Plan, listed_moves_are_defined, step,
 };
-<<<<<<< HEAD
 use plan_lists::listed_in_tier;
-=======
-use plan_lists::{agree_at, listed_in_tier};
->>>>>>> 14648cf3d2e6a6128fc0e6c5929022363f45692c
 use std::alloc::Global;
 use std::marker::PhantomData;
 use std::sync::ledger::Ledger;

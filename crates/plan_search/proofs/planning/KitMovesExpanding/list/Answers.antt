@@ -1,9 +1,5 @@
 use Rattle.std.proofs.Common.{Result, Ok, Err, IfOk}
-<<<<<<< HEAD
 use Rattle.plan_search.proofs.Parts.{part_of_tier}
-=======
-use Rattle.plan_search.proofs.Parts.{tier_part}
->>>>>>> 14648cf3d2e6a6128fc0e6c5929022363f45692c
 use Rattle.plan_search.proofs.planning.KitMovesExpanding.list.Goals as goal
 
 if_ok : {T E : Type 0} {P Q : T → Type 0} (r : Result T E) → ((x : T) → P x → Q x) → IfOk r P → IfOk r Q
@@ -13,10 +9,6 @@ if_ok (Err e) f h = h
 pub returns-clause-part : goal.returns-clause-part
 returns-clause-part g c =
     let s = c.args.self.now in
-<<<<<<< HEAD
     if_ok c.listed_in_tier.result (λ ms are.
     part_of_tier s.ctx.now s.start.now s.goal.now c.args.cur.now c.args.part ms.items are)
-=======
-    if_ok c.listed_in_tier.result (λ ms are. tier_part s.ctx.now s.start.now s.goal.now c.args.cur.now c.args.part ms.items are)
->>>>>>> 14648cf3d2e6a6128fc0e6c5929022363f45692c
     c.listed_in_tier.ensures.listed
