@@ -45,8 +45,8 @@ pub misnamed_says : (o : Option State) (from : Target) (budget : ℕ) (e : Outco
 misnamed_says None from budget e old new gives always h = tt
 misnamed_says (Some s) from budget e old new gives always h =
     let found : Found {X = Unit {0}} {Y = Request} (λ u. Request.check) (Err e) (change_asked from budget s) =
-        first_refused {X = Unit {0}} (λ u. from) (λ (u : Unit {0}). Request.check) e (follows (target_answer from)) _
-        (found_always {X = Unit {0}} (λ u. from) (Err e) (target_answer from) _ (λ q same. same) gives always) in
+    first_refused {X = Unit {0}} (λ u. from) (λ (u : Unit {0}). Request.check) e (follows (target_answer from)) _
+    (found_always {X = Unit {0}} (λ u. from) (Err e) (target_answer from) _ (λ q same. same) gives always) in
     refused_says (change_asked from budget s) s e old new h found.stands found.gives
 
 -- ---- a question that asks no less

@@ -104,8 +104,7 @@ module _ (q : Question) (start : Config) (firsts : List Generated) (offered : Al
             let same : h.0.tier ≡ s.tier = same_tier start goal is.first 0 h.0.tier s.tier h.2.tier (subst (λ n. HasTier start goal is.first n s.tier) none is.tier) in
             let class : s.class ≡ is.first.class = subst (λ n. s.class ≡ chain_class is.first n s.mv) none is.class in
             let leads : s.mv ≡ is.first.mv = subst (λ n. LeadsIn q is.first.mv n s.mv) none is.leads in
-            let depth = h.2.depth in
-            (
+            let depth = h.2.depth in (
               h.0,
               subst (λ l. Contains l h.0) (sym alone.follows) h.1,
               h.2.mv ∙ sym leads,
@@ -388,7 +387,7 @@ less_first Less p e = refl
 less_first Equal p e = absurd (cc)
 less_first Greater p e = absurd (cc)
 
-tier_first : (r s : Ranked) → r.tier < s.tier → listed_cmp r s ≡ Less
+pub tier_first : (r s : Ranked) → r.tier < s.tier → listed_cmp r s ≡ Less
 tier_first r s lt = less_first (rank_cmp r s) (move_cmp r.mv s.mv) (less_first (nat_cmp r.tier s.tier) _ (nat_less r.tier s.tier lt))
 
 pairs_tail : {A : Type 0} (R : A → A → Type 0) (x : A) (xs : List A) → AllPairs R (x ∷ xs) → AllPairs R xs
@@ -510,8 +509,32 @@ module _ (ctx : Ctx) (start cur goal : Config) where
       same : one ++ (two ++ (three ++ four)) ≡ moves_of (a ++ (b ++ (c ++ d)))
       same =
           ap (λ l. l ++ (two ++ (three ++ four))) isa ∙ ap (λ l. moves_of a ++ l) (
-            ap (λ l. l ++ (three ++ four)) isb
-            ∙ ap (λ l. moves_of b ++ l) (ap (λ l. l ++ four) isc ∙ ap (λ l. moves_of c ++ l) isd ∙ sym (map-append (λ r. r.mv) c d))
-            ∙ sym (map-append (λ r. r.mv) b (c ++ d))
+          ap (λ l. l ++ (three ++ four)) isb
+          ∙ ap (λ l. moves_of b ++ l) (ap (λ l. l ++ four) isc ∙ ap (λ l. moves_of c ++ l) isd ∙ sym (map-append (λ r. r.mv) c d))
+          ∙ sym (map-append (λ r. r.mv) b (c ++ d))
           )
           ∙ sym (map-append (λ r. r.mv) a (b ++ (c ++ d)))
+
+-- ---- the least and the greatest tier
+
+-- no chain has a tier below 1
+pub none_earlier : (ctx : Ctx) (start cur goal : Config) (m : Move) → ¬ EndsEarlier (rulebook ctx) start cur goal 1 m
+none_earlier ctx start cur goal m e = by (tier_case start goal e.1.first e.0.depth e.0.tier e.1.tier)
+  where
+    by : IsCase start goal e.1.first e.0.depth e.0.tier → ⊥
+    by (inl h) = let t = h.2 in let lt = e.3 in absurd (omega (arith, t, lt))
+    by (inr (inl h)) = let t = h.2 in let lt = e.3 in absurd (omega (arith, t, lt))
+    by (inr (inr (inl h))) = let t = h.2 in let lt = e.3 in absurd (omega (arith, t, lt))
+    by (inr (inr (inr h))) = let t = h.2 in let lt = e.3 in absurd (omega (arith, t, lt))
+
+-- and each listed move ends a chain whose tier is below 5
+pub listed_earlier : (ctx : Ctx) (start cur goal : Config) (m : Move) → IsListed (rulebook ctx) cur goal m → EndsEarlier (rulebook ctx) start cur goal 5 m
+listed_earlier ctx start cur goal m is =
+    let s = some_chain ctx start cur goal m is in
+    (s.0, s.1, s.2, by s.1.first s.0.depth s.0.tier (tier_case start goal s.1.first s.0.depth s.0.tier s.1.tier))
+  where
+    by : (g : Generated) (n t : ℕ) → IsCase start goal g n t → t < 5
+    by g n x (inl h) = let t = h.2 in omega (arith, t)
+    by g n x (inr (inl h)) = let t = h.2 in omega (arith, t)
+    by g n x (inr (inr (inl h))) = let t = h.2 in omega (arith, t)
+    by g n x (inr (inr (inr h))) = let t = h.2 in omega (arith, t)

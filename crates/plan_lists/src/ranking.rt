@@ -115,11 +115,7 @@ fn place_class(mv: &Move) -> u8
 }
 
 /// The extended chains of a tier.
-pub(crate) fn rank_reached(
-    alloc: Global,
-    reached: &Reach,
-    tier: u8,
-) -> Result<Vec<Ranked>, Memory>
+pub(crate) fn rank_reached(alloc: Global, reached: &Reach, tier: u8) -> Result<Vec<Ranked>, Memory>
     ensures { IfOk result (λ rs. AddsExtended reached.now tier [] rs.items) }
 {
     let mut ranked = Vec::new(alloc);

@@ -80,7 +80,12 @@ impl Reach {
     }
 
     /// Adds those moves that aren't there and don't stand beside.
-    pub(crate) fn note_all(&mut self, beside: &Reach, moves: Vec<Move>, depth: usize) -> Result<(), Memory>
+    pub(crate) fn note_all(
+        &mut self,
+        beside: &Reach,
+        moves: Vec<Move>,
+        depth: usize,
+    ) -> Result<(), Memory>
         ensures { OnOk result (AreNoted beside.now self.old self.new moves.items depth) }
     {
         for mv in moves {
