@@ -44,7 +44,8 @@ impl FaultLines {
 
     /// The line of a service fault behind so many acknowledgements.
     pub(crate) fn service_line(&self, step: usize, service: usize) -> &[u8]
-        ensures { result.now ≡ unwrap_or (found service (service_lines_at self.now.services step)) [] }
+        ensures { result.now
+            ≡ unwrap_or (found service (service_lines_at self.now.services step)) [] }
     {
         if step >= self.services.len() {
             return "".as_bytes();

@@ -47,7 +47,8 @@ pub fn run<H: Host>(alloc: Global, words: &[Txt], kit: &mut Kit, host: &mut H) -
         (LeftMeanwhile words.now (H.told host.old)) }
     // What is printed of a plan is right, a crash leaves what is acknowledged or the next and whole
     // checkpoints, and a finished change stores its target.
-    ensures headline { IfSome (H.told host.old) (λ s. IsHeadline words.now s (H.told host.new) result
+    ensures headline { IfSome (H.told host.old)
+        (λ s. IsHeadline words.now s (H.told host.new) result
         (H.left_since host.new (H.moment host.old))) }
     // What the host's calls keep is kept.
     ensures goes { H.goes_on host.old host.new }

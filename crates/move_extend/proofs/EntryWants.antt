@@ -1,5 +1,5 @@
 -- The removals of the places of an entry's broken wants, one want after another.
-use Rattle.std.proofs.Common.{◌≡◌, ◌≢◌, ◌⊎◌, ◌↔◌, inl, inr, ℕ, List, Option, Some, None, Contains, refl, sym, ap, ◌∙◌, subst}
+use Rattle.std.proofs.Common.{◌≡◌, ◌≢◌, ◌⊎◌, ◌↔◌, inl, inr, ℕ, List, Some, None, Contains, sym, ap, ◌∙◌, subst}
 use Rattle.std.specs.List.{AllPairs}
 use Rattle.conf_doc.proofs.Edits.{same_Some}
 use Rattle.conf_check.specs.Rows.{IsEntryAt}

@@ -1,9 +1,7 @@
 -- What is wanted of a key that goes away is one of its parts.
-use Rattle.std.proofs.Common.{◌≡◌, inl, inr, ℕ, List, [], ◌∷◌, Contains, Some, IsSome, map, option_map, slice_get, sym, ap, ◌∙◌, subst, ◌↔◌}
+use Rattle.std.proofs.Common.{◌≡◌, inl, inr, ℕ, List, Contains, Some, IsSome, map, option_map, slice_get, sym, ap, ◌∙◌, subst, ◌↔◌}
 use Rattle.std.proofs.lemmas.Option.{slice_get-map}
-use Rattle.conf_doc.proofs.Edits.{same_Some}
 use Rattle.conf_doc.specs.declared.configuration.Config.{Config}
-use Rattle.conf_doc.specs.declared.configuration.Table.{Table}
 use Rattle.conf_check.specs.Acceptance.{IsSatisfied}
 use Rattle.conf_check.specs.Rows.{Row}
 use Rattle.conf_check.specs.Wants.{Want, IsWantAt}
@@ -14,7 +12,7 @@ use Rattle.move_core.specs.Moves.{place, step}
 use Rattle.move_core.specs.Services.{table_of}
 use Rattle.move_core.specs.declared.moves.Move.{Move}
 use Rattle.move_extend.specs.Found.{GivenByOne}
-use Rattle.move_extend.specs.Mentions.{GivesOfEntry, GivesOfTable}
+use Rattle.move_extend.specs.Mentions.{GivesOfTable}
 use Rattle.move_extend.specs.Referrers.{GivesRemovals, IsBroken}
 use Rattle.move_extend.specs.declared.changes.Change.{Change}
 use Rattle.move_extend.proofs.AtKeys.{by_key, same_entry, second_name}

@@ -9,7 +9,7 @@ use Rattle.conf_doc.specs.declared.configuration.Table.{Table}
 use Rattle.conf_doc.specs.declared.configuration.Value.{Value}
 use Rattle.conf_doc.specs.declared.configuration.Value.TheVariants.{Text, List as Listed}
 use Rattle.conf_doc.proofs.Edits.{find_at, same_Some}
-use Rattle.conf_check.specs.Rows.{IsEntryAt, Row, if_modelled, row_at, row_of, rule_of, texts_by_kind, texts_of, typed_item, typed_part, typed_text, typed_texts}
+use Rattle.conf_check.specs.Rows.{Row, if_modelled, row_at, row_of, rule_of, texts_by_kind, texts_of, typed_text, typed_texts}
 use Rattle.conf_check.specs.Wants.{Want, IsWantedText}
 use Rattle.key_split.specs.Key.{key_parts}
 use Rattle.yang_model.specs.ModelSets.{ModelSet, table_named}

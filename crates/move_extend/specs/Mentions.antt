@@ -4,13 +4,11 @@ use Rattle.conf_check.specs.Wants.{Want, IsWantAt, want_of}
 use Rattle.conf_check.specs.Rows.{IsEntryAt}
 use Rattle.conf_check.specs.declared.want_iter.WantAt.{WantAt}
 use Rattle.conf_check.specs.declared.want_iter.WantPlace.{WantPlace}
-use Rattle.conf_doc.specs.declared.configuration.Config.{Config}
 use Rattle.conf_doc.specs.declared.configuration.Entry.{Entry}
 use Rattle.conf_doc.specs.declared.configuration.Table.{Table}
 use Rattle.conf_doc.specs.declared.configuration.Value.{Value}
 use Rattle.conf_doc.specs.declared.configuration.Value.TheVariants.{Text, List as Listed}
 use Rattle.key_split.specs.Key.{key_parts}
-use Rattle.yang_model.specs.ModelSets.{ModelSet}
 use Rattle.move_core.specs.declared.moves.Move.{Move}
 use Rattle.move_core.specs.declared.moves.Move.TheVariants.{Remove}
 use Rattle.move_extend.specs.Found.{GivenByOne}

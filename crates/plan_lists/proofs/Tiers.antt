@@ -1,5 +1,5 @@
 -- The chains of a tier, and the lists of all tiers.
-use Rattle.std.proofs.Common.{◌≡◌, ◌≢◌, ◌⊎◌, ◌↔◌, inl, inr, ℕ, zero, suc, ◌<◌, ◌≤◌, Bool, true, false, List, [], ◌∷◌, ◌++◌, length, length-append, map, get_or, refl, sym, ap, subst, ◌∙◌, arith, All}
+use Rattle.std.proofs.Common.{◌≡◌, ◌⊎◌, ◌↔◌, inl, inr, ℕ, zero, suc, ◌<◌, ◌≤◌, Bool, true, false, List, [], ◌∷◌, ◌++◌, get_or, refl, sym, ap, subst, ◌∙◌, arith, All}
 use Rattle.std.specs.List.{AllPairs, Contains}
 use Rattle.std.specs.Ordering.{nat_cmp, ordering_then}
 use Rattle.std.specs.declared.cmp.Ordering.{Ordering}
@@ -10,7 +10,7 @@ use Rattle.std.proofs.lemmas.List.Kept.{AllPairs-cons}
 use Rattle.conf_doc.specs.declared.configuration.Config.{Config}
 use Rattle.move_core.specs.Contexts.{rulebook}
 use Rattle.move_core.specs.Generated.{IsRestoring}
-use Rattle.move_core.specs.Listed.{AreListed, AreRanked, EndsChain, HasTier, IsListed, IsRanked, chain_class, moves_of, place_class}
+use Rattle.move_core.specs.Listed.{AreRanked, EndsChain, HasTier, IsListed, IsRanked, chain_class, moves_of, place_class}
 use Rattle.move_core.specs.ListedOrder.{listed_cmp, move_cmp, rank_cmp}
 use Rattle.move_core.specs.declared.contexts.Ctx.{Ctx}
 use Rattle.move_core.specs.declared.moves.Generated.{Generated}
@@ -18,11 +18,11 @@ use Rattle.move_core.specs.declared.moves.Move.{Move}
 use Rattle.move_core.specs.declared.moves.Ranked.{Ranked}
 use Rattle.plan_lists.specs.Questions.{IsOffered, LeadsIn}
 use Rattle.plan_lists.specs.Ranking.{AddsAlone, AddsExtended, AreChainsIn, AreEarlier, AreMovesOf, HasLeast, IsAlone, IsChain, IsEarlier, IsExtended, IsMoveOf, IsOneAlone, IsReachOf, LeadsEarly, Meets, lone_tier}
-use Rattle.plan_lists.specs.Reaches.{AreNoted, Depths, HasMove, HasWithin, HoldsAll, IsLedTo}
-use Rattle.plan_lists.specs.Tiers.{AreListedIn, AreRankedIn, EndsEarlier, TiersMakeTheList}
+use Rattle.plan_lists.specs.Reaches.{AreNoted, Depths, HasMove, HasWithin, IsLedTo}
+use Rattle.plan_lists.specs.Tiers.{AreRankedIn, EndsEarlier, TiersMakeTheList}
 use Rattle.plan_lists.specs.declared.asking.Question.{Question}
 use Rattle.plan_lists.proofs.Adding.{alone_tier}
-use Rattle.plan_lists.proofs.Chains.{early_has, early_or_not, late_has, less_tier, nat_less, no_deeper, restoring_or_not, same_tier, some_chain}
+use Rattle.plan_lists.proofs.Chains.{early_has, early_or_not, late_has, nat_less, no_deeper, restoring_or_not, same_tier, some_chain}
 use Rattle.plan_lists.proofs.Members.{no_member}
 
 -- ---- what tier a chain has

@@ -51,7 +51,8 @@ no_other (Remove p) (suc d) t e le = true≢false (sym le ∙ ap (λ x. nat_le x
 no_other (Replace p part) (suc d) t e le = true≢false (sym le ∙ ap (λ x. nat_le x 0) e)
 
 -- no chain has the tier 0
-no_tier : (start goal : Config) (g : Generated) (d t : ℕ) → HasTier start goal g d t → ¬ IsTrue (nat_le t 0)
+no_tier : (start goal : Config) (g : Generated) (d t : ℕ)
+    → HasTier start goal g d t → ¬ IsTrue (nat_le t 0)
 no_tier start goal g d t has le =
     no_other g.mv d t (has.other (λ r. no_restoring d t (has.restoring r) le)) le
 
@@ -72,10 +73,17 @@ some_tier book start goal cur m is out =
     otherwise (λ r. out (chain (restoring_tier is.depth)
     (record { restoring = λ x. refl; other = λ n. absurd (n r) }) (few_restoring is.depth)))
   where
-    chain : (t : ℕ) → HasTier start goal is.first is.depth t → IsTrue (nat_le t 4) → IsInTiers book start goal cur 4 m
+    chain : (t : ℕ) → HasTier start goal is.first is.depth t → IsTrue (nat_le t 4)
+        → IsInTiers book start goal cur 4 m
     chain t has few = (
       record { tier = t; depth = is.depth; class = chain_class is.first is.depth m; mv = m },
-      record { first = is.first; generated = is.generated; leads = is.leads; tier = has; class = refl },
+      record {
+        first = is.first;
+        generated = is.generated;
+        leads = is.leads;
+        tier = has;
+        class = refl;
+      },
       refl,
       few,
     )
@@ -83,7 +91,8 @@ some_tier book start goal cur m is out =
     otherwise : ¬ IsRestoring start goal is.first → ⊥
     otherwise n =
         out (chain (other_tier is.first.mv is.depth)
-        (record { restoring = λ r. absurd (n r); other = λ x. refl }) (few_other is.first.mv is.depth))
+        (record { restoring = λ r. absurd (n r); other = λ x. refl })
+        (few_other is.first.mv is.depth))
 
 -- ---- the order of moves
 

@@ -89,7 +89,8 @@ fn drop_touched(
 )
     requires { index.now.models ≡ models.now }
     ensures among { AreAmong verdicts.old.items verdicts.new.items }
-    ensures dropped { AreUntouched models.now index.now.config table.now key.now verdicts.new.items }
+    ensures dropped { AreUntouched models.now index.now.config table.now key.now
+        verdicts.new.items }
 {
     drop_at(verdicts, table, key);
     let view = KeyView::new(key);

@@ -18,6 +18,7 @@ abbrev value_of : List ℕ ⊎ List (List ℕ) → Value
 value_of (inl t) = Text t
 value_of (inr ts) = Listed ts
 
+-- a value and its content stand for each other
 pub content_back : (v : Value) → value_of (content_of v) ≡ v
 content_back (Text t) = refl
 content_back (Listed ts) = refl
@@ -26,11 +27,14 @@ abbrev coded_text : Coded (List ℕ)
 coded_text = coded_list coded_ℕ
 
 abbrev coded_value : Coded Value
-coded_value = code_by (List ℕ ⊎ List (List ℕ)) (coded⊎ coded_text (coded_list coded_text)) content_of value_of content_back
+coded_value =
+    code_by (List ℕ ⊎ List (List ℕ)) (coded⊎ coded_text (coded_list coded_text))
+    content_of value_of content_back
 
 abbrev coded_config : Coded Config
 coded_config =
-    coded_list (coded× coded_text (coded_list (coded× coded_text (coded_list (coded× coded_text coded_value)))))
+    coded_list (coded× coded_text
+    (coded_list (coded× coded_text (coded_list (coded× coded_text coded_value)))))
 
 -- an index as its models and its configuration
 abbrev pub coded_indexed : Coded Indexed

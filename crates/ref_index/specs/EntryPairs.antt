@@ -50,13 +50,15 @@ pub record Adds (models : ModelSet) (first second : Config) (Is : ℕ → ℕ �
       → IsWantAt models first at w → IsPlaceAt first at p
       → HasWant models second w p ⊎ IsListed new w p
 
--- the entry at those indexes, those of a table, and those of a table before an index
+-- the entry at those indexes
 abbrev pub IsAt : ℕ → ℕ → ℕ → ℕ → Type 0
 IsAt t k i j = (i ≡ t) × (j ≡ k)
 
+-- those of a table
 abbrev pub IsOfTable : ℕ → ℕ → ℕ → Type 0
 IsOfTable t i j = i ≡ t
 
+-- those of a table before an index
 abbrev pub IsBefore : ℕ → ℕ → ℕ → ℕ → Type 0
 IsBefore t n i j = (i ≡ t) × (j < n)
 

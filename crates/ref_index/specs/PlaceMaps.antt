@@ -54,11 +54,12 @@ pub record ChangesAt {A : Type 0} (f : List Place → List Place) (a : A)
   pub here : new a ≡ f (old a)
   pub others : (b : A) → b ≢ a → new b ≡ old b
 
--- the place of a want is put to the group of its leaf, or taken out there
+-- the place of a want is put to the group of its leaf
 abbrev pub PutsIn : WantAt → List Group → List Group → Type 0
 PutsIn at old new =
     ChangesAt (with_place (place_of at)) (want_of at.want).target (places_in old) (places_in new)
 
+-- it is taken out there
 abbrev pub TakesIn : WantAt → List Group → List Group → Type 0
 TakesIn at old new =
     ChangesAt (without_place (place_of at)) (want_of at.want).target (places_in old) (places_in new)
@@ -67,11 +68,12 @@ TakesIn at old new =
 abbrev pub KeepsIn : List Group → List Group → Type 0
 KeepsIn old new = (t : Target) → places_in new t ≡ places_in old t
 
--- the same for the places of its want
+-- it is put to the places of its want
 abbrev pub Puts : WantAt → PlaceMap → PlaceMap → Type 0
 Puts at old new =
     ChangesAt (with_place (place_of at)) (want_of at.want) (places_at old) (places_at new)
 
+-- it is taken out there
 abbrev pub Takes : WantAt → PlaceMap → PlaceMap → Type 0
 Takes at old new =
     ChangesAt (without_place (place_of at)) (want_of at.want) (places_at old) (places_at new)

@@ -1,10 +1,9 @@
 use borrow.Author.Count.{below_more}
-use Rattle.std.proofs.Common.{◌≡◌, ℕ, List, map, Some, slice_get, Contains, true, false, sym, subst, ◌∙◌, inl, inr, arith}
-use Rattle.std.proofs.lemmas.Option.{slice_get-map}
+use Rattle.std.proofs.Common.{◌≡◌, ℕ, List, map, Some, slice_get, Contains, sym, subst, ◌∙◌, inl, inr, arith}
 use Rattle.conf_doc.proofs.Edits.{same_Some}
 use Rattle.conf_doc.proofs.Lists.{length-map}
 use Rattle.conf_doc.specs.declared.configuration.Value.{Value}
-use Rattle.move_extend.specs.Mentions.{HasText, Mentions, texts_of_value}
+use Rattle.move_extend.specs.Mentions.{texts_of_value}
 use Rattle.move_extend.proofs.Among.{within}
 use Rattle.move_extend.proofs.mentions.mentions_one.Goals as goal
 

@@ -1,4 +1,4 @@
-use Rattle.std.proofs.Common.{[], ap, ◌∙◌, subst, sym, arith}
+use Rattle.std.proofs.Common.{[], ◌∙◌, subst, sym, arith}
 use Rattle.conf_doc.proofs.Edits.{find_at}
 use Rattle.move_extend.specs.Found.{GivenByOne, Finds}
 use Rattle.move_extend.specs.Mentions.{GivesOfTable}

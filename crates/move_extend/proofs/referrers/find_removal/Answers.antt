@@ -2,7 +2,6 @@ use Rattle.std.proofs.Common.{◌≡◌, ap, sym, ◌∙◌}
 use Rattle.std.proofs.lemmas.Result.{on_ok_weaker}
 use Rattle.move_core.specs.declared.moves.Move.TheVariants.{Remove}
 use Rattle.move_extend.specs.Mentions.{IsRemovalOf}
-use Rattle.move_extend.specs.Referrers.{place_of}
 use Rattle.move_extend.proofs.Finding.{finds_as}
 use Rattle.move_extend.proofs.referrers.find_removal.Goals as goal
 

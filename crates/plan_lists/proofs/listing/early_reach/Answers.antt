@@ -1,6 +1,6 @@
-use Rattle.std.proofs.Common.{[], Result, Ok, Err, IfOk, All, subst}
-use Rattle.plan_lists.specs.Ranking.{IsReachOf, LeadsEarly}
-use Rattle.plan_lists.specs.Reaches.{HoldsAll, IsLedTo}
+use Rattle.std.proofs.Common.{Result, Ok, Err, IfOk, subst}
+use Rattle.plan_lists.specs.Ranking.{LeadsEarly}
+use Rattle.plan_lists.specs.Reaches.{HoldsAll}
 use Rattle.plan_lists.proofs.Chains.{moves_first}
 use Rattle.plan_lists.proofs.listing.early_reach.Goals as goal
 

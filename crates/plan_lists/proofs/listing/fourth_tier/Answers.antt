@@ -3,7 +3,7 @@ use Rattle.move_core.specs.Generated.{IsRestoring}
 use Rattle.move_core.specs.declared.moves.Generated.{Generated}
 use Rattle.plan_lists.specs.Ranking.{AreMovesOf, IsReachOf, LeadsEarly}
 use Rattle.plan_lists.proofs.Firsts.{in_tier}
-use Rattle.plan_lists.specs.Reaches.{AreNoted, HoldsAll, IsLedTo}
+use Rattle.plan_lists.specs.Reaches.{AreNoted}
 use Rattle.plan_lists.proofs.Chains.{early_closed, moves_first}
 use Rattle.plan_lists.proofs.Tiers.{chains_four, earlier_four}
 use Rattle.plan_lists.proofs.listing.fourth_tier.Goals as goal

@@ -2,7 +2,7 @@ use Rattle.std.proofs.Common.{◌+◌, [], take, refl, sym, ap, subst, ◌∙◌
 use Rattle.move_core.specs.Generated.{IsRestoring}
 use Rattle.move_core.specs.Listed.{HasTier}
 use Rattle.move_core.specs.declared.moves.Ranked.{Ranked}
-use Rattle.plan_lists.specs.Ranking.{AddsAlone, IsAlone, Meets}
+use Rattle.plan_lists.specs.Ranking.{AddsAlone, IsAlone}
 use Rattle.plan_lists.proofs.Adding.{alone_none, alone_skip, alone_step, alone_tier, meets_otherwise, meets_so}
 use Rattle.plan_lists.proofs.ranking.rank_alone.Goals as goal
 use Rattle.plan_lists.proofs.ranking.rank_alone.Goals.{then-agree_at-restoring+in_ok-mv+in_ok-push, else-agree_at-restoring}
