@@ -22,11 +22,13 @@ finishes (request.save_checkpoint name config) = refl
 finishes (request.delete_checkpoint name) = refl
 finishes (request.plan p) = inl refl
 finishes (request.change p) = inl refl
+finishes (request.demo p ports) = inl refl
 
 -- so is a plan that isn't found
 unsolved_finishes : (r : Request) (e : Outcome) → IsUnsolved r e → Finishes r e
 unsolved_finishes (request.plan p) e h = inr h
 unsolved_finishes (request.change p) e h = inr h
+unsolved_finishes (request.demo p ports) e h = inr h
 unsolved_finishes (request.preview c) e never = absurd never
 unsolved_finishes (request.list_checkpoints names) e never = absurd never
 unsolved_finishes request.check e never = absurd never

@@ -256,12 +256,14 @@ plans_print (Some forms.check) from s after old new result is h = absurd cc
 plans_print (Some forms.list_checkpoints) from s after old new result is h = absurd cc
 plans_print (Some (forms.save_checkpoint name)) from s after old new result is h = absurd cc
 plans_print (Some (forms.delete_checkpoint name)) from s after old new result is h = absurd cc
+plans_print (Some (forms.demo seed ports)) from s after old new result is h = absurd cc
 
 -- ---- no order
 
 none_of : (words : List (List ℕ)) (s : State) (r : Request) → (asked words s).Gives (Ok r) → IsUnsolved r Unorderable → HasNoOrder words s
 none_of words s (request.plan p) given h = (p, inl given, h.0)
-none_of words s (request.change p) given h = (p, inr given, h.0)
+none_of words s (request.change p) given h = (p, inr (inl given), h.0)
+none_of words s (request.demo p ports) given h = (p, inr (inr (ports, given)), h.0)
 none_of words s (request.preview c) given never = absurd never
 none_of words s (request.list_checkpoints names) given never = absurd never
 none_of words s request.check given never = absurd never

@@ -12,6 +12,7 @@ pub mod TreeTexts
 mod Causes
 mod Completing
 mod Deletions
+mod DemoFinding
 mod FaultTexts
 mod Headlines
 mod Listing
@@ -20,4 +21,6 @@ mod ReadyChanges
 mod ReadyOrNot
 mod RightPlans
 mod Savings
+mod SummaryTexts
+mod Words
 mod Writing

@@ -18,7 +18,7 @@ use Rattle.gcu_engine.specs.Asking.{Asking, follows, follows_by}
 use Rattle.gcu_engine.specs.FileAsked.{config_found, file_asked, file_limit}
 use Rattle.gcu_engine.specs.ModelFiles.{bytes_asked, models_asked}
 use Rattle.gcu_engine.specs.PatchAsked.{patch_asked, target}
-use Rattle.gcu_engine.specs.PlanAsked.{HasKeys, IsElsewhereAs, IsValidOr, dry_run_asked, goal_asked, made_asked, plan_asked, planning_asked, start_asked, target_answer}
+use Rattle.gcu_engine.specs.PlanAsked.{HasKeys, IsElsewhereAs, IsValidOr, dry_run_asked, goal_asked, judged_asked, made_asked, plan_asked, planning_asked, start_asked, target_answer}
 use Rattle.gcu_engine.specs.PlanCommands.{IsSolved, RefusesOrEnds, SaysPlan, planning_of}
 use Rattle.plan_options.specs.Targets.{Target, patched}
 use Rattle.gcu_engine.specs.Preparing.{Finds, Found, IsRightBy, Refuses, RefusesAlways, refusal}
@@ -141,35 +141,34 @@ module _ (o : Option State) (from : Target) (ctx : Ctx) (start : Config) where
       by (Some s) h = first_refused self self e (made_asked from start s) _ h
 
 -- a table without a model differs
-pub goal_elsewhere : (o : Option State) (from : Target) (ctx : Ctx) (start goal : Config) (e : Outcome) → Finds o self (Ok goal) (made_asked from start)
-    → IsRightBy {X = Unit {0}} self (Err e) (IsElsewhereAs ctx start goal) → RefusesAlways e → Finds {X = Config} o self (Err e) (goal_asked from ctx start)
-goal_elsewhere None from ctx start goal e h told always = tt
-goal_elsewhere (Some s) from ctx start goal e h told always =
-    then_found self self goal (Err e) (made_asked from start s) _ h
-    (first_refused {X = Unit {0}} self self e (follows_by (IsElsewhereAs ctx start goal)) _
-    (found_told {X = Unit {0}} self (Err e) (IsElsewhereAs ctx start goal) told always))
+pub goal_elsewhere : (ctx : Ctx) (start goal : Config) (e : Outcome) → IsRightBy {X = Unit {0}} self (Err e) (IsElsewhereAs ctx start goal) → RefusesAlways e
+    → Found {X = Config} self (Err e) (judged_asked ctx start goal)
+goal_elsewhere ctx start goal e told always =
+    first_refused {X = Unit {0}} self self e (follows_by (IsElsewhereAs ctx start goal)) _
+    (found_told {X = Unit {0}} self (Err e) (IsElsewhereAs ctx start goal) told always)
 
 -- a table with a model has no keys
-pub goal_empty : (o : Option State) (from : Target) (ctx : Ctx) (start goal : Config) (u : Unit {0}) (e : Outcome) → Finds o self (Ok goal) (made_asked from start)
-    → IsRightBy self (Ok u) (IsElsewhereAs ctx start goal) → IsRightBy {X = Unit {0}} self (Err e) (HasKeys ctx goal) → RefusesAlways e
-    → Finds {X = Config} o self (Err e) (goal_asked from ctx start)
-goal_empty None from ctx start goal u e h same told always = tt
-goal_empty (Some s) from ctx start goal u e h same told always =
-    then_found self self goal (Err e) (made_asked from start s) _ h
-    (then_found self self u (Err e) (follows_by (IsElsewhereAs ctx start goal)) _ (found_told self (Ok u) (IsElsewhereAs ctx start goal) same tt)
+pub goal_empty : (ctx : Ctx) (start goal : Config) (u : Unit {0}) (e : Outcome) → IsRightBy self (Ok u) (IsElsewhereAs ctx start goal)
+    → IsRightBy {X = Unit {0}} self (Err e) (HasKeys ctx goal) → RefusesAlways e → Found {X = Config} self (Err e) (judged_asked ctx start goal)
+goal_empty ctx start goal u e same told always =
+    then_found self self u (Err e) (follows_by (IsElsewhereAs ctx start goal)) _ (found_told self (Ok u) (IsElsewhereAs ctx start goal) same tt)
     (first_refused {X = Unit {0}} self self e (follows_by (HasKeys ctx goal)) _
-    (found_told {X = Unit {0}} self (Err e) (HasKeys ctx goal) told always)))
+    (found_told {X = Unit {0}} self (Err e) (HasKeys ctx goal) told always))
 
 -- it is judged
-pub goal_found : (o : Option State) (from : Target) (ctx : Ctx) (start goal : Config) (u v : Unit {0}) (r : Result Config Outcome) → Finds o self (Ok goal) (made_asked from start)
+pub goal_judged : (ctx : Ctx) (start goal : Config) (u v : Unit {0}) (r : Result Config Outcome)
     → IsRightBy self (Ok u) (IsElsewhereAs ctx start goal) → IsRightBy self (Ok v) (HasKeys ctx goal)
-    → IsRightBy self r (IsValidOr TargetInvalid ctx goal) → IfErr r RefusesAlways → Finds o self r (goal_asked from ctx start)
-goal_found None from ctx start goal u v r h same keys told always = tt
-goal_found (Some s) from ctx start goal u v r h same keys told always =
-    then_found self self goal r (made_asked from start s) _ h
-    (then_found self self u r (follows_by (IsElsewhereAs ctx start goal)) _ (found_told self (Ok u) (IsElsewhereAs ctx start goal) same tt)
+    → IsRightBy self r (IsValidOr TargetInvalid ctx goal) → IfErr r RefusesAlways → Found self r (judged_asked ctx start goal)
+goal_judged ctx start goal u v r same keys told always =
+    then_found self self u r (follows_by (IsElsewhereAs ctx start goal)) _ (found_told self (Ok u) (IsElsewhereAs ctx start goal) same tt)
     (then_found self self v r (follows_by (HasKeys ctx goal)) _ (found_told self (Ok v) (HasKeys ctx goal) keys tt)
-    (found_told self r (IsValidOr TargetInvalid ctx goal) told always)))
+    (found_told self r (IsValidOr TargetInvalid ctx goal) told always))
+
+-- what is made is judged
+pub goal_found : (o : Option State) (from : Target) (ctx : Ctx) (start goal : Config) (r : Result Config Outcome) → Finds o self (Ok goal) (made_asked from start)
+    → Found self r (judged_asked ctx start goal) → Finds o self r (goal_asked from ctx start)
+goal_found None from ctx start goal r h judged = tt
+goal_found (Some s) from ctx start goal r h judged = then_found self self goal r (made_asked from start s) _ h judged
 
 -- what is judged is what agrees elsewhere
 pub judged_elsewhere : (ctx : Ctx) (start goal : Config) (r : Result Config Outcome) → IsRightBy self r (IsValidOr TargetInvalid ctx goal) → AgreeElsewhere ctx start goal

@@ -1,6 +1,6 @@
 -- Which answers a command may give to what is asked, what it then leaves and has printed, and what a fault
 -- needs.
-use Rattle.std.specs.Prelude.{◌≡◌, ◌⊎◌, ℕ, List, ◌++◌, Option, Some, None, Ok, Err, option_map, ⊤}
+use Rattle.std.specs.Prelude.{◌≡◌, ◌⊎◌, ℕ, List, ◌++◌, length, Option, Some, None, Ok, Err, option_map, ⊤}
 use Rattle.host_core.specs.Counts.{Counts, Rose}
 use Rattle.host_core.specs.Crashes.{Left, MayLeaveNow}
 use Rattle.host_core.specs.State.{Files, State, printed, settled, with_pending}
@@ -19,7 +19,8 @@ use Rattle.gcu_engine.specs.Form as forms
 use Rattle.gcu_engine.specs.Form.{Form, form}
 use Rattle.gcu_engine.specs.Lines.{last_line, lines, service_line}
 use Rattle.gcu_engine.specs.Plannings.{IsPlanFor, IsUnsolved}
-use Rattle.gcu_engine.specs.Request.{Planning, Request, change, delete_checkpoint, list_checkpoints, plan, preview, check, save_checkpoint}
+use Rattle.gcu_engine.specs.Request.{Planning, Request, change, delete_checkpoint, demo, list_checkpoints, plan, preview, check, save_checkpoint}
+use Rattle.gcu_engine.specs.Summary.{summary}
 use Rattle.gcu_engine.specs.declared.outcomes.Outcome.{Outcome}
 use Rattle.gcu_engine.specs.declared.outcomes.Outcome.TheVariants.{Done, Memory, Usage, InputFault, DiskFault, PrintFault, ServiceFault, Unorderable, Budget}
 
@@ -77,11 +78,15 @@ done_output (save_checkpoint name config) = last_line Done
 done_output (delete_checkpoint name) = last_line Done
 done_output (plan p) = last_line Done
 done_output (change p) = last_line Done
+done_output (demo p ports) = last_line Done
 
--- the same with the text of some plan, where one is requested
+-- the same with the text of some plan, where one is requested, or with how many moves it has
 abbrev pub IsDoneOutput : Request → List ℕ → Type 0
 IsDoneOutput (plan p) output =
     (ms : List Move) × IsPlanFor p ms × (output ≡ plan_text ms ++ done_output (plan p))
+IsDoneOutput (demo p ports) output =
+    (ms : List Move) × IsPlanFor p ms
+    × (output ≡ summary ports (length ms) ++ done_output (demo p ports))
 IsDoneOutput other output = output ≡ done_output other
 
 -- a plan is requested, and none is found for that reason
@@ -196,6 +201,7 @@ Finishes (save_checkpoint name config) result = result ≡ Done
 Finishes (delete_checkpoint name) result = result ≡ Done
 Finishes (plan p) result = (result ≡ Done) ⊎ IsUnsolved (plan p) result
 Finishes (change p) result = (result ≡ Done) ⊎ IsUnsolved (change p) result
+Finishes (demo p ports) result = (result ≡ Done) ⊎ IsUnsolved (demo p ports) result
 
 -- the answers where nothing failed: for want of memory, the refusal, or what the request says
 abbrev pub Complete : Asking Request → Outcome → Type 0

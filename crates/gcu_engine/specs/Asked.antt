@@ -8,7 +8,8 @@ use Rattle.checkpoints.specs.Points.{Held, points}
 use Rattle.gcu_engine.specs.Asking.{Asking, a_file, asks, follows, settles_first, ◌>>>◌}
 use Rattle.gcu_engine.specs.ChangeAsked.{change_asked}
 use Rattle.gcu_engine.specs.Checking.{check_asked}
-use Rattle.gcu_engine.specs.Form.{Form, change, check, delete_checkpoint, form, list_checkpoints, plan, preview, save_checkpoint}
+use Rattle.gcu_engine.specs.DemoAsked.{demo_asked}
+use Rattle.gcu_engine.specs.Form.{Form, change, check, delete_checkpoint, demo, form, list_checkpoints, plan, preview, save_checkpoint}
 use Rattle.gcu_engine.specs.PatchAsked.{patch_asked, target}
 use Rattle.gcu_engine.specs.PlanAsked.{dry_run_asked}
 use Rattle.gcu_engine.specs.PointAsked.{name_answer}
@@ -84,6 +85,7 @@ form_asked (Some (save_checkpoint name)) s = save_asked name s
 form_asked (Some (delete_checkpoint name)) s = delete_asked name s
 form_asked (Some (plan goal budget)) s = dry_run_asked goal budget s
 form_asked (Some (change goal budget)) s = change_asked goal budget s
+form_asked (Some (demo seed ports)) s = demo_asked seed ports s
 
 -- what the words ask of a host in this state
 abbrev pub asked : List (List ℕ) → State → Asking Request

@@ -1,5 +1,6 @@
 -- Which words are a command.
 use Rattle.std.specs.Prelude.{ℕ, List, [], ◌∷◌, codes, ◌&&◌, if◌then◌else◌, Option, Some, None, option_and_then, option_map}
+use Rattle.plan_options.specs.Demos.{demo_of}
 use Rattle.plan_options.specs.Options.{Options, options}
 use Rattle.plan_options.specs.Targets.{Target, target_of}
 use Rattle.plan_options.specs.Words.{is_positional, is_word}
@@ -18,6 +19,8 @@ pub data Form : Type 0 where
   plan : Target → ℕ → Form
   -- with the target and the budget of a plan that is done
   change : Target → ℕ → Form
+  -- with the seed and the number of ports of a plan between generated configurations
+  demo : ℕ → ℕ → Form
 
 -- the command that a word is
 abbrev pub form_of_one : List ℕ → Option Form
@@ -36,6 +39,17 @@ abbrev pub form_of_plan : List ℕ → List ℕ → List (List ℕ) → Option F
 form_of_plan command word ws =
     option_and_then (λ target. option_map (planned target) (options ws)) (target_of command word)
 
+-- the demonstration that a seed and a number of ports are
+abbrev pub form_of_demo : List ℕ → List (List ℕ) → Option Form
+form_of_demo seed (ports ∷ []) = option_map (λ d. demo d.seed d.ports) (demo_of seed ports)
+form_of_demo seed other = None
+
+-- the command that a word, a second one and more are
+abbrev pub form_of_more : List ℕ → List ℕ → List (List ℕ) → Option Form
+form_of_more command word ws =
+    if is_word command (codes "demo") then form_of_demo word ws
+    else form_of_plan command word ws
+
 -- the command that two words are
 abbrev pub form_of_two : List ℕ → List ℕ → Option Form
 form_of_two command word =
@@ -51,4 +65,4 @@ abbrev pub form : List (List ℕ) → Option Form
 form [] = None
 form (a ∷ []) = form_of_one a
 form (a ∷ b ∷ []) = form_of_two a b
-form (a ∷ b ∷ c ∷ ws) = form_of_plan a b (c ∷ ws)
+form (a ∷ b ∷ c ∷ ws) = form_of_more a b (c ∷ ws)

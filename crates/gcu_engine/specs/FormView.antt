@@ -2,7 +2,7 @@
 use Rattle.std.specs.Prelude.{Option, Some, None}
 use Rattle.gcu_engine.specs.Form as words
 use Rattle.gcu_engine.specs.declared.form.Form.{Form}
-use Rattle.gcu_engine.specs.declared.form.Form.TheVariants.{Unknown, Preview, Check, ListCheckpoints, SaveCheckpoint, DeleteCheckpoint, Plan, Change}
+use Rattle.gcu_engine.specs.declared.form.Form.TheVariants.{Unknown, Preview, Check, ListCheckpoints, SaveCheckpoint, DeleteCheckpoint, Plan, Change, Demo}
 use Rattle.plan_options.specs.Views.{target_view}
 
 -- the command that it is, or None for words that are no command
@@ -15,3 +15,4 @@ form_view (SaveCheckpoint name) = Some (words.save_checkpoint name.now)
 form_view (DeleteCheckpoint name) = Some (words.delete_checkpoint name.now)
 form_view (Plan target options) = Some (words.plan (target_view target) options.budget)
 form_view (Change target options) = Some (words.change (target_view target) options.budget)
+form_view (Demo size) = Some (words.demo size.seed size.ports)

@@ -62,10 +62,11 @@ target_in (Some (plan from budget)) = Some from
 target_in (Some (change from budget)) = Some from
 target_in other = None
 
--- what is planned, only to be printed or to be done
+-- what is planned: only to be printed, to be done, or to be counted
 abbrev pub IsPlanned : List (List ℕ) → State → Planning → Type 0
 IsPlanned words s p =
-    (asked words s).Gives (Ok (request.plan p)) ⊎ (asked words s).Gives (Ok (request.change p))
+    (asked words s).Gives (Ok (request.plan p)) ⊎ ((asked words s).Gives (Ok (request.change p))
+    ⊎ ((ports : ℕ) × (asked words s).Gives (Ok (request.demo p ports))))
 
 -- no sequence of allowed moves leads from the start to the goal
 abbrev pub HasNoOrder : List (List ℕ) → State → Type 0

@@ -5,6 +5,7 @@ pub mod Asking
 pub mod ChangeAsked
 pub mod Changing
 pub mod Checking
+pub mod DemoAsked
 pub mod FileAsked
 pub mod Form
 pub mod Headline
@@ -17,6 +18,7 @@ pub mod PointAsked
 pub mod Request
 pub mod RulesAsked
 pub mod StoredAsked
+pub mod Summary
 -- what only private clauses cite
 pub mod Commands
 pub mod Doing

@@ -50,13 +50,18 @@ abbrev pub HasKeys : Ctx → Config → Result (Unit {0}) Outcome → Type 0
 HasKeys ctx goal (Ok u) = HasNoEmptyTable ctx goal
 HasKeys ctx goal (Err e) = (t : List ℕ) × IsFirstEmpty ctx goal t × (e ≡ EmptyTable t)
 
+-- the configuration, where a plan may have it for its goal
+abbrev pub judged_asked : Ctx → Config → Config → Asking Config
+judged_asked ctx start goal =
+    follows_by (IsElsewhereAs ctx start goal) >>> λ _.
+    follows_by (HasKeys ctx goal) >>> λ _.
+    follows_by (IsValidOr TargetInvalid ctx goal)
+
 -- a goal that a plan may have
 abbrev pub goal_asked : Target → Ctx → Config → State → Asking Config
 goal_asked from ctx start s =
     made_asked from start s >>> λ goal.
-    follows_by (IsElsewhereAs ctx start goal) >>> λ _.
-    follows_by (HasKeys ctx goal) >>> λ _.
-    follows_by (IsValidOr TargetInvalid ctx goal)
+    judged_asked ctx start goal
 
 -- ---- the plan
 

@@ -1,5 +1,5 @@
 -- What the parts of a command that plans give.
-use Rattle.std.specs.Prelude.{◌≡◌, ◌<◌, true, List, ◌++◌, Result, Ok, Err, ⊤}
+use Rattle.std.specs.Prelude.{◌≡◌, ◌<◌, true, ℕ, List, ◌++◌, length, Result, Ok, Err, ⊤}
 use Rattle.std.specs.List.{AllPass}
 use Rattle.host_core.specs.Counts.{Counts}
 use Rattle.host_core.specs.State.{State}
@@ -17,6 +17,7 @@ use Rattle.gcu_engine.specs.Plannings.{HasNone, IsPlanFor}
 use Rattle.gcu_engine.specs.Preparing.{Refuses}
 use Rattle.gcu_engine.specs.Request as request
 use Rattle.gcu_engine.specs.Request.{Request}
+use Rattle.gcu_engine.specs.Summary.{summary}
 use Rattle.gcu_engine.specs.declared.planning.Planning.{Planning}
 use Rattle.gcu_engine.specs.declared.outcomes.Outcome.{Outcome}
 use Rattle.gcu_engine.specs.declared.outcomes.Outcome.TheVariants.{Done, Memory, Unorderable, Budget}
@@ -51,6 +52,12 @@ IsSolved p (Err e) = HasNone (planning_of p) e
 abbrev pub SaysPlan : Asking Request → State → Result (List Move) Outcome → Type 0
 SaysPlan asking s (Ok ms) = Says asking s s Done (plan_text ms ++ last_line Done)
 SaysPlan asking s (Err e) = Says asking s s e (last_line e)
+
+-- the same with how many moves the plan has, with so many ports
+abbrev pub SaysSteps : ℕ → Asking Request → State → Result (List Move) Outcome → Type 0
+SaysSteps ports asking s (Ok ms) =
+    Says asking s s Done (summary ports (length ms) ++ last_line Done)
+SaysSteps ports asking s (Err e) = Says asking s s e (last_line e)
 
 -- for want of memory, a fault with its cause, a refusal of what was given, or a search without a plan
 abbrev pub RefusesOrEnds : Counts → Counts → Outcome → Type 0

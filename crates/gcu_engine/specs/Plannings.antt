@@ -5,7 +5,7 @@ use Rattle.move_core.specs.declared.moves.Move.{Move}
 use Rattle.plan_search.specs.Searches.{IsSearchAnswer}
 use Rattle.plan_search.specs.declared.errors.SearchError.{SearchError}
 use Rattle.plan_search.specs.declared.errors.SearchError.TheVariants as search
-use Rattle.gcu_engine.specs.Request.{Planning, Request, change, plan}
+use Rattle.gcu_engine.specs.Request.{Planning, Request, change, demo, plan}
 use Rattle.gcu_engine.specs.declared.outcomes.Outcome.{Outcome}
 use Rattle.gcu_engine.specs.declared.outcomes.Outcome.TheVariants.{Unorderable, Budget}
 
@@ -28,4 +28,5 @@ HasNone p other = ⊥
 abbrev pub IsUnsolved : Request → Outcome → Type 0
 IsUnsolved (plan p) answer = HasNone p answer
 IsUnsolved (change p) answer = HasNone p answer
+IsUnsolved (demo p ports) answer = HasNone p answer
 IsUnsolved other answer = ⊥

@@ -26,3 +26,5 @@ pub data Request : Type 0 where
   plan : Planning → Request
   -- print such a plan and do it
   change : Planning → Request
+  -- say of how many moves such a plan is, with so many ports
+  demo : Planning → ℕ → Request

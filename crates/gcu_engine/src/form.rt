@@ -1,11 +1,11 @@
 //! Which words are a command.
 ghost use Rattle.std.specs.Prelude.{◌≡◌, Some};
-ghost use Rattle.gcu_engine.specs.Form.{form, form_of_one, form_of_plan, form_of_two, planned};
+ghost use Rattle.gcu_engine.specs.Form.{form, form_of_demo, form_of_more, form_of_one, form_of_plan, form_of_two, planned};
 ghost use Rattle.gcu_engine.specs.FormView.{form_view};
 ghost use Rattle.plan_options.specs.Views.{options_view, target_view};
 
 use host_core::Txt;
-use plan_options::{Options, Target, is_positional, read_options, read_target};
+use plan_options::{Demo, Options, Target, is_positional, read_demo, read_options, read_target};
 
 /// A command with its words.
 pub(crate) enum Form<'a> {
@@ -37,6 +37,10 @@ pub(crate) enum Form<'a> {
         target: Target<'a>,
         options: Options,
     },
+    /// Counts the steps of a plan between generated configurations.
+    Demo {
+        size: Demo,
+    },
 }
 
 /// The command that the words are.
@@ -46,7 +50,7 @@ pub(crate) fn read_form(words: &[Txt]) -> Form<'_>
     match words {
         [command] => form_of_one(command),
         [command, word] => form_of_two(command, word),
-        [command, word, options @ ..] => form_of_plan(command, word, options),
+        [command, word, more @ ..] => form_of_more(command, word, more),
         [] => Form::Unknown,
     }
 }
@@ -79,6 +83,29 @@ fn form_of_two<'a>(command: &'a Txt, word: &'a Txt) -> Form<'a>
         return Form::DeleteCheckpoint { name: word };
     }
     form_of_plan(command, word, &[])
+}
+
+/// The command that a word, a second one and more are.
+fn form_of_more<'a>(command: &Txt, word: &'a Txt, words: &[Txt]) -> Form<'a>
+    ensures { form_view result ≡ form_of_more command.now word.now words.now }
+{
+    if command.as_str() == "demo" {
+        return form_of_demo(word, words);
+    }
+    form_of_plan(command, word, words)
+}
+
+/// The demonstration that a seed and a number of ports are.
+fn form_of_demo<'a>(seed: &Txt, words: &[Txt]) -> Form<'a>
+    ensures { form_view result ≡ form_of_demo seed.now words.now }
+{
+    match words {
+        [ports] => match read_demo(seed, ports) {
+            Some(size) => Form::Demo { size },
+            None => Form::Unknown,
+        },
+        _ => Form::Unknown,
+    }
 }
 
 /// The command that a word, a second one and options are.

@@ -5,6 +5,7 @@ mod change;
 mod check;
 mod checkpoint_goal;
 mod delete_checkpoint;
+mod demo;
 mod dry_run;
 mod fault_lines;
 mod file_goal;

@@ -8,10 +8,10 @@ ghost use Rattle.host_core.specs.Names.{longest_scoped_name};
 ghost use Rattle.move_core.specs.Contexts.{AgreeElsewhere, IsValidIn};
 ghost use Rattle.checkpoints.specs.Names.{is_good_name as is_name};
 ghost use Rattle.plan_options.specs.Views.{target_view};
-ghost use Rattle.gcu_engine.specs.PlanAsked.{HasKeys, IsElsewhereAs, goal_asked, made_asked, target_answer};
+ghost use Rattle.gcu_engine.specs.PlanAsked.{HasKeys, IsElsewhereAs, goal_asked, judged_asked, made_asked, target_answer};
 ghost use Rattle.gcu_engine.specs.PlanCommands.{HasGoodName};
 ghost use Rattle.gcu_engine.specs.PointAsked.{name_answer};
-ghost use Rattle.gcu_engine.specs.Preparing.{Finds, IsRightBy, Refuses, RefusesAlways, refusal};
+ghost use Rattle.gcu_engine.specs.Preparing.{Finds, Found, IsRightBy, Refuses, RefusesAlways, refusal};
 
 use crate::Outcome;
 use crate::checkpoint_goal::checkpoint_goal;
@@ -74,6 +74,21 @@ pub(crate) fn read_goal<H: Host>(
     ensures goes { H.goes_on host.old host.new }
 {
     let goal = make_goal(alloc, target, start, host)?;
+    judge_goal(alloc, ctx, start, goal)
+}
+
+/// The configuration, where a plan from a start may have it for its goal.
+pub(crate) fn judge_goal(
+    alloc: Global,
+    ctx: &Ctx,
+    start: &Config,
+    goal: Config,
+) -> Result<Config, Outcome>
+    ensures answer { Found (λ c. c) result (judged_asked ctx.now start.now goal) }
+    ensures valid { IfOk result (IsValidIn ctx.now) }
+    ensures elsewhere { IfOk result (AgreeElsewhere ctx.now start.now) }
+    ensures cause { IfErr result RefusesAlways }
+{
     test_elsewhere(alloc, ctx, start, &goal)?;
     test_keys(alloc, ctx, &goal)?;
     judge(alloc, End::Goal, ctx, goal)

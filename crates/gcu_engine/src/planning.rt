@@ -36,8 +36,8 @@ use std::sync::ledger::{Blank, Ledger};
 pub(crate) struct Planning {
     pub(crate) ctx: Ctx,
     pub(crate) stored: Stored,
-    goal: Config,
-    budget: u32,
+    pub(crate) goal: Config,
+    pub(crate) budget: u32,
 }
 
 /// A plan for a target.

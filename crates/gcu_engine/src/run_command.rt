@@ -13,6 +13,7 @@ use crate::Outcome;
 use crate::change::change;
 use crate::check::check;
 use crate::delete_checkpoint::delete_checkpoint;
+use crate::demo::demo;
 use crate::dry_run::dry_run;
 use crate::form::{Form, read_form};
 use crate::list_checkpoints::list_checkpoints;
@@ -28,7 +29,8 @@ use std::alloc::Global;
 /// plan for the patch and does it, `replace FILE` one for the configuration in a file and `rollback NAME` one
 /// for that of a checkpoint, and each of the three with `--dry-run` only prints it. `checkpoint NAME` saves the
 /// stored configuration under a name, `list-checkpoints` prints the names of all checkpoints, and
-/// `delete-checkpoint NAME` deletes one.
+/// `delete-checkpoint NAME` deletes one. `demo SEED N` plans between two generated configurations with `N`
+/// ports, and counts the steps.
 pub fn run<H: Host>(alloc: Global, words: &[Txt], kit: &mut Kit, host: &mut H) -> Outcome
     requires longest { longest_scoped_name ≤ H.longest_name }
     requires kinds { ⟦<Kit as Boxes>⟧.HasKinds kit.old }
@@ -72,5 +74,6 @@ pub fn run<H: Host>(alloc: Global, words: &[Txt], kit: &mut Kit, host: &mut H) -
         Form::DeleteCheckpoint { name } => delete_checkpoint(alloc, name, host),
         Form::Plan { target, options } => dry_run(alloc, target, options.budget, kit, host),
         Form::Change { target, options } => change(alloc, target, options.budget, kit, host),
+        Form::Demo { size } => demo(alloc, size, kit, host),
     }
 }

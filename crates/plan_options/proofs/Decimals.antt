@@ -8,7 +8,7 @@ use Rattle.std.specs.Char.{is_ascii_digit}
 use Rattle.std.specs.List.{list_all}
 use Rattle.patch_core.specs.Indexes.{digit_0, number, with_digit}
 use Rattle.patch_core.proofs.Numbers.{fold_grows}
-use Rattle.plan_options.specs.Options.{most_budget, number_within}
+use Rattle.plan_options.specs.Decimals.{number_within}
 
 -- with digits that aren't read yet it is no smaller
 pub greater : (digits : List ℕ) (i n : ℕ) → i < length digits → fold with_digit n (drop i digits) ≡ number digits → with_digit n (get_or digits i 0) ≤ number digits
@@ -22,9 +22,9 @@ and_false true = refl
 and_false false = refl
 
 -- a number that is too large is none
-pub too_large : (digits : List ℕ) → most_budget < number digits → None ≡ number_within digits
-too_large digits more =
-    elim (nat_le (number digits) most_budget) as (λ b. nat_le (number digits) most_budget ≡ b → None ≡ cond (list_all is_ascii_digit digits && b) (Some (number digits)) None) [
+pub too_large : (most : ℕ) (digits : List ℕ) → most < number digits → None ≡ number_within most digits
+too_large most digits more =
+    elim (nat_le (number digits) most) as (λ b. nat_le (number digits) most ≡ b → None ≡ cond (list_all is_ascii_digit digits && b) (Some (number digits)) None) [
       | true ↦ λ e. absurd (let le = leb-true _ _ e in omega arith)
       | false ↦ λ e. ap (λ c. cond c (Some (number digits)) None) (sym (and_false (list_all is_ascii_digit digits)))
     ] refl
@@ -36,12 +36,12 @@ first_counts d ds digit other =
     omega (arith, some, fold_grows (with_digit 0 d) ds)
 
 -- without a leading zero it isn't 0
-pub counts : (digits : List ℕ) (r : Option ℕ) → r ≡ number_within digits → 0 < length digits → get_or digits 0 0 ≢ digit_0 → IfSome r (λ n. 0 < n)
-counts [] r is some other = absurd (omega arith)
-counts (d ∷ ds) r is some other =
+pub counts : (most : ℕ) (digits : List ℕ) (r : Option ℕ) → r ≡ number_within most digits → 0 < length digits → get_or digits 0 0 ≢ digit_0 → IfSome r (λ n. 0 < n)
+counts most [] r is some other = absurd (omega arith)
+counts most (d ∷ ds) r is some other =
     subst (λ o. IfSome o (λ n. 0 < n)) (sym is)
-    (elim (list_all is_ascii_digit (d ∷ ds) && nat_le (number (d ∷ ds)) most_budget) as
-    (λ b. (list_all is_ascii_digit (d ∷ ds) && nat_le (number (d ∷ ds)) most_budget) ≡ b → IfSome (cond b (Some (number (d ∷ ds))) None) (λ n. 0 < n)) [
-      | true ↦ λ e. first_counts d ds (and_parts (is_ascii_digit d) (list_all is_ascii_digit ds) (and_parts (list_all is_ascii_digit (d ∷ ds)) (nat_le (number (d ∷ ds)) most_budget) e).0).0 other
+    (elim (list_all is_ascii_digit (d ∷ ds) && nat_le (number (d ∷ ds)) most) as
+    (λ b. (list_all is_ascii_digit (d ∷ ds) && nat_le (number (d ∷ ds)) most) ≡ b → IfSome (cond b (Some (number (d ∷ ds))) None) (λ n. 0 < n)) [
+      | true ↦ λ e. first_counts d ds (and_parts (is_ascii_digit d) (list_all is_ascii_digit ds) (and_parts (list_all is_ascii_digit (d ∷ ds)) (nat_le (number (d ∷ ds)) most) e).0).0 other
       | false ↦ λ e. tt
     ] refl)

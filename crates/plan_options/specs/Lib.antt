@@ -1,4 +1,6 @@
 -- what public clauses cite
+pub mod Decimals
+pub mod Demos
 pub mod Options
 pub mod Targets
 pub mod Views

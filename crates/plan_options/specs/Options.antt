@@ -1,8 +1,7 @@
 -- The options of a command that plans.
-use Rattle.std.specs.Prelude.{ℕ, List, [], ◌∷◌, codes, Bool, true, false, ◌&&◌, ◌==◌, if◌then◌else◌, nat_le, Option, Some, None, option_map}
-use Rattle.std.specs.Char.{is_ascii_digit}
-use Rattle.std.specs.List.{list_all}
-use Rattle.patch_core.specs.Indexes.{digit_0, number}
+use Rattle.std.specs.Prelude.{ℕ, List, [], ◌∷◌, codes, Bool, true, false, ◌&&◌, ◌==◌, if◌then◌else◌, Option, Some, None, option_map}
+use Rattle.patch_core.specs.Indexes.{digit_0}
+use Rattle.plan_options.specs.Decimals.{number_within}
 use Rattle.plan_options.specs.Words.{is_word}
 
 -- whether the plan is only printed, and how many configurations its search may meet
@@ -18,17 +17,10 @@ default_budget = 2000
 abbrev pub most_budget : ℕ
 most_budget = 20000
 
--- the number that digits write, where it is no greater than the greatest budget
-abbrev pub number_within : List ℕ → Option ℕ
-number_within digits =
-    if list_all is_ascii_digit digits && nat_le (number digits) most_budget
-    then Some (number digits)
-    else None
-
 -- a decimal without leading zero, from 1 to the greatest budget
 abbrev pub budget_in : List ℕ → Option ℕ
 budget_in [] = None
-budget_in (d ∷ ds) = if d == digit_0 then None else number_within (d ∷ ds)
+budget_in (d ∷ ds) = if d == digit_0 then None else number_within most_budget (d ∷ ds)
 
 -- the word for a plan that is only printed
 abbrev pub dry_run_word : List ℕ

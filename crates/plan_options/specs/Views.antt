@@ -1,7 +1,9 @@
--- Targets and options as the code keeps them.
+-- Targets, options and demonstrations as the code keeps them.
 use Rattle.std.specs.Prelude.{ℕ, List}
+use Rattle.plan_options.specs.Demos as demos
 use Rattle.plan_options.specs.Options as given
 use Rattle.plan_options.specs.Targets as words
+use Rattle.plan_options.specs.declared.demos.Demo.{Demo}
 use Rattle.plan_options.specs.declared.options.Options.{Options}
 use Rattle.plan_options.specs.declared.targets.Source.{Source}
 use Rattle.plan_options.specs.declared.targets.Source.TheVariants.{Patch, File, Checkpoint}
@@ -20,3 +22,7 @@ target_view t = target_from t.source t.word.now
 -- the options that they are
 abbrev pub options_view : Options → given.Options
 options_view o = record { dry_run = o.dry_run; budget = o.budget }
+
+-- the demonstration that it is
+abbrev pub demo_view : Demo → demos.Demo
+demo_view d = record { seed = d.seed; ports = d.ports }

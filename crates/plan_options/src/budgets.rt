@@ -1,9 +1,11 @@
 //! The budget of a search, as a word.
 ghost use Rattle.std.specs.Prelude.{◌≡◌, ◌<◌, ◌≤◌, IfSome};
-ghost use Rattle.plan_options.specs.Options.{budget_in, most_budget, number_within};
+ghost use Rattle.plan_options.specs.Options.{budget_in, most_budget};
+
+use crate::digits::number_within;
 
 /// The greatest budget.
-const MOST_BUDGET: u32 = 20_000;
+const MOST_BUDGET: u16 = 20_000;
 
 /// The budget that digits write: it has no leading zero.
 pub(crate) fn read_budget(digits: &[u8]) -> Option<u32>
@@ -14,23 +16,5 @@ pub(crate) fn read_budget(digits: &[u8]) -> Option<u32>
     if digits.is_empty() || digits[0] == b'0' {
         return None;
     }
-    number_within(digits)
-}
-
-/// The number that digits write, where it is no greater than the greatest budget.
-fn number_within(digits: &[u8]) -> Option<u32>
-    ensures number { result ≡ number_within digits.now }
-    ensures most { IfSome result (λ n. n ≤ most_budget) }
-{
-    let mut sum: u32 = 0;
-    for digit in digits {
-        if !digit.is_ascii_digit() {
-            return None;
-        }
-        sum = sum * 10 + u32::from(*digit - b'0');
-        if sum > MOST_BUDGET {
-            return None;
-        }
-    }
-    Some(sum)
+    number_within(digits, MOST_BUDGET)
 }

@@ -9,7 +9,7 @@ use crate::budgets::read_budget;
 use host_core::Txt;
 
 /// How many configurations a search may meet where no budget is given.
-const DEFAULT_BUDGET: u32 = 2_000;
+pub const DEFAULT_BUDGET: u32 = 2_000;
 
 /// The options that words are, or None where they are none.
 pub fn read_options(words: &[Txt]) -> Option<Options>

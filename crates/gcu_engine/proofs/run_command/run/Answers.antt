@@ -160,6 +160,20 @@ returns-in-Change-clause-complete g c =
     complete_by c.args.words.now _ (g.H.Host.told c.args.host.now) (g.H.Host.counts c.args.host.now) (g.H.Host.counts c.change.new.host) c.change.result
     c.in-Change.ensures c.change.ensures.complete
 
+pub returns-in-Demo-clause-answers : goal.returns-in-Demo-clause-answers
+returns-in-Demo-clause-answers g c =
+    answers_by c.args.words.now _ (g.H.Host.told c.args.host.now) (g.H.Host.told c.demo.new.host) (g.H.Host.counts c.args.host.now) (g.H.Host.counts c.demo.new.host) c.demo.result
+    c.in-Demo.ensures c.demo.ensures.answers
+
+pub returns-in-Demo-clause-crash : goal.returns-in-Demo-clause-crash
+returns-in-Demo-clause-crash g c =
+    leaves_by g.H.Host.moment g.H.Host.left_since c.args.words.now _ c.args.host.now c.demo.new.host (g.H.Host.told c.args.host.now) c.in-Demo.ensures (λ s left h. h) c.demo.ensures.crash
+
+pub returns-in-Demo-clause-complete : goal.returns-in-Demo-clause-complete
+returns-in-Demo-clause-complete g c =
+    complete_by c.args.words.now _ (g.H.Host.told c.args.host.now) (g.H.Host.counts c.args.host.now) (g.H.Host.counts c.demo.new.host) c.demo.result
+    c.in-Demo.ensures c.demo.ensures.complete
+
 -- ---- the promise of the whole
 
 pub returns-in-Unknown-clause-headline : goal.returns-in-Unknown-clause-headline
@@ -206,3 +220,8 @@ pub returns-in-Change-clause-headline : goal.returns-in-Change-clause-headline
 returns-in-Change-clause-headline g c =
     headline g.H.Host.moment g.H.Host.left_since c.args.words.now (g.H.Host.told c.args.host.now) (g.H.Host.told c.change.new.host) c.args.host.now c.change.new.host
     (g.H.Host.counts c.args.host.now) (g.H.Host.counts c.change.new.host) c.change.result (returns-in-Change-clause-answers g c) (returns-in-Change-clause-crash g c)
+
+pub returns-in-Demo-clause-headline : goal.returns-in-Demo-clause-headline
+returns-in-Demo-clause-headline g c =
+    headline g.H.Host.moment g.H.Host.left_since c.args.words.now (g.H.Host.told c.args.host.now) (g.H.Host.told c.demo.new.host) c.args.host.now c.demo.new.host
+    (g.H.Host.counts c.args.host.now) (g.H.Host.counts c.demo.new.host) c.demo.result (returns-in-Demo-clause-answers g c) (returns-in-Demo-clause-crash g c)

@@ -1,4 +1,5 @@
 use Rattle.std.proofs.Common.{◌≡◌, ◌==◌, ◌<◌, ℕ, List, [], ◌∷◌, Bool, false, length, arith}
+use Rattle.plan_options.specs.Options.{most_budget}
 use Rattle.plan_options.proofs.Decimals.{counts}
 use Rattle.plan_options.proofs.budgets.read_budget.Goals as goal
 
@@ -8,4 +9,4 @@ not_empty (d ∷ ds) b is none = omega arith
 
 pub returns-clause-some : goal.returns-clause-some
 returns-clause-some c =
-    counts c.args.digits.now c.number_within.result c.number_within.ensures.number (not_empty c.args.digits.now c.is_empty.result c.is_empty.ensures c.if-is_empty.false) c.if-digits-eq48.false
+    counts most_budget c.args.digits.now c.number_within.result c.number_within.ensures.number (not_empty c.args.digits.now c.is_empty.result c.is_empty.ensures c.if-is_empty.false) c.if-digits-eq48.false

@@ -1,0 +1,152 @@
+//! `gcu demo SEED N`: of how many steps a plan between two generated configurations is.
+ghost use Rattle.std.specs.Prelude.{◌≡◌, ◌≤◌, ◌++◌, IfErr, IfOk, IfSome, OnOk, string_bytes};
+ghost use Rattle.host_core.specs.Counts.{NoneFell, PrintMayRise};
+ghost use Rattle.host_core.specs.Crashes.{Elapses, LeavesOnly, MayLeaveNow};
+ghost use Rattle.move_core.specs.Contexts.{IsNamed};
+ghost use Rattle.gcu_demo.specs.Demo.{most_ports};
+ghost use Rattle.gcu_engine.specs.Answers.{HasCause, LeftWithOutput};
+ghost use Rattle.gcu_engine.specs.Commands.{AnswersTo, CompleteTo, LeftTo};
+ghost use Rattle.gcu_engine.specs.DemoAsked.{demo_asked, demo_planning_asked, generated_asked};
+ghost use Rattle.gcu_engine.specs.Lines.{last_line, line_feed};
+ghost use Rattle.gcu_engine.specs.PlanCommands.{IsReadyToSearch, RefusesOrEnds, SaysSteps, planning_of};
+ghost use Rattle.gcu_engine.specs.Preparing.{Finds, Found, Refuses, RefusesAlways};
+ghost use Rattle.gcu_engine.specs.Printing.{IsSaid};
+ghost use Rattle.gcu_engine.specs.Summary.{counted, summary};
+ghost use Rattle.gcu_engine.specs.declared.outcomes.Outcome.TheVariants.{Done as done, Usage as usage};
+
+use crate::Outcome;
+use crate::judging::{End, judge};
+use crate::plan_goal::judge_goal;
+use crate::planning::{Planning, find_plan};
+use crate::printing::{print, say, say_memory};
+use crate::rules::input_ctx;
+use conf_store::Stored;
+use gcu_demo::make;
+use host_core::{Host, Names};
+use move_core::{Boxes, Ctx, Kit, Plan};
+use plan_options::{DEFAULT_BUDGET, Demo};
+use std::alloc::{AllocError, Global};
+
+/// Says of how many steps a plan is between the configurations of a demonstration. No file of the folder is
+/// read, and none is written.
+pub(crate) fn demo<H: Host>(alloc: Global, size: Demo, kit: &mut Kit, host: &mut H) -> Outcome
+    requires kinds { ⟦<Kit as Boxes>⟧.HasKinds kit.old }
+    ensures kinds { ⟦<Kit as Boxes>⟧.HasKinds kit.new }
+    ensures answers { AnswersTo (demo_asked size.seed size.ports)
+        (H.told host.old) (H.told host.new) (H.counts host.old) (H.counts host.new) result }
+    ensures cause { HasCause (H.counts host.old) (H.counts host.new) result }
+    ensures counts { NoneFell (H.counts host.old) (H.counts host.new) }
+    ensures crash { LeavesOnly H.moment H.left_since host.old host.new
+        (LeftTo (demo_asked size.seed size.ports) (H.told host.old)) }
+    ensures goes { H.goes_on host.old host.new }
+    ensures form { result ≡ usage → ⊥ }
+    ensures complete { CompleteTo (demo_asked size.seed size.ports)
+        (H.told host.old) (H.counts host.old) (H.counts host.new) result }
+{
+    match find_steps(alloc, size, kit, host) {
+        Ok(plan) => show_summary(alloc, size.ports, plan.len(), host),
+        Err(outcome) => say(alloc, outcome, host),
+    }
+}
+
+/// A plan between the configurations of a demonstration.
+fn find_steps<H: Host>(
+    alloc: Global,
+    size: Demo,
+    kit: &mut Kit,
+    host: &mut H,
+) -> Result<Plan, Outcome>
+    requires kinds { ⟦<Kit as Boxes>⟧.HasKinds kit.old }
+    ensures kinds { ⟦<Kit as Boxes>⟧.HasKinds kit.new }
+    ensures says { IfSome (H.told host.old)
+        (λ s. SaysSteps size.ports (demo_asked size.seed size.ports s) s result) }
+    ensures told { H.told host.new ≡ H.told host.old }
+    ensures counts { NoneFell (H.counts host.old) (H.counts host.new) }
+    ensures cause { IfErr result (RefusesOrEnds (H.counts host.old) (H.counts host.new)) }
+    ensures time { Elapses H.moment H.left_since host.old host.new (MayLeaveNow (H.told host.old)) }
+    ensures goes { H.goes_on host.old host.new }
+{
+    let planning = prepare_demo(alloc, size, host)?;
+    find_plan(alloc, kit, &planning)
+}
+
+/// Reads what a demonstration needs, and generates its configurations.
+fn prepare_demo<H: Host>(alloc: Global, size: Demo, host: &mut H) -> Result<Planning, Outcome>
+    ensures answer { Finds (H.told host.old) planning_of result
+        (demo_planning_asked size.seed size.ports) }
+    ensures ready { IfOk result IsReadyToSearch }
+    ensures told { H.told host.new ≡ H.told host.old }
+    ensures counts { NoneFell (H.counts host.old) (H.counts host.new) }
+    ensures cause { IfErr result (Refuses (H.counts host.old) (H.counts host.new)) }
+    ensures time { Elapses H.moment H.left_since host.old host.new (MayLeaveNow (H.told host.old)) }
+    ensures goes { H.goes_on host.old host.new }
+{
+    let ctx = input_ctx(alloc, host)?;
+    generate(alloc, ctx, size)
+}
+
+/// Generates the configurations of a demonstration, and judges them.
+fn generate(alloc: Global, ctx: Ctx, size: Demo) -> Result<Planning, Outcome>
+    requires named { IsNamed ctx }
+    ensures answer { Found planning_of result (generated_asked size.seed size.ports ctx) }
+    ensures ready { IfOk result IsReadyToSearch }
+    ensures cause { IfErr result RefusesAlways }
+{
+    let (start, goal) = make(alloc, size.seed, size.ports)?;
+    let config = judge(alloc, End::Start, &ctx, start)?;
+    let goal = judge_goal(alloc, &ctx, &config, goal)?;
+    let stored = Stored {
+        config,
+        steps: Names::new(alloc),
+        folded: false,
+    };
+    Ok(Planning {
+        ctx,
+        stored,
+        goal,
+        budget: DEFAULT_BUDGET,
+    })
+}
+
+/// Prints how many there are of all, and the last line of Done.
+fn show_summary<H: Host>(alloc: Global, ports: u32, steps: usize, host: &mut H) -> Outcome
+    requires { ports ≤ most_ports }
+    ensures said { IsSaid done (summary ports steps ++ last_line done)
+        (H.told host.old) (H.told host.new) (H.counts host.old) (H.counts host.new) result }
+    ensures counts { PrintMayRise (H.counts host.old) (H.counts host.new) }
+    ensures time { Elapses H.moment H.left_since host.old host.new
+        (LeftWithOutput (H.told host.old)) }
+    ensures goes { H.goes_on host.old host.new }
+{
+    match summary_text(alloc, ports, steps) {
+        Ok(text) => print(Outcome::Done, text.as_bytes(), host),
+        Err(_) => say_memory(host),
+    }
+}
+
+/// The whole output.
+#[tactic(auto, using(std::proofs::Common::append_assoc))]
+fn summary_text(alloc: Global, ports: u32, steps: usize) -> Result<String, AllocError>
+    requires { ports ≤ most_ports }
+    ensures { IfOk result (λ s. string_bytes s ≡ summary ports steps ++ last_line done) }
+{
+    let vlans = 5 * ports / 8;
+    let changes = 5 * ports / 4;
+    let mut text = String::new(alloc);
+    push_count(alloc, &mut text, "ports", ports as usize)?;
+    push_count(alloc, &mut text, "vlans", vlans as usize)?;
+    push_count(alloc, &mut text, "changes", changes as usize)?;
+    push_count(alloc, &mut text, "steps", steps)?;
+    text.push_str("done\n")?;
+    Ok(text)
+}
+
+/// Adds the line of a name and a number.
+#[tactic(auto, using(std::proofs::Common::append_assoc))]
+fn push_count(alloc: Global, text: &mut String, name: &str, count: usize) -> Result<(), AllocError>
+    ensures { OnOk result
+        (string_bytes text.new ≡ string_bytes text.old ++ counted name.now count ++ line_feed) }
+{
+    let line = format!(in alloc; "{name} {count}\n")?;
+    text.push_str(line.as_str())
+}
