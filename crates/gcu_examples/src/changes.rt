@@ -53,18 +53,35 @@ fn does(
     host: MemHost,
     said: &mut Vec<u8>,
 ) -> Result<Option<MemHost>, Fail> {
+    let Some(done) = obeyed(alloc, row, host)? else {
+        return Ok(None);
+    };
+    let text = written_at(alloc, row, "output")?;
+    said.extend_from_slice(&text)?;
+    if done.output() != said.as_slice() {
+        return Ok(None);
+    }
+    left_by(alloc, row, done)
+}
+
+/// The host after the command, where it ends with the status that is said.
+fn obeyed(alloc: Global, row: &Value, host: MemHost) -> Result<Option<MemHost>, Fail> {
     let mut host = host;
     let words = words_at(alloc, row)?;
     let outcome = obey(alloc, words.items(), &mut host)?;
-    let text = written_at(alloc, row, "output")?;
-    said.extend_from_slice(&text)?;
-    let same_status = u64::from(outcome.status()) == number_at(row, "status")?;
-    let same_output = host.output() == said.as_slice();
-    let mut left = host.crash(alloc, &Pick::After)?;
-    if same_status && same_output && leaves(alloc, row, &mut left)? {
-        return Ok(Some(left));
+    if u64::from(outcome.status()) != number_at(row, "status")? {
+        return Ok(None);
     }
-    Ok(None)
+    Ok(Some(host))
+}
+
+/// The host after a crash that loses nothing, where the command has left what its row says.
+fn left_by(alloc: Global, row: &Value, host: MemHost) -> Result<Option<MemHost>, Fail> {
+    let mut left = host.crash(alloc, &Pick::After)?;
+    if !leaves(alloc, row, &mut left)? {
+        return Ok(None);
+    }
+    Ok(Some(left))
 }
 
 /// Whether a command has left what its row says.
