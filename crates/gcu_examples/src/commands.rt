@@ -9,9 +9,9 @@ use move_rules::{CreateOnlyRule, FullRule, NoDependencyRule, NoEmptyRule, Requir
 use serde_json::Value;
 use std::alloc::Global;
 
-const CONFIG_FILE: &str = "config_db.json";
+pub const CONFIG_FILE: &str = "config_db.json";
 
-const PATCH_FILE: &str = "p.json";
+pub const PATCH_FILE: &str = "p.json";
 
 /// A row has the `words` of a command, the stored `config` and the `patch` that is the input `p.json`
 /// where they are there, other `inputs` and other `files` of the folder, each a name with its bytes, and
@@ -34,7 +34,7 @@ impl Table for Commands {
 }
 
 /// Does the command with the boxes of a planner.
-fn obey(alloc: Global, words: &[Txt], host: &mut MemHost) -> Result<Outcome, Memory> {
+pub fn obey(alloc: Global, words: &[Txt], host: &mut MemHost) -> Result<Outcome, Memory> {
     let gens = kit_generators(
         alloc,
         Box::new(alloc, TableGen::new())?,
@@ -61,7 +61,7 @@ fn obey(alloc: Global, words: &[Txt], host: &mut MemHost) -> Result<Outcome, Mem
     Ok(run(alloc, words, &mut kit, host))
 }
 
-fn words_at(alloc: Global, row: &Value) -> Result<Names, Fail> {
+pub fn words_at(alloc: Global, row: &Value) -> Result<Names, Fail> {
     let mut words = Sequence::new(alloc);
     for word in items_at(row, "words")? {
         let text = word.as_str().ok_or(Fail::Row)?;
@@ -87,15 +87,24 @@ fn host_at(alloc: Global, row: &Value) -> Result<MemHost, Fail> {
 }
 
 /// Adds the other inputs, or the other files of the folder.
-fn push_others(
+pub fn push_others(
     alloc: Global,
     row: &Value,
     which: &str,
     files: &mut Vec<(Txt, Vec<u8>)>,
 ) -> Result<(), Fail> {
-    let Some(others) = row.get(which) else {
-        return Ok(());
-    };
+    match row.get(which) {
+        Some(others) => push_all(alloc, others, files),
+        None => Ok(()),
+    }
+}
+
+/// Adds each name that is there, with its bytes.
+pub fn push_all(
+    alloc: Global,
+    others: &Value,
+    files: &mut Vec<(Txt, Vec<u8>)>,
+) -> Result<(), Fail> {
     for (name, _) in others.as_object().ok_or(Fail::Row)? {
         let bytes = text_bytes(alloc, others, name.as_str())?;
         files.push((Txt::new(alloc, name.as_str())?, bytes))?;
@@ -113,7 +122,7 @@ fn input_at(alloc: Global, row: &Value) -> Result<Vec<u8>, Fail> {
     Ok(bytes)
 }
 
-fn faults_at(alloc: Global, row: &Value) -> Result<Faults, Fail> {
+pub fn faults_at(alloc: Global, row: &Value) -> Result<Faults, Fail> {
     let mut at = Sequence::new(alloc);
     if row.get("fails").is_some() {
         for number in items_at(row, "fails")? {
@@ -135,7 +144,7 @@ fn keeps_config(alloc: Global, row: &Value, host: &MemHost) -> Result<bool, Fail
 }
 
 /// Whether the files that the row names hold what it says.
-fn has_files(alloc: Global, row: &Value, host: &MemHost) -> Result<bool, Fail> {
+pub fn has_files(alloc: Global, row: &Value, host: &MemHost) -> Result<bool, Fail> {
     let Some(after) = row.get("after") else {
         return Ok(true);
     };
