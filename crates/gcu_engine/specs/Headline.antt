@@ -114,7 +114,7 @@ IsOneChange (save_checkpoint name config) before after = after ≡ with_point na
 IsOneChange (delete_checkpoint name) before after = after ≡ without_point name before
 IsOneChange other before after = ⊥
 
--- the checkpoints are as before, or with the one change of the command
+-- the checkpoints are as before, or with the one change that was asked for
 abbrev pub HasWholePoints : List (List ℕ) → State → Files → Type 0
 HasWholePoints words s files =
     (points files ≡ points s.files)
