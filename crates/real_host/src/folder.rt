@@ -1,5 +1,5 @@
 //! The files of the working folder. A call that a signal interrupts is tried again: here where std does
-//! not do so itself, which opens, reads, writes and syncs again.
+//! not do so itself, which opens, writes and syncs again, and `reading.rt`, which reads again.
 
 use crate::reading::{host_error, read_input, read_whole};
 use host_core::{Failed, HostError, Input, Names, Sequence, Txt};

@@ -1,11 +1,19 @@
 //! Reading the bytes of a file, up to a limit.
-ghost use Rattle.std.specs.Prelude.{◌≡◌, take, IfOk, IfSome, Some};
+ghost use Rattle.std.specs.Prelude.{◌≡◌, ◌≤◌, ◌<◌, ◌*◌, ◌+◌, ◌++◌, ◌⊎◌, ℕ, List, true, false, length, take, IfOk, IfSome, OnOk, Some, vec_len};
+ghost use Rattle.std.specs.Io.{ReadsAtMost};
+ghost use Rattle.std.specs.Io.KnownBytes.{Consumes, IsAtEnd};
 ghost use Rattle.host_core.specs.Inputs.{within};
 
 use host_core::{HostError, Input, Sequence};
 use std::alloc::Global;
 use std::io;
 use std::io::{ErrorKind, Read};
+
+/// How many turns a file is read for. Each of them takes a byte at least.
+const MOST_TURNS: u64 = 4_294_967_296;
+
+/// How many bytes a turn takes at most.
+const PIECE: usize = 65_536;
 
 /// An input of at most `limit` bytes, of which one more is read.
 pub(crate) fn read_input<F: Read>(
@@ -25,23 +33,88 @@ pub(crate) fn read_input<F: Read>(
 
 /// All bytes of a file.
 pub(crate) fn read_whole<F: Read>(alloc: Global, file: &mut F) -> Result<Vec<u8>, HostError>
-    ensures { IfOk result (λ v. IfSome (F.remaining file.old) (λ bytes. v.items ≡ bytes)) }
+    ensures bytes { IfOk result (λ v. IfSome (F.remaining file.old) (λ bytes. v.items ≡ bytes)) }
+    ensures turns { IfOk result (λ v. vec_len v ≤ MOST_TURNS * PIECE) }
 {
     let bytes = read_up_to(alloc, file, u64::MAX)?;
     Ok(bytes)
 }
 
-/// The first bytes of a file, `most` of them, or all where there are not so many. A read that a signal
-/// interrupts is done again.
+/// The first bytes of a file, `most` of them, or all where there are not so many. A file that goes on
+/// after the last turn is a fault.
 fn read_up_to<F: Read>(alloc: Global, file: &mut F, most: u64) -> Result<Vec<u8>, HostError>
-    ensures { IfOk result (λ v. IfSome (F.remaining file.old)
+    ensures bytes { IfOk result (λ v. IfSome (F.remaining file.old)
         (λ bytes. v.items ≡ take most bytes)) }
+    ensures turns { IfOk result (λ v. vec_len v ≤ MOST_TURNS * PIECE) }
+{
+    read_in_turns(alloc, file, most, MOST_TURNS)
+}
+
+/// The same in at most so many turns.
+pub(crate) fn read_in_turns<F: Read>(
+    alloc: Global,
+    file: &mut F,
+    most: u64,
+    turns: u64,
+) -> Result<Vec<u8>, HostError>
+    ensures bytes { IfOk result (λ v. IfSome (F.remaining file.old)
+        (λ bytes. v.items ≡ take most bytes)) }
+    ensures turns { IfOk result (λ v. vec_len v ≤ turns * PIECE) }
 {
     let mut bytes = Vec::new(alloc);
-    match file.take(most).read_to_end(&mut bytes) {
-        Ok(_) => Ok(bytes),
-        Err(error) => Err(host_error(&error)),
+    let mut piece = [0; PIECE];
+    for _turn in 0..turns {
+        if !read_more(file, &mut piece, &mut bytes, most)? {
+            return Ok(bytes);
+        }
     }
+    Err(HostError::Failed)
+}
+
+/// Appends the next bytes of a file, by way of a piece, until there are `most`. Says whether it took any.
+fn read_more<F: Read>(
+    file: &mut F,
+    piece: &mut [u8],
+    bytes: &mut Vec<u8>,
+    most: u64,
+) -> Result<bool, HostError>
+    requires room { vec_len bytes.old ≤ most }
+    requires piece { 0 < length piece.old }
+    ensures room { vec_len bytes.new ≤ most }
+    ensures piece { vec_len bytes.new ≤ vec_len bytes.old + length piece.old }
+    ensures taken { OnOk result ((taken : List ℕ) × (bytes.new.items ≡ bytes.old.items ++ taken)
+        × Consumes (F.remaining file.old) (F.remaining file.new) taken) }
+    ensures end { IfOk result (λ more. more ≡ false
+        → (vec_len bytes.new ≡ most) ⊎ IsAtEnd (F.remaining file.new)) }
+    ensures more { IfOk result (λ more. more ≡ true → vec_len bytes.old < vec_len bytes.new) }
+{
+    let room = (most - bytes.len() as u64).min(piece.len() as u64) as usize;
+    if room == 0 {
+        return Ok(false);
+    }
+    let count = read_once(file, &mut piece[..room])?;
+    match bytes.extend_from_slice(&piece[..count]) {
+        Ok(()) => Ok(count > 0),
+        Err(_) => Err(HostError::Memory),
+    }
+}
+
+/// One read, again where a signal interrupts it.
+fn read_once<F: Read>(file: &mut F, piece: &mut [u8]) -> Result<usize, HostError>
+    ensures bound { ReadsAtMost result piece.new }
+    ensures taken { IfOk result
+        (λ n. Consumes (F.remaining file.old) (F.remaining file.new) (take n piece.new)) }
+    ensures end { IfOk result
+        (λ n. n ≡ 0 → 0 < length piece.old → IsAtEnd (F.remaining file.new)) }
+{
+    for _ in 0..u64::MAX {
+        match file.read(piece) {
+            Ok(count) => return Ok(count),
+            Err(error) if error.kind() == ErrorKind::Interrupted => {}
+            Err(_) => return Err(HostError::Failed),
+        }
+    }
+    Err(HostError::Failed)
 }
 
 /// What the host tells of an error.

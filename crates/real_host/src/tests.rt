@@ -1,7 +1,7 @@
 //! Reading, the words of the command line and the host, over fakes of the system and in a real folder.
 use crate::as_host::RealHost;
 use crate::command_line::{words, words_of};
-use crate::reading::read_input;
+use crate::reading::{read_in_turns, read_input};
 use host_core::{Host, HostError, Input, Names};
 use std::alloc::{Allocator, Global};
 use std::cell::Cell;
@@ -84,6 +84,33 @@ fn a_file_is_read_in_parts_and_a_fault_in_mid_stream_is_told(rt: HostRuntime) ->
         assert_eq!(rt; got, want, "up to {limit}");
     }
     Ok(())
+}
+
+#[test]
+fn a_file_that_goes_on_after_the_last_turn_is_a_failed_call(rt: HostRuntime) {
+    let parts = [
+        Ok(b"ab".as_slice()),
+        Err(ErrorKind::Interrupted),
+        Ok(b"cd".as_slice()),
+    ];
+    for (turns, most, want) in [
+        (0, 9, "failed"),
+        (1, 9, "failed"),
+        (2, 9, "failed"),
+        (3, 9, "abcd"),
+        (3, 4, "abcd"),
+        (3, 2, "other bytes"),
+    ] {
+        let mut file = Reads {
+            all: parts.as_slice(),
+            done: 0,
+        };
+        let got = match read_in_turns(rt.alloc(), &mut file, most, turns) {
+            Ok(bytes) => name_of_bytes(&bytes),
+            Err(error) => name_of_error(error),
+        };
+        assert_eq!(rt; got, want, "{most} bytes in {turns} turns");
+    }
 }
 
 // A command line of these words.
