@@ -1,9 +1,13 @@
 pub mod Adding
 pub mod Chains
+pub mod Finite
 pub mod Firsts
 pub mod Gathered
+pub mod Known
 pub mod Members
 pub mod Noted
 pub mod Reached
+pub mod Selected
+pub mod Standing
 pub mod Tiers
 pub mod Walked

@@ -1,4 +1,5 @@
 -- what public clauses cite
+pub mod Finite
 pub mod Tiers
 -- what only private clauses cite
 pub mod MoveKeys

@@ -1,10 +1,16 @@
-//! What holds of the lists of the tiers.
+//! What holds of the set of listed moves and of the lists of the tiers.
 ghost use Rattle.conf_doc.specs.declared.configuration.Config.{Config};
 ghost use Rattle.move_core.specs.declared.contexts.Ctx.{Ctx};
+ghost use Rattle.plan_lists.specs.Finite.{MovesAreFinite};
 ghost use Rattle.plan_lists.specs.Tiers.{TiersMakeTheList};
 
 /// The lists of the tiers 1 to 4 one after another are the list of moves. The body does nothing: the law is
 /// the contract.
 pub fn tiers_make_the_list()
     ensures { (ctx : Ctx) (start cur goal : Config) → TiersMakeTheList ctx start cur goal }
+{}
+
+/// The listed moves are finitely many, at each configuration and for each goal.
+pub fn moves_are_finite()
+    ensures { MovesAreFinite }
 {}

@@ -1,0 +1,16 @@
+-- The listed moves of a configuration are finitely many.
+use Rattle.std.specs.Prelude.{List}
+use Rattle.std.specs.List.{Contains}
+use Rattle.conf_doc.specs.declared.configuration.Config.{Config}
+use Rattle.move_core.specs.Contexts.{rulebook}
+use Rattle.move_core.specs.Listed.{IsListed}
+use Rattle.move_core.specs.declared.contexts.Ctx.{Ctx}
+
+-- some list holds all that are as P says
+abbrev pub IsFinite : {A : Type 0} → (A → Type 0) → Type 0
+IsFinite {A} P = (xs : List A) × ((x : A) → P x → Contains xs x)
+
+-- some list holds all listed moves
+abbrev pub MovesAreFinite : Type 0
+MovesAreFinite =
+    (ctx : Ctx) (cur goal : Config) → IsFinite (IsListed (rulebook ctx) cur goal)
