@@ -1,13 +1,16 @@
 pub mod Adding
 pub mod Chains
+pub mod Existing
 pub mod Finite
 pub mod Firsts
 pub mod Gathered
 pub mod Known
 pub mod Members
 pub mod Noted
+pub mod Ordered
 pub mod Reached
 pub mod Selected
 pub mod Standing
+pub mod Surely
 pub mod Tiers
 pub mod Walked

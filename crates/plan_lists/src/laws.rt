@@ -1,7 +1,7 @@
 //! What holds of the set of listed moves and of the lists of the tiers.
 ghost use Rattle.conf_doc.specs.declared.configuration.Config.{Config};
 ghost use Rattle.move_core.specs.declared.contexts.Ctx.{Ctx};
-ghost use Rattle.plan_lists.specs.Finite.{MovesAreFinite};
+ghost use Rattle.plan_lists.specs.Finite.{ListsExist, MovesAreFinite};
 ghost use Rattle.plan_lists.specs.Tiers.{TiersMakeTheList};
 
 /// The lists of the tiers 1 to 4 one after another are the list of moves. The body does nothing: the law is
@@ -13,4 +13,9 @@ pub fn tiers_make_the_list()
 /// The listed moves are finitely many, at each configuration and for each goal.
 pub fn moves_are_finite()
     ensures { MovesAreFinite }
+{}
+
+/// So they can't fail to have a list, each once, in order. Which list it is isn't told.
+pub fn lists_exist()
+    ensures { ListsExist }
 {}

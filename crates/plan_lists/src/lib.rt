@@ -9,5 +9,5 @@ mod move_keys;
 mod ranking;
 mod reaches;
 
-pub use laws::{moves_are_finite, tiers_make_the_list};
+pub use laws::{lists_exist, moves_are_finite, tiers_make_the_list};
 pub use listing::{listed, listed_in_tier};
