@@ -1,4 +1,4 @@
--- Where each configuration has its list, the order of ways is that of their positions in the lists.
+-- The order of ways is that of their positions in the lists of moves.
 use Rattle.std.proofs.Common.{◌≡◌, ◌⊎◌, inl, inr, ℕ, ◌<◌, List, [], ◌∷◌, ◌++◌, zero, suc, length, Some, get_or, refl, sym, ap, subst, ◌∙◌, arith}
 use Rattle.std.specs.Cmp.{nat_cmp_is, nat_cmp_total, tied_itself}
 use Rattle.std.specs.Cmp.Lexicographic.{slice_cmp}
@@ -8,12 +8,15 @@ use Rattle.std.specs.declared.cmp.Ordering.TheVariants.{Less}
 use Rattle.std.proofs.lemmas.Option.{get_or_from_slice_get, slice_get-get_or}
 use Rattle.conf_doc.specs.declared.configuration.Config.{Config}
 use Rattle.move_core.specs.Contexts.{rulebook}
-use Rattle.move_core.specs.Listed.{AreListed}
+use Rattle.move_core.specs.Listed.{AreListed, IsListed}
 use Rattle.move_core.specs.Moves.{step}
 use Rattle.move_core.specs.Plans.{IsReachable, IsWay}
 use Rattle.move_core.specs.Ways.{ArePositions, IsAhead, IsBefore as AreBefore, IsLeast, IsSimpleWay}
 use Rattle.move_core.specs.declared.contexts.Ctx.{Ctx}
 use Rattle.move_core.specs.declared.moves.Move.{Move}
+use Rattle.plan_lists.proofs.Existing.{surely_listed}
+use Rattle.plan_lists.proofs.Surely.{surely, then_surely}
+use Rattle.plan_search.specs.FirstLaws.{IsSurelyAhead, IsSurelyLeast}
 use Rattle.plan_search.specs.FirstWays.{IsAheadOfGoal, IsBefore, IsFirstWay, StandsBefore}
 use Rattle.plan_search.specs.Kits.{one_before}
 use Rattle.plan_search.proofs.Parts.{listed_order}
@@ -37,9 +40,7 @@ after_same : (i : ℕ) (is js : List ℕ) → slice_cmp nat_cmp is js ≡ Less �
 after_same i is js e =
     ap (λ o. ordering_then o (slice_cmp nat_cmp is js)) (tied_itself nat_cmp_total i) ∙ e
 
-module _ (ctx : Ctx) (start goal : Config)
-    (lists : (c : Config) → IsReachable (rulebook ctx) goal start c
-    → (list : List Move) × AreListed (rulebook ctx) start c goal list) where
+module _ (ctx : Ctx) (start goal : Config) where
   -- some way leads there, and a move is allowed
   further : (c : Config) (m : Move) → IsReachable (rulebook ctx) goal start c
       → IsWay (rulebook ctx) goal c (m ∷ []) (step c m) → IsReachable (rulebook ctx) goal start (step c m)
@@ -51,12 +52,28 @@ module _ (ctx : Ctx) (start goal : Config)
           subst (λ x. IsWay (rulebook ctx) goal x (m ∷ []) (step c m)) e w
       go d (n ∷ ms) v = (v.0, go (step d n) ms v.1)
 
+  -- the list of moves of a configuration
+  abbrev HasList : Config → Type 0
+  HasList c = (list : List Move) × AreListed (rulebook ctx) start c goal list
+
+  -- moves have positions
+  abbrev HavePositions : Config → List Move → Type 0
+  HavePositions c ms = (is : List ℕ) × ArePositions (rulebook ctx) start goal c ms is
+
+  -- some have, and others have, and the first ones are before
+  abbrev HaveBefore : Config → List Move → List Move → Type 0
+  HaveBefore c ms ns =
+      (left : List ℕ) × (right : List ℕ) × ArePositions (rulebook ctx) start goal c ms left
+      × ArePositions (rulebook ctx) start goal c ns right × (slice_cmp nat_cmp left right ≡ Less)
+
   -- a listed move has a position
-  at : (c : Config) (r : IsReachable (rulebook ctx) goal start c) (m : Move) (x : Config) (ms : List Move)
-      → IsWay (rulebook ctx) goal c (m ∷ ms) x → (i : ℕ) × (slice_get (lists c r).0 i ≡ Some m)
-  at c r m x ms w =
-      let l = lists c r in
-      position l.0 m (subst (λ k. Contains k m) (sym l.1.2) (l.1.1.all m w.0.listed))
+  at : (c : Config) (l : HasList c) (m : Move) → IsListed (rulebook ctx) c goal m → (i : ℕ) × (slice_get l.0 i ≡ Some m)
+  at c l m is = position l.0 m (subst (λ k. Contains k m) (sym l.1.2) (l.1.1.all m is))
+
+  -- so has one with moves that follow it
+  one_more : (c : Config) (m : Move) (ms : List Move) → HasList c → IsListed (rulebook ctx) c goal m
+      → HavePositions (step c m) ms → HavePositions c (m ∷ ms)
+  one_more c m ms l is rest = let i = at c l m is in (i.0 ∷ rest.0, ((l.0, l.1, i.1), rest.1))
 
   -- the earlier move has the lesser position
   earlier : (c : Config) (list : List Move) (m n : Move) (i j : ℕ)
@@ -82,82 +99,126 @@ module _ (ctx : Ctx) (start goal : Config)
           sym (get_or_from_slice_get list i m n mi) ∙ ap (λ k. get_or list k n) e ∙ get_or_from_slice_get list j n n nj in
           absurd (no_self n (subst (λ k. StandsBefore (rulebook ctx) start goal c k n) same before))
 
-  -- the moves of a way have positions
-  positions : (c : Config) (ms : List Move) (x : Config) → IsReachable (rulebook ctx) goal start c
-      → IsWay (rulebook ctx) goal c ms x → (is : List ℕ) × ArePositions (rulebook ctx) start goal c ms is
-  positions c [] x r w = ([], tt)
-  positions c (m ∷ ms) x r w =
-      let i = at c r m x ms w in
-      let rest = positions (step c m) ms x (further c m r (w.0, refl)) w.1 in
-      (i.0 ∷ rest.0, (((lists c r).0, (lists c r).1, i.1), rest.1))
-
-  -- by them the way before is before
-  pub by_positions : (c : Config) (ms ns : List Move) (x y : Config) → IsReachable (rulebook ctx) goal start c
-      → IsWay (rulebook ctx) goal c ms x → IsWay (rulebook ctx) goal c ns y
-      → IsBefore (StandsBefore (rulebook ctx) start goal) c ms ns
-      → (left : List ℕ) × (right : List ℕ) × ArePositions (rulebook ctx) start goal c ms left
-      × ArePositions (rulebook ctx) start goal c ns right × (slice_cmp nat_cmp left right ≡ Less)
-  by_positions c [] [] x y r v w b = absurd b
-  by_positions c [] (n ∷ ns) x y r v w b =
-      let rest = positions (step c n) ns y (further c n r (w.0, refl)) w.1 in
-      let j = at c r n y ns w in
-      ([], j.0 ∷ rest.0, tt, (((lists c r).0, (lists c r).1, j.1), rest.1), refl)
-  by_positions c (m ∷ ms) [] x y r v w b = absurd b
-  by_positions c (m ∷ ms) (n ∷ ns) x y r v w (inl before) =
-      let i = at c r m x ms v in
-      let j = at c r n y ns w in
-      let left = positions (step c m) ms x (further c m r (v.0, refl)) v.1 in
-      let right = positions (step c n) ns y (further c n r (w.0, refl)) w.1 in (
+  -- moves that follow an earlier one are before those that follow a later one
+  parted : (c : Config) (m n : Move) (ms ns : List Move) → HasList c → IsListed (rulebook ctx) c goal m → IsListed (rulebook ctx) c goal n
+      → StandsBefore (rulebook ctx) start goal c m n → HavePositions (step c m) ms → HavePositions (step c n) ns
+      → HaveBefore c (m ∷ ms) (n ∷ ns)
+  parted c m n ms ns l is_m is_n before left right =
+      let i = at c l m is_m in
+      let j = at c l n is_n in (
         i.0 ∷ left.0,
         j.0 ∷ right.0,
-        (((lists c r).0, (lists c r).1, i.1), left.1),
-        (((lists c r).0, (lists c r).1, j.1), right.1),
-        lesser i.0 j.0 left.0 right.0
-            (earlier c (lists c r).0 m n i.0 j.0 (lists c r).1 i.1 j.1 before),
+        ((l.0, l.1, i.1), left.1),
+        ((l.0, l.1, j.1), right.1),
+        lesser i.0 j.0 left.0 right.0 (earlier c l.0 m n i.0 j.0 l.1 i.1 j.1 before),
       )
-  by_positions c (m ∷ ms) (n ∷ ns) x y r v w (inr b) =
-      let i = at c r m x ms v in
-      let rest =
-      by_positions (step c m) ms ns x y (further c m r (v.0, refl)) v.1
-      (subst (λ k. IsWay (rulebook ctx) goal (step c k) ns y) (sym b.0) w.1) b.1 in (
+
+  -- those that follow one move are as they were
+  alike : (c : Config) (m n : Move) (ms ns : List Move) → HasList c → IsListed (rulebook ctx) c goal m → m ≡ n
+      → HaveBefore (step c m) ms ns → HaveBefore c (m ∷ ms) (n ∷ ns)
+  alike c m n ms ns l is same rest =
+      let i = at c l m is in (
         i.0 ∷ rest.0,
         i.0 ∷ rest.1,
-        (((lists c r).0, (lists c r).1, i.1), rest.2),
+        ((l.0, l.1, i.1), rest.2),
         (
-          ((lists c r).0, (lists c r).1, i.1 ∙ ap Some b.0),
-          subst (λ k. ArePositions (rulebook ctx) start goal (step c k) ns rest.1) b.0 rest.3,
+          (l.0, l.1, i.1 ∙ ap Some same),
+          subst (λ k. ArePositions (rulebook ctx) start goal (step c k) ns rest.1) same rest.3,
         ),
         after_same i.0 rest.0 rest.1 rest.4,
       )
 
-  -- so the first way is the least one
-  pub first_is_least : (ms : List Move) → IsFirstWay (rulebook ctx) start goal ms
-      → IsLeast (rulebook ctx) start goal ms goal
-  first_is_least ms is = record {
-    way = is.way;
-    first = λ ns simple other. before ns simple (is.first ns simple other);
-  }
-    where
-      before : (ns : List Move) → IsSimpleWay (rulebook ctx) start goal ns goal
-          → IsBefore (StandsBefore (rulebook ctx) start goal) start ms ns
-          → AreBefore (rulebook ctx) start goal ms ns
-      before ns simple b =
-          let h = by_positions start ms ns goal goal ([], refl) is.way.way simple.way b in
-          record { left = h.0; right = h.1; left_are = h.2; right_are = h.3; before = h.4 }
+  -- no moves are before some
+  none_first : (c : Config) (n : Move) (ns : List Move) → HavePositions c (n ∷ ns) → HaveBefore c [] (n ∷ ns)
+  none_first c n ns ([], are) = absurd are
+  none_first c n ns (j ∷ js, are) = ([], j ∷ js, tt, are, refl)
 
-  -- and what is ahead by chains is so by positions
-  pub ahead_by_positions : (x : Config) → IsAheadOfGoal (rulebook ctx) start goal x
-      → IsAhead (rulebook ctx) start goal x
-  ahead_by_positions x is = record {
+  -- M says of a thing that it is there, or that it can't fail to be
+  module _ (M : Type 0 → Type 0) (sure : (A : Type 0) → A → M A) (next : (A B : Type 0) → M A → (A → M B) → M B)
+      (lists : (c : Config) → IsReachable (rulebook ctx) goal start c → M (HasList c)) where
+    -- the moves of a way have positions
+    positions : (c : Config) (ms : List Move) (x : Config) → IsReachable (rulebook ctx) goal start c
+        → IsWay (rulebook ctx) goal c ms x → M (HavePositions c ms)
+    positions c [] x r w = sure _ ([], tt)
+    positions c (m ∷ ms) x r w =
+        next _ _ (lists c r) (λ l.
+        next _ _ (positions (step c m) ms x (further c m r (w.0, refl)) w.1) (λ rest.
+        sure _ (one_more c m ms l w.0.listed rest)))
+
+    -- by them the way before is before
+    by_positions : (c : Config) (ms ns : List Move) (x y : Config) → IsReachable (rulebook ctx) goal start c
+        → IsWay (rulebook ctx) goal c ms x → IsWay (rulebook ctx) goal c ns y
+        → IsBefore (StandsBefore (rulebook ctx) start goal) c ms ns → M (HaveBefore c ms ns)
+    by_positions c [] [] x y r v w b = absurd b
+    by_positions c [] (n ∷ ns) x y r v w b =
+        next _ _ (positions c (n ∷ ns) y r w) (λ right. sure _ (none_first c n ns right))
+    by_positions c (m ∷ ms) [] x y r v w b = absurd b
+    by_positions c (m ∷ ms) (n ∷ ns) x y r v w (inl before) =
+        next _ _ (lists c r) (λ l.
+        next _ _ (positions (step c m) ms x (further c m r (v.0, refl)) v.1) (λ left.
+        next _ _ (positions (step c n) ns y (further c n r (w.0, refl)) w.1) (λ right.
+        sure _ (parted c m n ms ns l v.0.listed w.0.listed before left right))))
+    by_positions c (m ∷ ms) (n ∷ ns) x y r v w (inr b) =
+        next _ _ (lists c r) (λ l.
+        next _ _ (by_positions (step c m) ms ns x y (further c m r (v.0, refl)) v.1
+        (subst (λ k. IsWay (rulebook ctx) goal (step c k) ns y) (sym b.0) w.1) b.1) (λ rest.
+        sure _ (alike c m n ms ns l v.0.listed b.0 rest)))
+
+    -- so a simple way that is before another one is so by positions
+    simple_before : (ms ns : List Move) (x y : Config) → IsSimpleWay (rulebook ctx) start goal ms x
+        → IsSimpleWay (rulebook ctx) start goal ns y → IsBefore (StandsBefore (rulebook ctx) start goal) start ms ns
+        → M (AreBefore (rulebook ctx) start goal ms ns)
+    simple_before ms ns x y one other b =
+        next _ _ (by_positions start ms ns x y ([], refl) one.way other.way b) (λ h.
+        sure _ (record { left = h.0; right = h.1; left_are = h.2; right_are = h.3; before = h.4 }))
+
+  -- ---- where the lists are given
+
+  module _ (lists : (c : Config) → IsReachable (rulebook ctx) goal start c → HasList c) where
+    given_before : (ms ns : List Move) (x y : Config) → IsSimpleWay (rulebook ctx) start goal ms x
+        → IsSimpleWay (rulebook ctx) start goal ns y → IsBefore (StandsBefore (rulebook ctx) start goal) start ms ns
+        → AreBefore (rulebook ctx) start goal ms ns
+    given_before = simple_before (λ A. A) (λ A a. a) (λ A B a f. f a) lists
+
+    -- the first way is the least one
+    pub first_is_least : (ms : List Move) → IsFirstWay (rulebook ctx) start goal ms
+        → IsLeast (rulebook ctx) start goal ms goal
+    first_is_least ms is = record {
+      way = is.way;
+      first = λ ns simple other. given_before ms ns goal goal is.way simple (is.first ns simple other);
+    }
+
+    -- and what is ahead by chains is so by positions
+    pub ahead_by_positions : (x : Config) → IsAheadOfGoal (rulebook ctx) start goal x
+        → IsAhead (rulebook ctx) start goal x
+    ahead_by_positions x is = record {
+      other = is.other;
+      moves = is.moves;
+      way = is.way;
+      before = λ ns simple. given_before is.moves ns x goal is.way simple (is.before ns simple);
+    }
+
+  -- ---- where they aren't
+
+  surely_before : (ms ns : List Move) (x y : Config) → IsSimpleWay (rulebook ctx) start goal ms x
+      → IsSimpleWay (rulebook ctx) start goal ns y → IsBefore (StandsBefore (rulebook ctx) start goal) start ms ns
+      → ¬ ¬ AreBefore (rulebook ctx) start goal ms ns
+  surely_before = simple_before (λ A. ¬ ¬ A) (λ A a. surely a) (λ A B a f. then_surely a f) (λ c r. surely_listed ctx start c goal)
+
+  -- the first way can't fail to be the least one
+  pub first_is_surely_least : (ms : List Move) → IsFirstWay (rulebook ctx) start goal ms
+      → IsSurelyLeast (rulebook ctx) start goal ms goal
+  first_is_surely_least ms is = record {
+    way = is.way;
+    first = λ ns simple other. surely_before ms ns goal goal is.way simple (is.first ns simple other);
+  }
+
+  -- and what is ahead by chains can't fail to be so by positions
+  pub surely_ahead_by_positions : (x : Config) → IsAheadOfGoal (rulebook ctx) start goal x
+      → IsSurelyAhead (rulebook ctx) start goal x
+  surely_ahead_by_positions x is = record {
     other = is.other;
     moves = is.moves;
     way = is.way;
-    before = λ ns simple. before ns simple (is.before ns simple);
+    before = λ ns simple. surely_before is.moves ns x goal is.way simple (is.before ns simple);
   }
-    where
-      before : (ns : List Move) → IsSimpleWay (rulebook ctx) start goal ns goal
-          → IsBefore (StandsBefore (rulebook ctx) start goal) start is.moves ns
-          → AreBefore (rulebook ctx) start goal is.moves ns
-      before ns simple b =
-          let h = by_positions start is.moves ns x goal ([], refl) is.way.way simple.way b in
-          record { left = h.0; right = h.1; left_are = h.2; right_are = h.3; before = h.4 }

@@ -1,5 +1,6 @@
 //! What holds of searches and of first ways.
 ghost use Rattle.plan_search.specs.FirstLaws.{AheadByPositions, FirstIsLeast, FirstIsOne};
+ghost use Rattle.plan_search.specs.FirstLaws.{FirstIsSurelyLeast, SurelyAheadByPositions};
 ghost use Rattle.plan_search.specs.Searches.{SearchesAgree};
 
 /// A context, start, goal and budget have one answer, wants of memory aside. So it doesn't depend on what
@@ -14,4 +15,12 @@ pub fn first_ways_are_least()
     ensures one { FirstIsOne }
     ensures least { FirstIsLeast }
     ensures ahead { AheadByPositions }
+{}
+
+/// The same with no premise, since the listed moves are finitely many: the first way can't fail to be the
+/// least by positions, nor what is ahead of goal to be ahead by them. No list is given, so it is said by what
+/// can't fail.
+pub fn first_ways_are_surely_least()
+    ensures least { FirstIsSurelyLeast }
+    ensures ahead { SurelyAheadByPositions }
 {}
