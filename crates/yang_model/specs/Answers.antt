@@ -25,6 +25,13 @@ AreModelsOf files models =
     (readers : Readers) → AreTrue readers
     → (faults readers files ≡ []) × (models ≡ models_of (modules_of files) readers)
 
+-- nothing is wrong with some files, and these are their models as some readers read them
+pub record HaveFiles (models : ModelSet) : Type 0 where
+  pub files : List (List Declaration)
+  pub readers : Readers
+  pub none : faults readers files ≡ []
+  pub are : models ≡ models_of (modules_of files) readers
+
 -- the fault of the lowest file, of its lowest line, and of those the first by name
 abbrev pub IsLeastFaultOf : List (List Declaration) → Fault → Type 0
 IsLeastFaultOf files fault =

@@ -43,11 +43,15 @@ impl Model for Models {
 
     ghost view = { λ m. record { modules = m.modules; tables = map table_model m.tables } };
 
-    ghost invariant = { λ m. IsIndexOf m.index.places (map (λ t. t.name) m.tables) };
+    ghost use Rattle.yang_model.specs.Answers.{HaveFiles};
+
+    ghost invariant = { λ m. IsIndexOf m.index.places (map (λ t. t.name) m.tables)
+        × HaveFiles (record { modules = m.modules; tables = map table_model m.tables }) };
 }
 
 impl Models {
     ghost use Rattle.std.specs.Prelude.{◌≡◌, map, is_some, option_map, option_copied, IfOk};
+    ghost use Rattle.yang_model.specs.Answers.{HaveFiles};
     ghost use Rattle.yang_model.specs.Belongs.{Belongs};
     ghost use Rattle.yang_model.specs.ModelSets.{table_named, shapes_of, shape_of, type_of_field, owner_of};
     ghost use Rattle.yang_model.specs.TableModels.{table_model};
@@ -58,6 +62,7 @@ impl Models {
         modules: Names,
         tables: Sequence<TableShapes>,
     ) -> Result<Models, Memory>
+        requires { HaveFiles (record { modules = modules; tables = map table_model tables }) }
         ensures { IfOk result
             (λ m. m ≡ record { modules = modules; tables = map table_model tables }) }
     {
@@ -80,6 +85,14 @@ impl Models {
             Some(i) => Some(self.tables.at(i)),
             None => None,
         }
+    }
+
+    /// They are the models of some files with which nothing is wrong. It is its contract alone: what is true
+    /// of every value is at hand where a field is read.
+    pub fn have_files(&self)
+        ensures { HaveFiles self.now }
+    {
+        let _ = self.modules.len();
     }
 
     /// Whether there is a model of a table.

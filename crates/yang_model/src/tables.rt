@@ -4,6 +4,8 @@ ghost use Rattle.std.specs.List.{flat_map};
 ghost use Rattle.std.specs.Option.{option_to_list};
 ghost use Rattle.yang_text.specs.Declarations.{weight};
 ghost use Rattle.yang_must.specs.Spots.{containers_of, tables_of, shapes_of};
+ghost use Rattle.yang_model.specs.Answers.{HaveFiles};
+ghost use Rattle.yang_model.specs.ModelSets.{ModelSet};
 ghost use Rattle.yang_model.specs.Readers.{Gives};
 ghost use Rattle.yang_model.specs.Leaves.{name_of};
 ghost use Rattle.yang_model.specs.Shapes.{shape_model, table_of, tables_in, models_of};
@@ -155,7 +157,7 @@ fn module_names(alloc: Global, names: &Names) -> Result<NameList, Memory>
     Ok(modules)
 }
 
-/// The models of all modules.
+/// The models of all modules, those of files with which nothing is wrong.
 pub(crate) fn models_of<'a>(
     alloc: Global,
     names: &Names<'a>,
@@ -163,6 +165,7 @@ pub(crate) fn models_of<'a>(
 ) -> Result<Models, Memory>
     requires same { tree.now ≡ names.now }
     requires small { All IsSmall (containers_of tree.now) }
+    requires files { (models : ModelSet) → Gives models (models_of names.now) → HaveFiles models }
     ensures { IfOk result (λ models. Gives models (models_of names.now)) }
 {
     let modules = module_names(alloc, names)?;

@@ -24,6 +24,17 @@ models_of-requires-clause-small c =
     let P : List Module → Type 0 = λ ms. All IsSmall (containers_of ms) in
     subst P (sym (c.in_ok-tree.ensures ∙ c.in_ok-names.ensures)) (are_small ds few light)
 
+pub models_of-requires-clause-files : goal.models_of-requires-clause-files
+models_of-requires-clause-files c = λ models gives.
+    let ds : List (List Declaration) = map (λ f. f.1) c.args.files.now in
+    let (readers, are) = c.readers_exist.ensures in
+    record {
+      files = ds;
+      readers = readers;
+      none = no_faults (faults readers ds) (sym c.in-None.is ∙ c.in_ok-fault.ensures readers are);
+      are = gives readers are ∙ ap (λ (ms : List Module). models_of ms readers) c.in_ok-names.ensures;
+    }
+
 pub returns-clause-models : goal.returns-clause-models
 returns-clause-models c = λ readers is.
     let ds : List (List Declaration) = map (λ f. f.1) c.args.files.now in (
