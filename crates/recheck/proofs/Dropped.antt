@@ -1,5 +1,6 @@
 -- Verdicts that are left where some are dropped.
 use Rattle.std.proofs.Common.{◌≡◌, ◌⊎◌, ◌<◌, ◌≤◌, ◌+◌, ℕ, Bool, true, false, not, ◌&&◌, List, [], map, filter, length, get_or, Option, Some, None, option_map, option_and_then, slice_get, Contains, refl, sym, ap, ◌∙◌, subst, inl, inr, arith}
+use Rattle.std.specs.Prelude.{IfSome}
 use Rattle.std.specs.List.{All}
 use Rattle.std.proofs.lemmas.List.Elements.{All-contains, All-contains_itself, at_read, All-filter, All-weaker, Contains-get_or, filter_passes}
 use Rattle.std.proofs.lemmas.Bool.{cases_lt}
@@ -12,6 +13,12 @@ use Rattle.conf_doc.specs.declared.configuration.Config.{Config}
 use Rattle.conf_doc.specs.declared.configuration.Entry.{Entry}
 use Rattle.conf_doc.specs.declared.configuration.Table.{Table}
 use Rattle.key_split.specs.Key.{key_parts}
+use Rattle.yang_text.specs.Declarations.{Declaration}
+use Rattle.yang_scope.specs.Modules.{modules_of}
+use Rattle.yang_model.specs.Answers.{HaveFiles, faults}
+use Rattle.yang_model.specs.Readers.{Readers}
+use Rattle.yang_model.specs.Shapes.{models_of}
+use Rattle.conf_check.specs.MustReads.{HasOneTruth}
 use Rattle.yang_model.specs.Belongs.{Belongs, Belongs-once}
 use Rattle.yang_model.specs.ModelSets.{ModelSet, shapes_of}
 use Rattle.yang_model.specs.declared.shapes.Shape.{Shape}
@@ -19,12 +26,12 @@ use Rattle.conf_check.specs.Rows.{Row, row_of, IsEntryAt, texts_of, typed_text}
 use Rattle.conf_check.specs.Wants.{Want, IsWantAt, IsWantedText, field_name}
 use Rattle.ref_index.specs.Referrers.{HasWant, want_for}
 use Rattle.ref_index.specs.declared.places.Place.{Place}
-use Rattle.recheck.specs.Changes.{AreAmong, AreElsewhere, AreHandled, AreKeysHandled, AreUntouched, IsHandled, IsOn, IsSame, IsTouched, Wants}
+use Rattle.recheck.specs.Changes.{AreAmong, AreElsewhere, AreHandled, AreKeysHandled, AreTablesHandled, AreUnread, AreUntouched, IsHandled, IsOn, IsSame, IsTableHandled, IsTableHandledAt, IsTouched, Reads, Wants}
 use Rattle.recheck.specs.Verdicts.{AreSound, IsSound, is_elsewhere}
 use Rattle.recheck.specs.declared.verdicts.Verdict.{Verdict}
 use Rattle.recheck.proofs.Changed.{all_sound}
 use Rattle.recheck.proofs.Lists.{among_all, entry_found, table_rises}
-use Rattle.recheck.proofs.Pairs.{found_at, pair_at, right_at, some_same}
+use Rattle.recheck.proofs.Pairs.{found_at, found_there, left_at, pair_at, right_at, some_same}
 use Rattle.recheck.proofs.Rows.{row_only}
 
 -- ---- lists within one another
@@ -152,18 +159,30 @@ module _ (models : ModelSet) (config next : Config) (formed : IsConfig config) (
   here : (table key : List ℕ) (k : ℕ) (is : IsEntryAt config table key t k) → ◌≡◌ {A = List ℕ × Table} (table, is.entries) (name, entries)
   here table key k is = some_same (table, is.entries) (name, entries) (sym is.at ∙ pair_at config t name entries named part)
 
-  module _ (o : Option (Bor Table)) (others : option_map (λ v. v.now) o ≡ find name next) where
+  -- the name is handled where no verdict on an entry that reads the table is left
+  pub name_unread : (verdicts : List Verdict) → AreUnread models name verdicts → IsTableHandledAt models config next verdicts config t
+  name_unread verdicts unread other at = inr (subst (λ n. AreUnread models n verdicts) (some_same name other (sym named ∙ at)) unread)
+
+  module _ (o : Option (Bor Table)) (others : IfSome o (λ v. find name next ≡ Some v.now)) where
     through : (key : List ℕ) (p : Option (Bor Table)) → option_and_then (find key) (option_map (λ v. v.now) p) ≡ option_and_then (λ v. find key v.now) p
     through key None = refl
     through key (Some v) = refl
+
+    -- what the other table of the name has, the other configuration has
+    next_has : (key : List ℕ) (e : Entry) (p : Option (Bor Table)) → IfSome p (λ v. find name next ≡ Some v.now) → option_and_then (λ v. find key v.now) p ≡ Some e
+        → option_and_then (find key) (find name next) ≡ Some e
+    next_has key e None is found = cc
+    next_has key e (Some v) is found = ap (λ (q : Option Table). option_and_then (find key) q) is ∙ found
+
+    next_same : (p : Option (Bor Table)) → IfSome p (λ v. find name next ≡ Some v.now) → option_map (λ v. v.now) p ≡ Some entries → find name next ≡ Some entries
+    next_same None is same = cc
+    next_same (Some v) is same = is ∙ same
 
     -- an entry that the other table of the name has is the same
     same_in : (table key : List ℕ) (k : ℕ) (is : IsEntryAt config table key t k) → option_and_then (λ v. find key v.now) o ≡ Some is.fields → IsSame config next table key
     same_in table key k is found =
         ap (λ (q : List ℕ × Table). option_and_then (find key) (find q.0 next)) (here table key k is)
-        ∙ ap (λ (p : Option Table). option_and_then (find key) p) (sym others)
-        ∙ through key o
-        ∙ found
+        ∙ next_has key is.fields o others found
         ∙ sym (entry_found config table key t k formed is)
 
     -- all are where the table is
@@ -174,29 +193,42 @@ module _ (models : ModelSet) (config next : Config) (formed : IsConfig config) (
         ap (λ (q : List ℕ × Table). find key q.1) (sym (here table key k is)) ∙ found_at is.entries key k is.fields rises is.at_key in
         inl (same_in table key k is (sym (through key o) ∙ ap (λ (p : Option Table). option_and_then (find key) p) same ∙ mine))
 
+    -- and so is its name
+    pub name_same : (verdicts : List Verdict) → option_map (λ v. v.now) o ≡ Some entries → IsTableHandledAt models config next verdicts config t
+    name_same verdicts same other at =
+        let mine : find name config ≡ find name next =
+        found_at config name t entries formed.shaped.rising (pair_at config t name entries named part) ∙ sym (next_same o others same) in
+        inl (subst (λ n. find n config ≡ find n next) (some_same name other (sym named ∙ at)) mine)
+
     -- one more key
-    pub keys_more : (old new : List Verdict) (i : ℕ) (key : List ℕ) (e : Entry) → AreKeysHandled models config next old t i → AreAmong old new
+    pub keys_more : (old new : List Verdict) (i : ℕ) (key : List ℕ) (e : Entry) (other : Option (Bor Entry)) → AreKeysHandled models config next old t i → AreAmong old new
         → slice_get (map (λ p. p.0) entries) i ≡ Some key → slice_get (map (λ p. p.1) entries) i ≡ Some e
-        → (option_and_then (λ v. find key v.now) o ≡ Some e) ⊎ AreUntouched models config name key new → AreKeysHandled models config next new t (i + 1)
-    keys_more old new i key e before among at_key at_e here_is table other k is lt =
+        → IfSome other (λ x. option_and_then (λ v. find key v.now) o ≡ Some x.now)
+        → (option_map (λ x. x.now) other ≡ Some e) ⊎ AreUntouched models config name key new → AreKeysHandled models config next new t (i + 1)
+    keys_more old new i key e other before among at_key at_e passed here_is table alike k is lt =
         elim (cases_lt k i) [
-          | inl less ↦ still_handled models config next old new table other among (before table other k is less)
+          | inl less ↦ still_handled models config next old new table alike among (before table alike k is less)
           | inr more ↦
               let same : k ≡ i = omega arith in
-              let mine : Some (other, is.fields) ≡ Some (key, e) =
-              sym is.at_key ∙ ap (slice_get is.entries) same ∙ ap (λ (q : List ℕ × Table). slice_get q.1 i) (here table other k is) ∙ pair_at entries i key e at_key at_e in
-              this_key table other k is (some_same (other, is.fields) (key, e) mine) here_is
+              let mine : Some (alike, is.fields) ≡ Some (key, e) =
+              sym is.at_key ∙ ap (slice_get is.entries) same ∙ ap (λ (q : List ℕ × Table). slice_get q.1 i) (here table alike k is) ∙ pair_at entries i key e at_key at_e in
+              this_key table alike k is (some_same (alike, is.fields) (key, e) mine) here_is
         ]
       where
-        this_key : (table other : List ℕ) (k : ℕ) (is : IsEntryAt config table other t k) → ◌≡◌ {A = List ℕ × Entry} (other, is.fields) (key, e)
-            → (option_and_then (λ v. find key v.now) o ≡ Some e) ⊎ AreUntouched models config name key new → IsHandled models config next new table other
-        this_key table other k is pair (inl found) =
+        by_other : (x : Option (Bor Entry)) → IfSome x (λ x. option_and_then (λ v. find key v.now) o ≡ Some x.now) → option_map (λ x. x.now) x ≡ Some e
+            → option_and_then (λ v. find key v.now) o ≡ Some e
+        by_other None found same = cc
+        by_other (Some x) found same = found ∙ same
+
+        this_key : (table alike : List ℕ) (k : ℕ) (is : IsEntryAt config table alike t k) → ◌≡◌ {A = List ℕ × Entry} (alike, is.fields) (key, e)
+            → (option_map (λ x. x.now) other ≡ Some e) ⊎ AreUntouched models config name key new → IsHandled models config next new table alike
+        this_key table alike k is pair (inl same) =
             let P : List ℕ × Entry → Type 0 = λ q. option_and_then (λ v. find q.0 v.now) o ≡ Some q.1 in
-            inl (same_in table other k is (subst P (sym pair) found))
-        this_key table other k is pair (inr un) =
-            let P : List ℕ × Table → Type 0 = λ q. AreUntouched models config q.0 other new in
+            inl (same_in table alike k is (subst P (sym pair) (by_other other passed same)))
+        this_key table alike k is pair (inr un) =
+            let P : List ℕ × Table → Type 0 = λ q. AreUntouched models config q.0 alike new in
             let Q : List ℕ × Entry → Type 0 = λ q. AreUntouched models config name q.0 new in
-            inr (subst P (sym (here table other k is)) (subst Q (sym pair) un))
+            inr (subst P (sym (here table alike k is)) (subst Q (sym pair) un))
 
 -- no key is before the first, nor a table
 pub keys_start : (models : ModelSet) (config next : Config) (verdicts : List Verdict) (t : ℕ) → AreKeysHandled models config next verdicts t 0
@@ -225,10 +257,84 @@ tables_more models config next old new t before among keys table key u k is lt =
           keys (k + 1) table key k (subst (λ v. IsEntryAt config table key v k) same is) (omega arith)
     ]
 
+-- ---- the names of tables
+
+pub still_table : (models : ModelSet) (config next : Config) (old new : List Verdict) (name : List ℕ) → AreAmong old new
+    → IsTableHandled models config next old name → IsTableHandled models config next new name
+still_table models config next old new name among (inl same) = inl same
+still_table models config next old new name among (inr unread) = inr (among_all (λ v. ¬ Reads models name v) old new among.each unread)
+
+pub still_unread : (models : ModelSet) (name : List ℕ) (old new : List Verdict) → AreAmong old new → AreUnread models name old → AreUnread models name new
+still_unread models name old new among unread = among_all (λ v. ¬ Reads models name v) old new among.each unread
+
+-- one more name whose readers are dropped
+pub between_more : (models : ModelSet) (config : Config) (old new : List Verdict) (from u : ℕ) (name : List ℕ)
+    → ((k : ℕ) (n : List ℕ) → from ≤ k → k < u → slice_get (map (λ p. p.0) config) k ≡ Some n → AreUnread models n old) → AreAmong old new
+    → slice_get (map (λ p. p.0) config) u ≡ Some name → AreUnread models name new
+    → (k : ℕ) (n : List ℕ) → from ≤ k → k < u + 1 → slice_get (map (λ p. p.0) config) k ≡ Some n → AreUnread models n new
+between_more models config old new from u name before among named unread k n le lt at =
+    elim (cases_lt k u) [
+      | inl less ↦ still_unread models n old new among (before k n le less at)
+      | inr more ↦
+          let same : k ≡ u = omega arith in
+          subst (λ x. AreUnread models x new) (some_same name n (sym named ∙ subst (λ j. slice_get (map (λ p. p.0) config) j ≡ Some n) same at)) unread
+    ]
+
+pub names_start : (models : ModelSet) (config next : Config) (verdicts : List Verdict) (of : Config) → AreTablesHandled models config next verdicts of 0
+names_start models config next verdicts of t lt name at = absurd (omega (arith, lt))
+
+-- those of a configuration from a place to another
+pub names_more : (models : ModelSet) (config next : Config) (old new : List Verdict) (of : Config) (from end : ℕ) → AreTablesHandled models config next old of from → AreAmong old new
+    → ((u : ℕ) → from ≤ u → u < end → IsTableHandledAt models config next new of u) → AreTablesHandled models config next new of end
+names_more models config next old new of from end before among more u lt name at =
+    elim (cases_lt u from) [ inl less ↦ still_table models config next old new name among (before u less name at) | inr past ↦ more u (omega arith) lt name at ]
+
+-- the name that stands at a place of the second, where it is one at a place of the first
+pub past_name : (models : ModelSet) (config next : Config) (verdicts : List Verdict) (t : ℕ) (first name : List ℕ) (u : ℕ) → IsTableHandledAt models config next verdicts config t
+    → slice_get (map (λ p. p.0) config) t ≡ Some first → slice_get (map (λ p. p.0) next) u ≡ Some first → slice_get (map (λ p. p.0) next) u ≡ Some name
+    → IsTableHandled models config next verdicts name
+past_name models config next verdicts t first name u handled here there at =
+    subst (λ n. IsTableHandled models config next verdicts n) (some_same first name (sym there ∙ at)) (handled first here)
+
+-- one more
+pub names_step : (models : ModelSet) (config next : Config) (old new : List Verdict) (of : Config) (t : ℕ) → AreTablesHandled models config next old of t → AreAmong old new
+    → IsTableHandledAt models config next new of t → AreTablesHandled models config next new of (t + 1)
+names_step models config next old new of t before among here =
+    names_more models config next old new of t (t + 1) before among
+    (λ u le lt. let same : t ≡ u = omega (arith, le, lt) in subst (λ j. IsTableHandledAt models config next new of j) same here)
+
+-- none more
+pub names_past : (models : ModelSet) (config next : Config) (old new : List Verdict) (of : Config) (t n : ℕ) → AreTablesHandled models config next old of t → AreAmong old new
+    → n ≤ t → AreTablesHandled models config next new of n
+names_past models config next old new of t n before among past =
+    names_more models config next old new of t n before among (λ u le lt. absurd (omega (arith, le, lt, past)))
+
+-- past the last name of both each name is handled
+all_names : (models : ModelSet) (config next : Config) (verdicts : List Verdict) → AreTablesHandled models config next verdicts config (length config)
+    → AreTablesHandled models config next verdicts next (length next) → (name : List ℕ) → IsTableHandled models config next verdicts name
+all_names models config next verdicts firsts seconds name = by (find name config) refl (find name next) refl
+  where
+    by : (o : Option Table) → find name config ≡ o → (p : Option Table) → find name next ≡ p → IsTableHandled models config next verdicts name
+    by (Some e) is p also =
+        let at = found_there config name e is in
+        firsts at.0 (slice_get_within config at.0 (name, e) at.1) name (left_at config at.0 (name, e) at.1)
+    by None is (Some e) also =
+        let at = found_there next name e also in
+        seconds at.0 (slice_get_within next at.0 (name, e) at.1) name (left_at next at.0 (name, e) at.1)
+    by None is None also = inl (is ∙ sym also)
+
+-- models of files with which nothing is wrong have musts of one truth
+pub one_truth : (models : ModelSet) → HaveFiles models
+    → ((files : List (List Declaration)) (readers : Readers) → faults readers files ≡ [] → HasOneTruth (models_of (modules_of files) readers)) → HasOneTruth models
+one_truth models have law = subst (λ m. HasOneTruth m) (sym have.are) (law have.files have.readers have.none)
+
 -- past the last table the verdicts that are left stay true
-pub tables_end : (models : ModelSet) (config next : Config) (old new : List Verdict) (n : ℕ) → IsConfig config → IsConfig next → length config ≤ n
-    → AreAmong old new → AreHandled models config next new n → AreSound models config old → AreSound models next new
-tables_end models config next old new n formed_config formed_next past among all sound =
+pub tables_end : (models : ModelSet) (config next : Config) (old new : List Verdict) → IsConfig config → IsConfig next → HasOneTruth models → AreAmong old new
+    → AreHandled models config next new (length config) → AreTablesHandled models config next new config (length config)
+    → AreTablesHandled models config next new next (length next) → AreSound models config old → AreSound models next new
+tables_end models config next old new formed_config formed_next truth among all firsts seconds sound =
     all_sound models config next formed_config formed_next new
-    (λ table key t k is. all table key t k is (omega (arith, slice_get_within config t (table, is.entries) is.at, past)))
+    (λ table key t k is. all table key t k is (slice_get_within config t (table, is.entries) is.at))
+    (all_names models config next new firsts seconds)
+    truth
     (among_all (IsSound models config) old new among.each sound)

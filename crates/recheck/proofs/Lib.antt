@@ -1,8 +1,10 @@
 pub mod Changed
 pub mod Checked
 pub mod Dropped
+pub mod Known
 pub mod Lists
 pub mod Pairs
+pub mod Readers
 pub mod Rows
 pub mod Survival
 pub mod Walked

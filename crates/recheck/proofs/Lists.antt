@@ -1,9 +1,9 @@
 -- Entries by their names and by their places, and lists within one another.
-use Rattle.std.proofs.Common.{◌≡◌, ℕ, List, [], ◌∷◌, zero, suc, map, take, drop, Option, Some, None, option_and_then, is_some, IsTrue, slice_get, Contains, refl, sym, ap, ◌∙◌, subst}
+use Rattle.std.proofs.Common.{◌≡◌, ℕ, Bool, true, false, List, [], ◌∷◌, zero, suc, map, take, drop, Option, Some, None, option_and_then, is_some, IsTrue, slice_get, Contains, refl, sym, ap, ◌∙◌, subst}
 use Rattle.std.specs.Prelude.{IsSomeAnd}
-use Rattle.std.specs.List.{All, insert}
+use Rattle.std.specs.List.{All, insert, items_where_true}
 use Rattle.std.specs.Option.{option_map_or}
-use Rattle.std.proofs.lemmas.List.Elements.{All-append, All-contains, All-cons, All-drop, All-take, All-weaker}
+use Rattle.std.proofs.lemmas.List.Elements.{All-append, All-contains, All-cons, All-drop, All-head, All-nil, All-tail, All-take, All-weaker}
 use Rattle.conf_doc.specs.Pairs.{find, IsRising}
 use Rattle.conf_doc.specs.WellFormed.{Each, IsConfig, IsTable}
 use Rattle.conf_doc.specs.declared.configuration.Config.{Config}
@@ -103,3 +103,13 @@ among_all P old new among all = All-weaker (Contains old) P (λ x has. All-conta
 
 pub all_insert : {X : Type 0} (P : X → Type 0) (xs : List X) (i : ℕ) (x : X) → P x → All P xs → All P (insert xs i x)
 all_insert P xs i x here all = All-append P (take i xs) (x ∷ drop i xs) (All-take P i xs all) (All-cons P x (drop i xs) here (All-drop P i xs all))
+
+-- what holds of each item holds of each that stays
+pub all_kept : {X : Type 0} (P : X → Type 0) (bs : List Bool) (xs ys : List X) → ys ≡ items_where_true bs xs → All P xs → All P ys
+all_kept {X = X} P bs xs ys is all = subst (λ l. All P l) (sym is) (kept bs xs all)
+  where
+    kept : (bs : List Bool) (xs : List X) → All P xs → All P (items_where_true bs xs)
+    kept [] xs all = All-nil P
+    kept (b ∷ bs) [] all = All-nil P
+    kept (true ∷ bs) (x ∷ xs) all = All-cons P x (items_where_true bs xs) (All-head P x xs all) (kept bs xs (All-tail P x xs all))
+    kept (false ∷ bs) (x ∷ xs) all = kept bs xs (All-tail P x xs all)

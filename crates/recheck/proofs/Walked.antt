@@ -13,7 +13,7 @@ use Rattle.yang_model.specs.declared.shapes.Shape.{Shape}
 use Rattle.conf_check.specs.Rows.{IsEntryAt, IsShapeOf}
 use Rattle.conf_check.specs.Validity.{IsValidAt}
 use Rattle.recheck.specs.Rechecks.{HasVerdict, IsNoted}
-use Rattle.recheck.specs.Verdicts.{AreSound, HasNoMusts, IsSound, entry_of}
+use Rattle.recheck.specs.Verdicts.{AreSound, IsSound, entry_of}
 use Rattle.recheck.specs.declared.verdicts.Verdict.{Verdict}
 use Rattle.recheck.proofs.Lists.{all_insert, entry_found}
 use Rattle.recheck.proofs.Pairs.{holder_at, pair_at}
@@ -27,23 +27,6 @@ when_true false P e p = cc
 pub when_false : (b : Bool) (P : Type 0) → b ≡ false → OnFalse b P → P
 when_false true P e p = cc
 when_false false P e p = p
-
-module _ (models : ModelSet) (table key : List ℕ) where
-  -- a shape without a must, or none
-  pub without_musts : (shape : Shape) → IsShapeOf models table key shape → length shape.musts ≡ 0 → HasNoMusts models table key
-  without_musts shape here none other must has contains =
-      let same : other ≡ shape = shape_once models table key other shape has here in
-      let within : contains.0 < length other.musts = contains.1 in
-      let len : length other.musts ≡ length shape.musts = ap (λ (s : Shape). length s.musts) same in
-      omega (arith, within, len, none)
-
-  -- whether there are musts
-  pub musts_answer : (b : Bool) (shape : Shape) (musts : List MustRule) → IsShapeOf models table key shape → musts ≡ shape.musts → b ≡ (length musts == 0)
-      → OnFalse (not b) (HasNoMusts models table key)
-  musts_answer true shape musts here is e =
-      let none : length musts ≡ 0 = grind (arith, e) in
-      without_musts shape here (ap length (sym is) ∙ none)
-  musts_answer false shape musts here is e = tt
 
 module _ (models : ModelSet) (config : Config) (table key : List ℕ) where
   -- an entry with a verdict is valid
@@ -62,10 +45,9 @@ module _ (models : ModelSet) (config : Config) (table key : List ℕ) where
   noted old new sound is (inr at) =
       subst (λ l. AreSound models config l) (sym at.1) (all_insert (IsSound models config) old at.0 (record { table = table; key = key }) is sound)
 
-  -- one that is found there, valid and without a must is true
-  pub fresh : IsTrue (is_some (entry_of table key config)) → IsValidAt models config table key → HasNoMusts models table key
-      → IsSound models config (record { table = table; key = key })
-  fresh there valid free = record { there = there; valid = valid; free = free }
+  -- one that is found there and valid is true
+  pub fresh : IsTrue (is_some (entry_of table key config)) → IsValidAt models config table key → IsSound models config (record { table = table; key = key })
+  fresh there valid = record { there = there; valid = valid }
 
   pub same_sound : (old new : List Verdict) → new ≡ old → AreSound models config old → AreSound models config new
   same_sound old new e sound = subst (λ l. AreSound models config l) (sym e) sound

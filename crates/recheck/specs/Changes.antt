@@ -1,13 +1,17 @@
 -- Which verdicts a change of the configuration may turn.
-use Rattle.std.specs.Prelude.{◌≡◌, ◌⊎◌, ◌<◌, ◌≤◌, ℕ, List, Some, length, slice_get}
-use Rattle.std.specs.List.{All, Contains}
+use Rattle.std.specs.Prelude.{◌≡◌, ◌⊎◌, ◌<◌, ◌≤◌, ℕ, Bool, false, List, Some, length, map, slice_get}
+use Rattle.std.specs.List.{All, Contains, list_any}
+use Rattle.std.specs.Str.{bytes_eq}
+use Rattle.conf_doc.specs.Pairs.{find}
 use Rattle.conf_doc.specs.declared.configuration.Config.{Config}
 use Rattle.key_split.specs.Key.{key_parts}
-use Rattle.conf_check.specs.Rows.{IsEntryAt}
+use Rattle.conf_check.specs.Rows.{IsEntryAt, IsShapeOf}
 use Rattle.conf_check.specs.Wants.{Want, IsWantAt}
 use Rattle.conf_check.specs.declared.want_iter.WantPlace.{WantPlace}
 use Rattle.yang_model.specs.Belongs.{Belongs}
 use Rattle.yang_model.specs.ModelSets.{ModelSet, shapes_of}
+use Rattle.yang_model.specs.declared.shapes.MustRule.{MustRule}
+use Rattle.yang_model.specs.declared.shapes.Shape.{Shape}
 use Rattle.ref_index.specs.declared.places.Place.{Place}
 use Rattle.recheck.specs.Verdicts.{entry_of}
 use Rattle.recheck.specs.declared.verdicts.Verdict.{Verdict}
@@ -40,6 +44,28 @@ abbrev pub AreUntouched : ModelSet → Config → List ℕ → List ℕ → List
 AreUntouched models config table key verdicts =
     All (λ v. ¬ IsTouched models config table key v) verdicts
 
+-- the must reads that table
+abbrev pub is_reader : List ℕ → MustRule → Bool
+is_reader table must = list_any (λ name. bytes_eq name table) must.reads
+
+-- no shape of a table of that name has one, among those before a position
+abbrev pub AreNoReaders : ModelSet → List ℕ → List ℕ → ℕ → Type 0
+AreNoReaders models name table n =
+    (place : ℕ) (shape : Shape) → place < n → slice_get (shapes_of name models) place ≡ Some shape
+    → list_any (is_reader table) shape.musts ≡ false
+
+-- a must of the shape of the verdict's entry reads that table
+pub record Reads (models : ModelSet) (table : List ℕ) (v : Verdict) : Type 0 where
+  pub shape : Shape
+  pub shaped : IsShapeOf models v.table v.key shape
+  pub must : MustRule
+  pub of_shape : Contains shape.musts must
+  pub reads : Contains must.reads table
+
+-- no must of the verdicts' entries does
+abbrev pub AreUnread : ModelSet → List ℕ → List Verdict → Type 0
+AreUnread models table verdicts = All (λ v. ¬ Reads models table v) verdicts
+
 -- each verdict of the second list is in the first, which is as long at least
 pub record AreAmong (old new : List Verdict) : Type 0 where
   pub each : All (Contains old) new
@@ -71,3 +97,21 @@ abbrev pub AreHandled : ModelSet → Config → Config → List Verdict → ℕ 
 AreHandled models config next verdicts n =
     (table key : List ℕ) (t k : ℕ) → IsEntryAt config table key t k → t < n
     → IsHandled models config next verdicts table key
+
+-- both have the same table of that name or none, or no verdict on an entry that reads it is left
+abbrev pub IsTableHandled : ModelSet → Config → Config → List Verdict → List ℕ → Type 0
+IsTableHandled models config next verdicts name =
+    (find name config ≡ find name next) ⊎ AreUnread models name verdicts
+
+-- so is the name at a position of one of them
+abbrev pub IsTableHandledAt :
+    ModelSet → Config → Config → List Verdict → Config → ℕ → Type 0
+IsTableHandledAt models config next verdicts of t =
+    (name : List ℕ) → slice_get (map (λ p. p.0) of) t ≡ Some name
+    → IsTableHandled models config next verdicts name
+
+-- so are the names before a position
+abbrev pub AreTablesHandled :
+    ModelSet → Config → Config → List Verdict → Config → ℕ → Type 0
+AreTablesHandled models config next verdicts of n =
+    (t : ℕ) → t < n → IsTableHandledAt models config next verdicts of t

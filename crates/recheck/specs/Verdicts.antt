@@ -1,15 +1,12 @@
 -- What a verdict on an entry says.
 use Rattle.std.specs.Prelude.{ℕ, List, Option, option_and_then, is_some, IsTrue, Bool, ◌&&◌, not}
-use Rattle.std.specs.List.{All, Contains}
+use Rattle.std.specs.List.{All}
 use Rattle.std.specs.Str.{bytes_eq}
 use Rattle.conf_doc.specs.Pairs.{find}
 use Rattle.conf_doc.specs.declared.configuration.Config.{Config}
 use Rattle.conf_doc.specs.declared.configuration.Entry.{Entry}
-use Rattle.conf_check.specs.Rows.{IsShapeOf}
 use Rattle.conf_check.specs.Validity.{IsValidAt}
 use Rattle.yang_model.specs.ModelSets.{ModelSet}
-use Rattle.yang_model.specs.declared.shapes.MustRule.{MustRule}
-use Rattle.yang_model.specs.declared.shapes.Shape.{Shape}
 use Rattle.ref_index.specs.Referrers.{Indexed}
 use Rattle.recheck.specs.declared.verdicts.Verdict.{Verdict}
 
@@ -17,17 +14,10 @@ use Rattle.recheck.specs.declared.verdicts.Verdict.{Verdict}
 abbrev pub entry_of : List ℕ → List ℕ → Config → Option Entry
 entry_of table key config = option_and_then (find key) (find table config)
 
--- entries of that key of the table have no must
-abbrev pub HasNoMusts : ModelSet → List ℕ → List ℕ → Type 0
-HasNoMusts models table key =
-    (shape : Shape) (must : MustRule) → IsShapeOf models table key shape
-    → ¬ Contains shape.musts must
-
--- the entry is there, and it has no violation and no must
+-- the entry is there, and it has no violation
 pub record IsSound (models : ModelSet) (config : Config) (v : Verdict) : Type 0 where
   pub there : IsTrue (is_some (entry_of v.table v.key config))
   pub valid : IsValidAt models config v.table v.key
-  pub free : HasNoMusts models v.table v.key
 
 -- all of them are true
 abbrev pub AreSound : ModelSet → Config → List Verdict → Type 0

@@ -1,14 +1,16 @@
-//! Which verdicts a change of the configuration leaves: not those on entries that differ, and not those on
-//! entries with a want that such an entry met.
-ghost use Rattle.std.specs.Prelude.{◌≡◌, ◌↔◌, ◌⊎◌, ◌<◌, ℕ, List, length, Some, IsTrue, option_and_then, option_map, slice_get};
+//! Which verdicts a change of the configuration leaves: not those on entries that differ, not those on entries
+//! with a want that such an entry met, and not those on entries with a must that reads a changed table.
+ghost use Rattle.std.specs.Prelude.{◌≡◌, ◌↔◌, ◌⊎◌, ◌<◌, ◌≤◌, ℕ, List, length, Some, IsTrue, map, option_map, slice_get};
 ghost use Rattle.std.specs.List.{All};
-ghost use Rattle.conf_doc.specs.Pairs.{find};
 ghost use Rattle.key_split.specs.Key.{key_parts};
-ghost use Rattle.recheck.specs.Changes.{AreAmong, AreElsewhere, AreKeysHandled, AreUntouched};
+ghost use Rattle.recheck.specs.Changes.{AreAmong, AreElsewhere, AreKeysHandled, AreUnread, AreUntouched, IsTableHandledAt};
 ghost use Rattle.recheck.specs.Verdicts.{AreSound};
 ghost use Rattle.ref_index.specs.Referrers.{want_for, HasWant};
 
+use crate::musts::drop_readers;
+use crate::places::{first_table, pass_to, place_after, table_at};
 use crate::verdicts::{Verdict, drop_at};
+use conf_check::musts_have_one_truth;
 use conf_doc::{Config, Entry, Table};
 use key_split::KeyView;
 use ref_index::{Place, RefIndex};
@@ -99,18 +101,14 @@ fn drop_touched(
     }
 }
 
-/// Whether a table has that entry.
-fn has_entry(table: Option<&Table>, key: &str, entry: &Entry) -> bool
-    ensures { IsTrue result
-        ↔ (option_and_then (λ t. find key.now t.now) table.entry ≡ Some entry.now) }
+/// Whether there is an entry and it is the same.
+fn is_entry(entry: Option<&Entry>, other: &Entry) -> bool
+    ensures { IsTrue result ↔ (option_map (λ e. e.now) entry.entry ≡ Some other.now) }
 {
-    let Some(table) = table else {
+    let Some(entry) = entry else {
         return false;
     };
-    match table.entry(key) {
-        Some(other) => other.same(entry),
-        None => false,
-    }
+    entry.same(other)
 }
 
 /// Whether there is a table and it is the same.
@@ -123,56 +121,109 @@ fn is_table(table: Option<&Table>, other: &Table) -> bool
     }
 }
 
-/// Drops the verdicts that a change of an entry may turn, unless another table of its name has the same entry.
+/// Drops the verdicts that a change of an entry may turn, unless the other entry of its key is the same.
 fn drop_unless_same(
     verdicts: &mut Vec<Verdict>,
     models: &Models,
     index: &RefIndex,
-    others: Option<&Table>,
+    other: Option<&Entry>,
     table: &str,
     key: &str,
     entry: &Entry,
 )
     requires { index.now.models ≡ models.now }
     ensures among { AreAmong verdicts.old.items verdicts.new.items }
-    ensures handled { (option_and_then (λ t. find key.now t.now) others.entry ≡ Some entry.now)
+    ensures handled { (option_map (λ e. e.now) other.entry ≡ Some entry.now)
         ⊎ AreUntouched models.now index.now.config table.now key.now verdicts.new.items }
 {
-    if has_entry(others, key, entry) {
+    if is_entry(other, entry) {
         return;
     }
     drop_touched(verdicts, models, index, table, key);
 }
 
-/// Drops the verdicts that may turn where an entry of a table isn't the same in another configuration.
+/// Drops the verdicts that may turn where a table isn't the same in another configuration, which has it at a
+/// place or not at all. Both are gone through side by side.
 fn drop_keys(
     verdicts: &mut Vec<Verdict>,
     models: &Models,
     index: &RefIndex,
     next: &Config,
+    place: usize,
     table: usize,
 )
     requires models { index.now.models ≡ models.now }
     requires within { table < length index.now.config }
     ensures among { AreAmong verdicts.old.items verdicts.new.items }
+    ensures table { IsTableHandledAt models.now index.now.config next.now verdicts.new.items
+        index.now.config table }
     ensures handled { let config = index.now.config in (n : ℕ) →
         AreKeysHandled models.now config next.now verdicts.new.items table n }
 {
     let name = index.config().name_at(table);
     let entries = index.config().part_at(table);
-    let others = next.table(name);
+    let others = table_at(next, place, name);
     if is_table(others, entries) {
         return;
     }
+    drop_readers(verdicts, models, name);
+    let mut at = 0;
     for i in 0..entries.len() {
         let key = entries.name_at(i);
         let entry = entries.part_at(i);
-        drop_unless_same(verdicts, models, index, others, name, key, entry);
+        let other = pass_to(others, &mut at, key);
+        drop_unless_same(verdicts, models, index, other, name, key, entry);
     }
 }
 
-/// Drops the verdicts that may turn where an entry isn't the same in another configuration. Those that are
-/// left are true there where they were true.
+/// Drops the verdicts on entries with a must that reads one of some tables of another configuration.
+fn drop_between(
+    verdicts: &mut Vec<Verdict>,
+    models: &Models,
+    config: &Config,
+    from: usize,
+    end: usize,
+)
+    requires { end ≤ length config.now }
+    ensures among { AreAmong verdicts.old.items verdicts.new.items }
+    ensures dropped { (u : ℕ) (name : List ℕ) → from ≤ u → u < end
+        → slice_get (map (λ p. p.0) config.now) u ≡ Some name
+        → AreUnread models.now name verdicts.new.items }
+{
+    for u in from..end {
+        drop_readers(verdicts, models, config.name_at(u));
+    }
+}
+
+/// Drops the verdicts that a change of a table may turn. The tables of the other configuration before its
+/// name are those that the first lacks. The answer is the place of the next one after it.
+fn drop_table(
+    verdicts: &mut Vec<Verdict>,
+    models: &Models,
+    index: &RefIndex,
+    next: &Config,
+    from: usize,
+    table: usize,
+) -> usize
+    requires models { index.now.models ≡ models.now }
+    requires within { table < length index.now.config }
+    ensures among { AreAmong verdicts.old.items verdicts.new.items }
+    ensures table { IsTableHandledAt models.now index.now.config next.now verdicts.new.items
+        index.now.config table }
+    ensures handled { let config = index.now.config in (n : ℕ) →
+        AreKeysHandled models.now config next.now verdicts.new.items table n }
+    ensures others { (u : ℕ) → from ≤ u → u < result
+        → IsTableHandledAt models.now index.now.config next.now verdicts.new.items next.now u }
+{
+    let name = index.config().name_at(table);
+    let place = first_table(next, from, name);
+    drop_between(verdicts, models, next, from, place);
+    drop_keys(verdicts, models, index, next, place, table);
+    place_after(next, place, name)
+}
+
+/// Drops the verdicts that may turn where a table isn't the same in another configuration. Those that are
+/// left are true there where they were true. Both are gone through side by side.
 pub(crate) fn drop_changed(
     verdicts: &mut Vec<Verdict>,
     models: &Models,
@@ -184,8 +235,12 @@ pub(crate) fn drop_changed(
     ensures sound { AreSound models.now index.now.config verdicts.old.items
         → AreSound models.now next.now verdicts.new.items }
 {
-    let _ = next.len();
+    // a must has one truth where its entry and the tables that it reads are the same
+    musts_have_one_truth();
+    models.have_files();
+    let mut place = 0;
     for table in 0..index.config().len() {
-        drop_keys(verdicts, models, index, next, table);
+        place = drop_table(verdicts, models, index, next, place, table);
     }
+    drop_between(verdicts, models, next, place, next.len());
 }

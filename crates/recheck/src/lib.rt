@@ -3,6 +3,8 @@
 
 mod changes;
 mod kept;
+mod musts;
+mod places;
 mod rechecks;
 mod rule;
 mod verdicts;

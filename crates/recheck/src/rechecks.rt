@@ -1,41 +1,14 @@
 //! The entries of a configuration gone through in order, and those without a verdict checked.
-ghost use Rattle.std.specs.Prelude.{◌≡◌, ◌↔◌, ◌<◌, ◌≤◌, length, IfOk, IsTrue, None, is_some, MatchOption};
-ghost use Rattle.conf_check.specs.Rows.{IsShapeOf};
+ghost use Rattle.std.specs.Prelude.{◌≡◌, ◌↔◌, ◌<◌, ◌≤◌, length, IfOk, IsTrue, is_some};
 ghost use Rattle.conf_check.specs.Validity.{IsValid, IsValidAt};
-ghost use Rattle.yang_model.specs.Belongs.{Belongs};
-ghost use Rattle.yang_model.specs.ModelSets.{shapes_of};
-ghost use Rattle.std.specs.Bool.{OnFalse};
 ghost use Rattle.recheck.specs.Rechecks.{IsTableValid};
-ghost use Rattle.recheck.specs.Verdicts.{AreSound, HasNoMusts, entry_of};
+ghost use Rattle.recheck.specs.Verdicts.{AreSound, entry_of};
 
 use crate::walks::Walk;
 use conf_check::check_entry;
 use conf_doc::Config;
 use host_core::Memory;
-use key_split::KeyView;
-use yang_model::{Models, Shape};
-
-/// The shape that an entry of a table belongs to by its key.
-fn shape_of<'a>(models: &'a Models, table: &str, key: &str) -> Option<&'a Shape>
-    ensures { MatchOption result
-        (Belongs (shapes_of table.now models.now) key.now None)
-        (λ shape. IsShapeOf models.now table.now key.now shape.now) }
-{
-    match models.list_of(table, &KeyView::new(key)) {
-        Some(place) => models.shape_at(table, place),
-        None => None,
-    }
-}
-
-/// Whether entries of a key of a table have a must.
-fn has_musts(models: &Models, table: &str, key: &str) -> bool
-    ensures { OnFalse result (HasNoMusts models.now table.now key.now) }
-{
-    match shape_of(models, table, key) {
-        Some(shape) => !shape.musts.items().is_empty(),
-        None => false,
-    }
-}
+use yang_model::Models;
 
 /// Whether an entry breaks no rule.
 fn is_valid_at(models: &Models, config: &Config, table: &str, key: &str) -> bool
@@ -55,7 +28,7 @@ fn both(first: bool, second: bool) -> bool
 }
 
 /// Whether an entry breaks no rule: it has a verdict, or it is checked and counted, and gets one if it breaks
-/// none. A must may read other entries, so an entry with a must gets no verdict.
+/// none.
 fn check_at(
     walk: &mut Walk,
     checked: &mut u64,
@@ -78,9 +51,7 @@ fn check_at(
     if !is_valid_at(models, config, table, key) {
         return Ok(false);
     }
-    if !has_musts(models, table, key) {
-        walk.note(table, key)?;
-    }
+    walk.note(table, key)?;
     Ok(true)
 }
 
@@ -129,7 +100,7 @@ fn check_table(
     }
 }
 
-/// Whether a configuration breaks no rule. Entries without a verdict are checked, and get one where they may.
+/// Whether a configuration breaks no rule. Entries without a verdict are checked, and those that break none get one.
 pub(crate) fn check_rest(
     walk: &mut Walk,
     checked: &mut u64,

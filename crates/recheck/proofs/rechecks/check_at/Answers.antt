@@ -1,5 +1,5 @@
 use Rattle.std.proofs.Common.{refl}
-use Rattle.recheck.proofs.Walked.{fresh, noted, passed, same_sound, when_false, when_true}
+use Rattle.recheck.proofs.Walked.{fresh, noted, passed, same_sound, when_true}
 use Rattle.recheck.proofs.rechecks.check_at.Goals as goal
 
 pub returns-then-passes-clause-valid : goal.returns-then-passes-clause-valid
@@ -23,17 +23,13 @@ returns-in_err-note-clause-sound c =
     noted c.args.models.now c.args.config.now c.args.table.now c.args.key.now c.passes.new.self.verdicts.items c.note.new.self.verdicts.items
     (same_sound c.args.models.now c.args.config.now c.args.table.now c.args.key.now _ _ c.passes.ensures.verdicts c.requires.sound)
     (fresh c.args.models.now c.args.config.now c.args.table.now c.args.key.now c.requires.there
-    (c.is_valid_at.ensures.0 c.if-not-is_valid_at.false) (when_false _ _ c.if-not-has_musts.true c.has_musts.ensures))
+    (c.is_valid_at.ensures.0 c.if-not-is_valid_at.false))
     c.note.ensures
 
-pub returns-in_ok-note-clause-sound : goal.returns-in_ok-note-clause-sound
-returns-in_ok-note-clause-sound c =
+pub returns-clause-sound : goal.returns-clause-sound
+returns-clause-sound c =
     noted c.args.models.now c.args.config.now c.args.table.now c.args.key.now c.passes.new.self.verdicts.items c.note.new.self.verdicts.items
     (same_sound c.args.models.now c.args.config.now c.args.table.now c.args.key.now _ _ c.passes.ensures.verdicts c.requires.sound)
     (fresh c.args.models.now c.args.config.now c.args.table.now c.args.key.now c.requires.there
-    (c.is_valid_at.ensures.0 c.if-not-is_valid_at.false) (when_false _ _ c.if-not-has_musts.true c.has_musts.ensures))
+    (c.is_valid_at.ensures.0 c.if-not-is_valid_at.false))
     c.note.ensures
-
-pub returns-else-not-has_musts-clause-sound : goal.returns-else-not-has_musts-clause-sound
-returns-else-not-has_musts-clause-sound c =
-    same_sound c.args.models.now c.args.config.now c.args.table.now c.args.key.now _ _ c.passes.ensures.verdicts c.requires.sound
