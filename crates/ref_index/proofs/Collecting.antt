@@ -1,10 +1,8 @@
 -- The wants of one configuration that another hasn't, one entry after another.
-use Rattle.std.proofs.Common.{◌≡◌, ◌⊎◌, ◌↔◌, ◌<◌, ◌+◌, ◌≤◌, inl, inr, ℕ, List, [], ◌∷◌, ◌++◌, None, Some, length, map, slice_get, refl, sym, ap, ◌∙◌, subst, arith}
+use Rattle.std.proofs.Common.{◌≡◌, ◌⊎◌, ◌↔◌, ◌+◌, ◌≤◌, inl, inr, ℕ, List, [], ◌∷◌, ◌++◌, None, Some, length, slice_get, refl, sym, ap, ◌∙◌, subst, arith}
 use Rattle.std.proofs.lemmas.Bool.{cases_lt}
 use Rattle.std.proofs.lemmas.List.Elements.{Contains-push}
-use Rattle.std.proofs.lemmas.Option.{slice_get_within}
 use Rattle.conf_doc.specs.declared.configuration.Config.{Config}
-use Rattle.conf_doc.specs.declared.configuration.Table.{Table}
 use Rattle.conf_doc.proofs.Edits.{same_Some}
 use Rattle.yang_model.specs.ModelSets.{ModelSet}
 use Rattle.conf_check.specs.Rows.{IsEntryAt}
@@ -13,12 +11,12 @@ use Rattle.conf_check.specs.Wants.{Want, IsNamed, IsWantAt, want_of}
 use Rattle.conf_check.specs.declared.want_iter.WantAt.{WantAt}
 use Rattle.conf_check.specs.declared.want_iter.WantIter.{WantIter}
 use Rattle.conf_check.specs.declared.want_iter.WantPlace.{WantPlace}
-use Rattle.ref_index.specs.EntryPairs.{Adds, IsAt, IsBefore, IsOfEarlier, IsOfTable, IsSameEntry, key_names}
+use Rattle.ref_index.specs.EntryNames.{Adds, HasOthers, IsNamed as IsEntryNamed, IsOneOf}
 use Rattle.ref_index.specs.PlaceMaps.{AreMissing, IsListed}
 use Rattle.ref_index.specs.Referrers.{HasWant, IsPlaceAt, place_of}
+use Rattle.ref_index.specs.declared.entry_names.EntryName.{EntryName}
 use Rattle.ref_index.specs.declared.places.Place.{Place}
-use Rattle.ref_index.proofs.Aligned.{made_at}
-use Rattle.ref_index.proofs.SameEntries.{same_wants}
+use Rattle.ref_index.proofs.NamedEntries.{there_at}
 use Rattle.ref_index.proofs.Walks.{listed_before, listed_cases, name_is, named_at, none_listed}
 
 -- of the wants at some positions, those that were looked at are listed, or the second configuration has them;
@@ -110,84 +108,50 @@ module _ (models : ModelSet) (one two : Config) (Is : ℕ → ℕ → Type 0) (o
 -- ---- one entry or table after another
 
 module _ (models : ModelSet) (one two : Config) where
-  -- nothing is to be looked at
-  pub adds_none : (Is : ℕ → ℕ → Type 0) (old : List WantAt) → ((i j : ℕ) → ¬ Is i j) → Adds models one two Is old old
-  adds_none Is old none = record { has = λ w p l. inl l; stay = λ w p l. l; all = λ at w p is _ _. absurd (none at.table at.key is) }
+  -- no entry was looked at
+  pub adds_none : (names : List EntryName) (old : List WantAt) → Adds models one two (IsOneOf one names 0) old old
+  adds_none names old = record { has = λ w p l. inl l; stay = λ w p l. l; all = λ at w p is _ _. let lt = is.before in absurd (omega arith) }
 
-  -- some entries and then others
-  pub adds_more : (A B C : ℕ → ℕ → Type 0) (old mid new : List WantAt)
-      → ((at : WantPlace) (w : Want) (p : Place) → IsWantAt models one at w → IsPlaceAt one at p → C at.table at.key → A at.table at.key ⊎ B at.table at.key)
-      → Adds models one two A old mid → Adds models one two B mid new → Adds models one two C old new
-  adds_more A B C old mid new cases a b = record {
+  -- one more was
+  pub adds_next : (names : List EntryName) (n : ℕ) (name : EntryName) (old mid new : List WantAt) → slice_get names n ≡ Some name
+      → Adds models one two (IsOneOf one names n) old mid → Adds models one two (IsEntryAt one name.table.now name.key.now) mid new
+      → Adds models one two (IsOneOf one names (n + 1)) old new
+  adds_next names n name old mid new at a b = record {
     has = λ w p l. elim (b.has w p l) [ inl l ↦ a.has w p l | inr both ↦ inr both ];
     stay = λ w p l. b.stay w p (a.stay w p l);
-    all = λ at w p is wanted stands. elim (cases at w p wanted stands is) [
-      | inl first ↦ elim (a.all at w p first wanted stands) [ inl has ↦ inl has | inr l ↦ inr (b.stay w p l) ]
-      | inr second ↦ b.all at w p second wanted stands
+    all = λ place w p is wanted stands. elim (cases_lt is.index n) [
+      | inl lt ↦ elim (a.all place w p (record { index = is.index; before = lt; name = is.name; at = is.at; entry = is.entry }) wanted stands) [
+        | inl has ↦ inl has
+        | inr l ↦ inr (b.stay w p l)
+      ]
+      | inr ge ↦
+          let lt = is.before in
+          let index : is.index ≡ n = omega arith in
+          let same : is.name ≡ name = same_Some is.name name (sym is.at ∙ ap (slice_get names) index ∙ at) in
+          b.all place w p (subst (λ e. IsEntryAt one e.table.now e.key.now place.table place.key) same is.entry) wanted stands
     ];
   }
 
-  -- of entries that are among those
-  pub adds_as : (A C : ℕ → ℕ → Type 0) (old new : List WantAt)
-      → ((at : WantPlace) (w : Want) (p : Place) → IsWantAt models one at w → IsPlaceAt one at p → C at.table at.key → A at.table at.key)
-      → Adds models one two A old new → Adds models one two C old new
-  adds_as A C old new among a = record {
-    has = a.has;
-    stay = a.stay;
-    all = λ at w p is wanted stands. a.all at w p (among at w p wanted stands is) wanted stands;
-  }
-
-  -- an entry that is the same has the same wants
-  pub adds_same : (t k : ℕ) (old : List WantAt) → key_names one ≡ key_names two → IsSameEntry one two t k → Adds models one two (IsAt t k) old old
-  adds_same t k old keys same = record {
-    has = λ w p l. inl l;
-    stay = λ w p l. l;
-    all = λ at w p is wanted stands.
-        inl (same_wants models one two keys at w p
-        (subst (λ i. IsSameEntry one two i at.key) (sym is.0) (subst (IsSameEntry one two t) (sym is.1) same)) wanted stands);
-  }
-
-  -- the entry of those names is the one at those indexes
-  pub adds_named : (t k : ℕ) (table key : List ℕ) (old new : List WantAt) → IsEntryAt one table key t k
-      → Adds models one two (IsEntryAt one table key) old new → Adds models one two (IsAt t k) old new
-  adds_named t k table key old new entry =
-      adds_as (IsEntryAt one table key) (IsAt t k) old new
-      (λ at w p wanted stands is. subst (λ i. IsEntryAt one table key i at.key) (sym is.0) (subst (IsEntryAt one table key t) (sym is.1) entry))
-
-  -- the entries of a table, one after another
-  pub adds_entry : (t k : ℕ) (old mid new : List WantAt) → Adds models one two (IsBefore t k) old mid → Adds models one two (IsAt t k) mid new
-      → Adds models one two (IsBefore t (k + 1)) old new
-  adds_entry t k old mid new =
-      adds_more (IsBefore t k) (IsAt t k) (IsBefore t (k + 1)) old mid new
-      (λ at w p wanted stands is. elim (cases_lt at.key k) [
-        | inl lt ↦ inl (is.0, lt)
-        | inr ge ↦ inr (is.0, (let below = is.1 in omega arith))
-      ])
-
-  pub adds_table : (t n : ℕ) (table : Table) (old new : List WantAt) → slice_get (map (λ p. p.1) one) t ≡ Some table → length table ≤ n
-      → Adds models one two (IsBefore t n) old new → Adds models one two (IsOfTable t) old new
-  adds_table t n table old new at_table long =
-      adds_as (IsBefore t n) (IsOfTable t) old new
-      (λ at w p wanted stands is.
-      let there : slice_get (map (λ q. q.1) one) at.table ≡ Some stands.entry.entries = made_at (λ q. q.1) one at.table (p.table, stands.entry.entries) stands.entry.at in
-      let same : stands.entry.entries ≡ table = same_Some stands.entry.entries table (sym there ∙ ap (slice_get (map (λ q. q.1) one)) is ∙ at_table) in
-      let within : at.key < length stands.entry.entries = slice_get_within stands.entry.entries at.key (p.key, stands.entry.fields) stands.entry.at_key in
-      let equal : length stands.entry.entries ≡ length table = ap length same in
-      (is, omega arith))
-
-  -- the tables, one after another
-  pub adds_next : (t : ℕ) (old mid new : List WantAt) → Adds models one two (IsOfEarlier t) old mid → Adds models one two (IsOfTable t) mid new
-      → Adds models one two (IsOfEarlier (t + 1)) old new
-  adds_next t old mid new =
-      adds_more (IsOfEarlier t) (IsOfTable t) (IsOfEarlier (t + 1)) old mid new
-      (λ at w p wanted stands is. elim (cases_lt at.table t) [ inl lt ↦ inl lt | inr ge ↦ inr (omega arith) ])
-
-  -- all entries of all tables
-  pub adds_all : (n : ℕ) (found : List WantAt) → length one ≤ n → Adds models one two (IsOfEarlier n) [] found → AreMissing models one two found
-  adds_all n found long adds = record {
+  -- all that are named were, and the second configuration has the wants of the others
+  pub adds_all : (names : List EntryName) (n : ℕ) (found : List WantAt) → length names ≤ n → HasOthers models one two names
+      → Adds models one two (IsOneOf one names n) [] found → AreMissing models one two found
+  adds_all names n found long others adds = record {
     has = λ w p l. elim (adds.has w p l) [ inl none ↦ absurd (none_listed w p none) | inr both ↦ both.0 ];
     lacks = λ w p l. elim (adds.has w p l) [ inl none ↦ absurd (none_listed w p none) | inr both ↦ both.1 ];
-    all = λ w p has.
-        let within : has.position.table < length one = slice_get_within one has.position.table (p.table, has.at.entry.entries) has.at.entry.at in
-        adds.all has.position w p (omega arith) has.wanted has.at;
+    all = λ w p has. elim (others w p has) [
+      | inl there ↦ inl there
+      | inr named ↦ adds.all has.position w p (is_one w p has named) has.wanted has.at
+    ];
   }
+    where
+      is_one : (w : Want) (p : Place) (has : HasWant models one w p) (named : IsEntryNamed names p.table p.key) → IsOneOf one names n has.position.table has.position.key
+      is_one w p has named =
+          let lt = named.there.1 in
+          record {
+            index = named.there.0;
+            before = omega arith;
+            name = named.name;
+            at = there_at names named.there.0 named.name named.there.1 (sym named.there.2);
+            entry = subst (λ k. IsEntryAt one named.name.table.now k has.position.table has.position.key) (sym named.key)
+                (subst (λ t. IsEntryAt one t p.key has.position.table has.position.key) (sym named.table) has.at.entry);
+          }

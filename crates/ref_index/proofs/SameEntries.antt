@@ -1,10 +1,5 @@
--- An entry that is the same in two configurations of the same keys has the same wants.
-use Rattle.std.proofs.Common.{◌≡◌, inl, inr, ℕ, Bool, true, false, cond, List, [], ◌∷◌, Option, Some, None, map, option_map, option_and_then, slice_get, is_some, refl, sym, ap, ◌∙◌, subst}
-use Rattle.std.specs.List.{Contains}
-use Rattle.std.specs.Option.{option_map_or}
-use Rattle.std.specs.Ordering.{is_eq}
-use Rattle.host_core.specs.Names.{name_cmp}
-use Rattle.conf_doc.specs.Pairs.{find}
+-- An entry that is the same in two configurations has the same wants, where they satisfy the same.
+use Rattle.std.proofs.Common.{◌≡◌, inl, inr, ℕ, Bool, true, false, cond, List, Option, Some, None, option_map, option_and_then, slice_get, is_some, refl, sym, ap, ◌∙◌, subst}
 use Rattle.conf_doc.specs.declared.configuration.Config.{Config}
 use Rattle.conf_doc.specs.declared.configuration.Entry.{Entry}
 use Rattle.conf_doc.specs.declared.configuration.Table.{Table}
@@ -12,23 +7,14 @@ use Rattle.conf_doc.proofs.Edits.{same_Some}
 use Rattle.yang_model.specs.ModelSets.{ModelSet, table_named}
 use Rattle.yang_types.specs.DataType.{DataType, text, number, length_within, value_within, matching, one_of, truth, builtin, leafref, union, DataTypes, no_types, type_and}
 use Rattle.yang_types.specs.declared.types.Target.{Target}
-use Rattle.conf_check.specs.Acceptance.{AcceptsAnyIn, AcceptsIn, IsFirstWanted, IsSatisfied, IsWanted, keys_of}
+use Rattle.conf_check.specs.Acceptance.{AcceptsAnyIn, AcceptsIn, IsFirstWanted, IsSatisfied, IsWanted}
 use Rattle.conf_check.specs.Rows.{Row, IsEntryAt, if_modelled, row_at, row_of, typed_text}
-use Rattle.conf_check.specs.Wants.{Want, IsWantAt, IsWantedText}
+use Rattle.conf_check.specs.Wants.{Want, IsWantAt, IsWantedText, field_name}
 use Rattle.conf_check.specs.declared.want_iter.WantPlace.{WantPlace}
-use Rattle.ref_index.specs.EntryPairs.{IsSameEntry, key_names}
 use Rattle.ref_index.specs.Referrers.{HasWant, IsPlaceAt}
+use Rattle.ref_index.specs.Texts.{HasText}
 use Rattle.ref_index.specs.declared.places.Place.{Place}
-
--- the keys of a table, found among the names
-keys_named : (a : Config) (t : List ℕ) → keys_of t a ≡ option_map_or (λ ks. ks) (find t (key_names a)) []
-keys_named [] t = refl
-keys_named (p ∷ ps) t =
-    elim (is_eq (name_cmp t p.0)) as (λ b. option_map_or (map (λ (e : List ℕ × Entry). e.0)) (cond b (Some p.1) (find t ps)) []
-    ≡ option_map_or (λ (ks : List (List ℕ)). ks) (cond b (Some (map (λ (e : List ℕ × Entry). e.0) p.1)) (find t (key_names ps))) []) [
-      | true ↦ refl
-      | false ↦ keys_named ps t
-    ]
+use Rattle.ref_index.proofs.EntryTexts.{wanted_text}
 
 -- the row of an entry, where its table has a model
 row_cond : (m : Bool) (table : List ℕ) (entries : Table) (k : ℕ)
@@ -44,22 +30,14 @@ at_entry models c table key t k is =
     ∙ row_cond (is_some (table_named table models)) table is.entries k
     ∙ ap (λ o. cond (is_some (table_named table models)) (option_map (λ (e : List ℕ × Entry). row_of table e.0 e.1) o) None) is.at_key
 
-module _ (models : ModelSet) (a b : Config) (same : key_names a ≡ key_names b) where
-  same_keys : (t : List ℕ) → keys_of t a ≡ keys_of t b
-  same_keys t = keys_named a t ∙ ap (λ ks. option_map_or (λ ls. ls) (find t ks) []) same ∙ sym (keys_named b t)
+-- what a text can want of a configuration, another one has too
+abbrev pub Satisfies : ModelSet → List ℕ → Config → Config → Type 0
+Satisfies models s a b = (r : Target) → IsSatisfied models a r s → IsSatisfied models b r s
 
-  satisfied : (r : Target) (s : List ℕ) → IsSatisfied models a r s → IsSatisfied models b r s
-  satisfied r s is = record {
-    key = is.key;
-    there = subst (λ ks. Contains ks is.key) (same_keys r.table) is.there;
-    belongs = is.belongs;
-    part = is.part;
-  }
-
-module _ (models : ModelSet) (a b : Config) (to : (r : Target) (s : List ℕ) → IsSatisfied models a r s → IsSatisfied models b r s) (s : List ℕ) where
+module _ (models : ModelSet) (s : List ℕ) (a b : Config) (to : Satisfies models s a b) where
   mutual
     accepts : (t : DataType) → AcceptsIn models a t s → AcceptsIn models b t s
-    accepts (leafref r t) h = (h.0, to r s h.1)
+    accepts (leafref r t) h = (h.0, to r h.1)
     accepts (union ts) h = accepts_any ts h
     accepts text h = h
     accepts (number n) h = h
@@ -75,17 +53,11 @@ module _ (models : ModelSet) (a b : Config) (to : (r : Target) (s : List ℕ) �
     accepts_any (type_and t ts) (inl h) = inl (accepts t h)
     accepts_any (type_and t ts) (inr h) = inr (accepts_any ts h)
 
-module _ (models : ModelSet) (a b : Config) (same : key_names a ≡ key_names b) where
-  module _ (s : List ℕ) where
-    accepts_there : (t : DataType) → AcceptsIn models a t s → AcceptsIn models b t s
-    accepts_there = accepts models a b (satisfied models a b same) s
-
-    accepts_here : (t : DataType) → AcceptsIn models b t s → AcceptsIn models a t s
-    accepts_here = accepts models b a (satisfied models b a (sym same)) s
-
+module _ (models : ModelSet) (a b : Config) where
+  module _ (s : List ℕ) (to : Satisfies models s a b) (back : Satisfies models s b a) where
     mutual
       wanted : (t : DataType) (r : Target) → IsWanted models a t s r → IsWanted models b t s r
-      wanted (leafref q t) r w = (w.0, accepts_there (leafref q t) w.1)
+      wanted (leafref q t) r w = (w.0, accepts models s a b to (leafref q t) w.1)
       wanted (union ts) r w = first_wanted ts r w
       wanted text r w = absurd w
       wanted (number n) r w = absurd w
@@ -99,42 +71,44 @@ module _ (models : ModelSet) (a b : Config) (same : key_names a ≡ key_names b)
       first_wanted : (ts : DataTypes) (r : Target) → IsFirstWanted models a ts s r → IsFirstWanted models b ts s r
       first_wanted no_types r w = absurd w
       first_wanted (type_and t ts) r (inl w) = inl (wanted t r w)
-      first_wanted (type_and t ts) r (inr w) = inr (λ h. w.0 (accepts_here t h), first_wanted ts r w.1)
+      first_wanted (type_and t ts) r (inr w) = inr (λ h. w.0 (accepts models s b a back t h), first_wanted ts r w.1)
 
-  wanted_text : (o : Option (DataType × List ℕ)) (w : Want) → IsWantedText models a o w → IsWantedText models b o w
-  wanted_text None w h = h
-  wanted_text (Some t) w h = (h.0, wanted t.1 t.0 w.target h.1)
+  wanted_there : (o : Option (DataType × List ℕ)) (w : Want) → Satisfies models w.text a b → Satisfies models w.text b a → IsWantedText models a o w → IsWantedText models b o w
+  wanted_there None w to back h = h
+  wanted_there (Some t) w to back h = (
+    h.0,
+    subst (λ s. IsWanted models b t.0 s w.target) (sym h.0) (wanted w.text to back t.0 w.target (subst (λ s. IsWanted models a t.0 s w.target) h.0 h.1)),
+  )
 
-  -- the wants of an entry that is the same
-  pub same_wants : (position : WantPlace) (w : Want) (p : Place) → IsSameEntry a b position.table position.key → IsWantAt models a position w → IsPlaceAt a position p
-      → HasWant models b w p
-  same_wants position w p entry is at =
-      let table : (p.table, at.entry.entries) ≡ (entry.table, entry.left) =
-      same_Some (p.table, at.entry.entries) (entry.table, entry.left) (sym at.entry.at ∙ entry.in_first) in
-      let key : (p.key, at.entry.fields) ≡ (entry.same.key, entry.same.fields) =
-      same_Some (p.key, at.entry.fields) (entry.same.key, entry.same.fields)
-      (sym at.entry.at_key ∙ ap (λ t. slice_get t.1 position.key) table ∙ entry.same.in_left) in
-      let there : IsEntryAt b p.table p.key position.table position.key = record {
-        entries = entry.right;
-        at = entry.in_second ∙ ap (λ t. Some (t.0, entry.right)) (sym table);
-        fields = at.entry.fields;
-        at_key = entry.same.in_right ∙ ap Some (sym key);
-      } in
-      record {
-        position = position;
-        at = record { entry = there; field = at.field; item = at.item };
-        wanted = record {
-          row = is.row;
-          at = row_there position.table position.key p.table p.key at.entry there refl is.row is.at;
-          shape = is.shape;
-          shaped = is.shaped;
-          wanted = wanted_text (typed_text is.shape is.row position.field position.item) w is.wanted;
-        };
-      }
+  -- a want of an entry that stands in both, where both satisfy the same of its text
+  pub same_want : (position : WantPlace) (w : Want) (p : Place) (at : IsPlaceAt a position p) → IsWantAt models a position w
+      → (i j : ℕ) (there : IsEntryAt b p.table p.key i j) → at.entry.fields ≡ there.fields → Satisfies models w.text a b → Satisfies models w.text b a → HasWant models b w p
+  same_want position w p at is i j there fields to back = record {
+    position = record { table = i; key = j; field = position.field; item = position.item };
+    at = record { entry = there; field = ap (λ f. field_name f position.field) (sym fields) ∙ at.field; item = at.item };
+    wanted = record {
+      row = is.row;
+      at = row_there;
+      shape = is.shape;
+      shaped = is.shaped;
+      wanted = wanted_there (typed_text is.shape is.row position.field position.item) w to back is.wanted;
+    };
+  }
     where
-      row_there : (t k : ℕ) (table key : List ℕ) (one : IsEntryAt a table key t k) (two : IsEntryAt b table key t k) → one.fields ≡ two.fields
-          → (r : Row) → row_at models a t k ≡ Some r → row_at models b t k ≡ Some r
-      row_there t k table key one two fields r at =
-          at_entry models b table key t k two
-          ∙ ap (λ f. cond (is_some (table_named table models)) (Some (row_of table key f)) None) (sym fields)
-          ∙ sym (at_entry models a table key t k one) ∙ at
+      row_there : row_at models b i j ≡ Some is.row
+      row_there =
+          at_entry models b p.table p.key i j there
+          ∙ ap (λ f. cond (is_some (table_named p.table models)) (Some (row_of p.table p.key f)) None) (sym fields)
+          ∙ sym (at_entry models a p.table p.key position.table position.key at.entry) ∙ is.at
+
+-- the text of a want is one of its entry's
+pub text_of_want : (models : ModelSet) (a : Config) (position : WantPlace) (w : Want) (p : Place) (at : IsPlaceAt a position p) → IsWantAt models a position w
+    → HasText p.key at.entry.fields w.text
+text_of_want models a position w p at is =
+    let row : is.row ≡ row_of p.table p.key at.entry.fields =
+    row_is (is_some (table_named p.table models)) is.row (sym (at_entry models a p.table p.key position.table position.key at.entry) ∙ is.at) in
+    subst (λ r. HasText r.key r.fields w.text) row (wanted_text models a w is.shape is.row position.field position.item is.wanted)
+  where
+    row_is : (b : Bool) (r : Row) → cond b (Some (row_of p.table p.key at.entry.fields)) None ≡ Some r → r ≡ row_of p.table p.key at.entry.fields
+    row_is true r e = sym (same_Some (row_of p.table p.key at.entry.fields) r e)
+    row_is false r e = absurd cc

@@ -2,5 +2,6 @@
 pub mod Referrers
 -- What only the index and private clauses cite.
 pub mod Codes
-pub mod EntryPairs
+pub mod EntryNames
 pub mod PlaceMaps
+pub mod Texts

@@ -4,6 +4,7 @@ ghost use Rattle.ref_index.specs.PlaceMaps.{IsMapOf, PutsAll, PutsSome, TakesAll
 ghost use Rattle.ref_index.specs.Referrers.{AreReferrers, want_for};
 
 use crate::differences::missing_wants;
+use crate::entry_names::differences;
 use crate::place_maps::PlaceMap;
 use crate::places::Place;
 use conf_check::{Want, WantAt};
@@ -72,8 +73,10 @@ fn move_places(
     ensures ok { OnOk result (IsMapOf models.now next.now places.new) }
     ensures err { OnErr result (IsMapOf models.now config.now places.new) }
 {
-    let gone = missing_wants(alloc, models, config, next)?;
-    let come = missing_wants(alloc, models, next, config)?;
+    let apart = differences(alloc, config, next)?;
+    let names = apart.as_slice();
+    let gone = missing_wants(alloc, models, config, next, names)?;
+    let come = missing_wants(alloc, models, next, config, names)?;
     match put_all(alloc, places, come.as_slice()) {
         Ok(()) => {
             take_all(places, gone.as_slice());
@@ -100,8 +103,9 @@ impl RefIndex {
         Ok(index)
     }
 
-    /// Makes it the index of another configuration. Where both have the same keys, only entries that differ
-    /// are looked at. Without memory it stays as it was. The models are those that it was built with.
+    /// Makes it the index of another configuration. Both are gone through once, side by side. The wants are
+    /// looked at only of entries that differ, and of those with a text that is a part of a key that came or
+    /// went. Without memory it stays as it was. The models are those that it was built with.
     pub fn move_to(&mut self, alloc: Global, models: &Models, next: &Config) -> Result<(), Memory>
         requires { self.old.models ≡ models.now }
         ensures ok { OnOk result

@@ -2,10 +2,12 @@
 #![tactic(auto)]
 
 mod differences;
+mod entry_names;
 mod groups;
 mod indexes;
 mod place_maps;
 mod places;
+mod text_sets;
 
 pub use indexes::RefIndex;
 pub use places::Place;

@@ -1,6 +1,6 @@
 use Rattle.std.proofs.Common.{[]}
-use Rattle.ref_index.specs.EntryPairs.{Adds, IsOfEarlier}
+use Rattle.ref_index.specs.EntryNames.{Adds, IsOneOf}
 use Rattle.ref_index.proofs.differences.missing_wants.Given as goal
 
-abbrev pub invariant-loop-t : goal.invariant-loop-t
-invariant-loop-t l = Adds l.models l.first l.second (IsOfEarlier l.t) [] l.found.items
+abbrev pub invariant-loop-i : goal.invariant-loop-i
+invariant-loop-i l = Adds l.models l.first l.second (IsOneOf l.first l.names l.i) [] l.found.items

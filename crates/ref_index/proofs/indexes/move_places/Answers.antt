@@ -1,7 +1,16 @@
-use Rattle.std.proofs.Common.{subst}
+use Rattle.std.proofs.Common.{subst, sym}
+use Rattle.ref_index.specs.EntryNames.{HasOthers}
 use Rattle.ref_index.specs.PlaceMaps.{PutsAll, PutsSome, TakesAll}
 use Rattle.ref_index.proofs.Moves.{map_moves, map_stays}
 use Rattle.ref_index.proofs.indexes.move_places.Goals as goal
+
+pub missing_wants-requires : goal.missing_wants-requires
+missing_wants-requires c =
+    subst (HasOthers c.args.models.now c.args.config.now c.args.next.now) (sym c.as_slice-names.ensures.value) (c.in_ok-apart.ensures.of_first c.args.models.now)
+
+pub missing_wants-requires-2 : goal.missing_wants-requires-2
+missing_wants-requires-2 c =
+    subst (HasOthers c.args.models.now c.args.next.now c.args.config.now) (sym c.as_slice-names.ensures.value) (c.in_ok-apart.ensures.of_second c.args.models.now)
 
 pub returns-in-Ok-clause-ok : goal.returns-in-Ok-clause-ok
 returns-in-Ok-clause-ok c =
