@@ -6,6 +6,7 @@ pub mod Finding
 pub mod GoneKeys
 pub mod Kept
 pub mod KeptKeys
+pub mod Leafrefs
 pub mod Named
 pub mod Names
 pub mod Removals

@@ -4,4 +4,5 @@ pub mod Found
 pub mod KeptKeys
 pub mod Mentions
 pub mod Referrers
+pub mod Referring
 pub mod Requireds

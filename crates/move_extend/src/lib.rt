@@ -8,6 +8,7 @@ mod found;
 mod kept_keys;
 mod mentions;
 mod referrers;
+mod referring;
 mod required;
 mod required_values;
 mod upper;

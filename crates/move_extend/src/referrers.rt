@@ -18,6 +18,7 @@ use crate::entries::table_of;
 use crate::found::{add_move, add_unless_last, append_moves};
 use crate::kept_keys::keeps_keys;
 use crate::mentions::{Gone, mentions_one, parts_of};
+use crate::referring::{is_referred, table_refers};
 use conf_check::{Want, WantAt, entry_wants, is_satisfied, wants};
 use conf_doc::{Config, Entry, Path, Table};
 use host_core::Memory;
@@ -181,7 +182,7 @@ fn find_in_mentioning(
     }
 }
 
-/// The same of each entry of a table.
+/// The same of each entry of a table, where one may refer to the table that loses the keys.
 fn find_in_table(
     alloc: Global,
     change: &Change<'_>,
@@ -195,6 +196,9 @@ fn find_in_table(
     ensures { let Gives = GivesOfTable change.now gone.now.table.now (table.now, entries.now) in
         OnOk result (Finds Gives found.old found.new) }
 {
+    if !table_refers(change.models, table, gone.table) {
+        return Ok(());
+    }
     for i in 0..entries.len() {
         let key = entries.name_at(i);
         let fields = entries.part_at(i);
@@ -248,12 +252,15 @@ fn removals_of(alloc: Global, ctx: &Ctx, cur: &Config, mv: &Move) -> Result<Move
     requires { IsDefined cur.now mv.now }
     ensures { IfOk result (Appends (IsReferrer (rulebook ctx.now) cur.now mv.now) []) }
 {
+    let models = &ctx.models;
+    let table = table_of(mv);
+    if !is_referred(models, cur, table) {
+        return Ok(Moves::new(alloc));
+    }
     let next = step(alloc, cur, mv)?;
     if keeps_keys(cur, &next, mv) {
         return Ok(Moves::new(alloc));
     }
-    let models = &ctx.models;
-    let table = table_of(mv);
     let place = mv.place();
     if place.len() > 1 {
         let change = Change {

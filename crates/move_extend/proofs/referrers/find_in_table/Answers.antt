@@ -1,10 +1,18 @@
-use Rattle.std.proofs.Common.{option_and_then, map, ap, ◌∙◌, arith}
+use Rattle.std.proofs.Common.{option_and_then, map, refl, sym, ap, ◌∙◌, arith, true≢false}
 use Rattle.conf_doc.proofs.Edits.{find_at}
 use Rattle.conf_doc.proofs.Lists.{length-map}
 use Rattle.conf_doc.specs.Pairs.{find}
-use Rattle.move_extend.specs.Mentions.{GivesOfEntry}
-use Rattle.move_extend.proofs.Finding.{loop_begins, loop_ends, loop_more}
+use Rattle.move_extend.specs.Mentions.{GivesOfEntry, GivesOfTable}
+use Rattle.move_extend.proofs.Finding.{finds_none, loop_begins, loop_ends, loop_more}
+use Rattle.move_extend.proofs.Leafrefs.{table_unreferred}
 use Rattle.move_extend.proofs.referrers.find_in_table.Goals as goal
+
+pub returns-then-not-table_refers : goal.returns-then-not-table_refers
+returns-then-not-table_refers c =
+    let t = c.args.gone.now.table.now in
+    finds_none (GivesOfTable c.args.change.now t (c.args.table.now, c.args.entries.now)) c.args.found.now c.args.found.now refl
+    (table_unreferred c.args.change.now t c.args.table.now c.args.entries.now
+    (λ may. true≢false (sym (c.table_refers.ensures may) ∙ c.if-not-table_refers.true)))
 
 pub loop-i-init : goal.loop-i-init
 loop-i-init c =
