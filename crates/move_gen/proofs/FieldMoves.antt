@@ -1,6 +1,6 @@
 -- What is given for the fields of the entries that both have is what the third generator gives.
 use Rattle.std.proofs.Common.{◌≡◌, ◌≢◌, ◌↔◌, ℕ, List, [], ◌∷◌, inl, inr, refl, sym, ap, ◌∙◌, subst, arith}
-use Rattle.std.specs.Prelude.{Some, IsSome}
+use Rattle.std.specs.Prelude.{Some, None, IsSome}
 use Rattle.conf_doc.specs.Changes.{part_at, HasPlace}
 use Rattle.conf_doc.specs.Pairs.{find}
 use Rattle.conf_doc.specs.declared.configuration.Config.{Config}
@@ -27,6 +27,24 @@ fields_apart t k old new g h s = by s.is
     by : IsSetField t k old s.name s.part g → ⊥
     by (inl is) = apart_add _ _ _ (sym gone ∙ ap (λ (x : Generated). x.mv) is.1)
     by (inr is) = apart_replace _ _ _ (sym gone ∙ ap (λ (x : Generated). x.mv) is.2.1)
+
+-- an entry that stays the same has none
+pub unchanged : (t k : List ℕ) (old new : Entry) (g : Generated) → old ≡ new → ¬ IsOfFields t k old new g
+unchanged t k old new g same is = alike old (subst (λ e. IsOfFields t k old e g) (sym same) is)
+  where
+    same_value : (u v : Value) → Some u ≡ Some v → u ≡ v
+    same_value u v e = cc
+
+    apart : (v : Value) → None ≡ Some v → ⊥
+    apart v e = cc
+
+    set_none : (e : Entry) (n : List ℕ) (v : Value) → find n e ≡ Some v → ¬ IsSetField t k e n v g
+    set_none e n v there (inl is) = apart v (sym is.0 ∙ there)
+    set_none e n v there (inr is) = is.2.0 (same_value is.0 v (sym is.1 ∙ there))
+
+    alike : (e : Entry) → ¬ IsOfFields t k e e g
+    alike e (inl h) = apart h.part (sym h.is.0 ∙ h.there)
+    alike e (inr h) = set_none e h.name h.part h.there h.is
 
 -- cur's entry is the one at goal's place
 pub of_entry : (cur : Config) (t k : List ℕ) (old new : Entry) (g : Generated) → Some (part.Entry old) ≡ part_at cur (t ∷ k ∷ []) → IsOfFields t k old new g ↔ IsChangedEntry cur t k new g

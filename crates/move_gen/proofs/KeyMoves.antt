@@ -52,6 +52,14 @@ module _ (IsAs : SaysOfEntry) (class : ℕ) (cur goal : Config) where
   pub adds_entries : (g : Generated) → (AddsEntry IsAs cur goal g × (g.class ≡ class)) ↔ IsOfSome (IsOfTable (IsAddedEntry IsAs class cur)) goal g
   adds_entries g = (λ h. adds_forth g h.0 h.1, adds_back g)
 
+-- one is given for an entry that goal lacks
+pub removed_once : (goal : Config) (t k : List ℕ) (e : Entry) (p : Place) → Lacks goal (t ∷ k ∷ []) → p ≡ t ∷ k ∷ []
+    → (g : Generated) → (g ≡ own_move (Remove p) key_class) ↔ IsRemovedEntry goal t k e g
+removed_once goal t k e p lacks at g = (λ is. (lacks, is ∙ said), λ h. h.1 ∙ sym said)
+  where
+    said : own_move (Remove p) key_class ≡ own_move (Remove (t ∷ k ∷ [])) key_class
+    said = ap (λ (q : Place). own_move (Remove q) key_class) at
+
 -- one is given for an entry that cur lacks
 pub added_once : (IsAs : SaysOfEntry) (class : ℕ) (cur : Config) (t k : List ℕ) (e new : Entry) (m : Move) (p : Place) (of : ℕ) → ((x y : Entry) → IsAs t k e x → IsAs t k e y → x ≡ y)
     → IsAs t k e new → Lacks cur (t ∷ k ∷ []) → m ≡ added_entry cur t k new → p ≡ t ∷ k ∷ [] → of ≡ class

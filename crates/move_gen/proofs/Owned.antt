@@ -1,6 +1,6 @@
 -- Moves for their own place, and what options of parts say.
-use Rattle.std.proofs.Common.{◌≡◌, ◌↔◌, IsTrue, ℕ, Bool, true, false, refl, sym, ap, ◌∙◌, subst, true≢false}
-use Rattle.std.specs.Prelude.{Option, Some, None, option_map, IsSome}
+use Rattle.std.proofs.Common.{◌≡◌, ℕ, Bool, true, false, refl, sym, ap, ◌∙◌, subst, true≢false, Bor}
+use Rattle.std.specs.Prelude.{Option, Some, None, option_copied, option_map, is_some, IsSome}
 use Rattle.conf_doc.specs.declared.parts.Part.{Part}
 use Rattle.move_core.specs.Generated.{IsForItsPlace}
 use Rattle.move_core.specs.Moves.{Place, place}
@@ -54,7 +54,12 @@ module _ {A B : Type 0} (f : A → B) where
       same_Some : {C : Type 0} (x y : C) → Some x ≡ Some y → x ≡ y
       same_Some x y e = cc
 
--- nothing is there
-pub lacking : {A : Type 0} (o : Option A) (b : Bool) → b ≡ false → IsTrue b ↔ IsSome o → o ≡ None
-lacking None b isnt says = refl
-lacking (Some a) b isnt says = absurd (true≢false (sym (says.1 refl) ∙ isnt))
+-- what is lent is there, or it isn't
+module _ {A B : Type 0} (f : A → B) where
+  pub something : (o : Option (Bor A)) (r : Bool) → r ≡ is_some o → r ≡ true → ¬ (option_map f (option_copied o) ≡ None)
+  something None r says holds none = true≢false (sym holds ∙ says)
+  something (Some a) r says holds none = cc
+
+  pub nothing : (o : Option (Bor A)) (r : Bool) → r ≡ is_some o → r ≡ false → option_map f (option_copied o) ≡ None
+  nothing None r says fails = refl
+  nothing (Some a) r says fails = absurd (true≢false (sym says ∙ fails))

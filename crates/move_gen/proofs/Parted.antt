@@ -45,6 +45,16 @@ some_in c t k (Some table) there is = let at = inside (find k table) refl is in 
 pub some_there : (c : Config) (t k : List ℕ) → HasPlace c (t ∷ k ∷ []) → (e : Entry) × IsEntryAt c t k e
 some_there c t k is = some_in c t k (find t c) refl is
 
+entry_mapped : (k : List ℕ) (o : Option Table) → option_map part.Entry (option_and_then (find k) o) ≡ option_and_then (λ table. option_map part.Entry (find k table)) o
+entry_mapped k None = refl
+entry_mapped k (Some table) = refl
+
+-- what a key finds in the table of a name stands at the place of both
+pub found_there : (c : Config) (t k : List ℕ) (table : Option Table) (e : Option Entry) → e ≡ option_and_then (find k) table → table ≡ find t c
+    → option_map part.Entry e ≡ part_at c (t ∷ k ∷ [])
+found_there c t k table e found of =
+    ap (option_map part.Entry) found ∙ ap (λ o. option_map part.Entry (option_and_then (find k) o)) of ∙ entry_mapped k (find t c)
+
 -- ---- fields
 
 -- what stands at a field of an entry

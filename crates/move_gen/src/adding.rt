@@ -8,7 +8,6 @@ ghost use Rattle.move_gen.specs.Giving.{Gives};
 
 use crate::entries::EntryMoves;
 use crate::giving::{KEY_CLASS, SEED_CLASS, give};
-use crate::places::has_entry;
 use crate::seeds::seed_of;
 use conf_doc::{Config, Entry, Part, Path, Table};
 use host_core::Memory;
@@ -55,15 +54,22 @@ pub(crate) struct AddedEntries<'a> {
 impl<'a> EntryMoves for AddedEntries<'a> {
     ghost is_given = { λ s. IsAddedEntry (IsAs s.fields) (class_of s.fields) s.cur.now };
 
+    ghost other = { λ s. s.cur.now };
+
+    fn beside(&self) -> &Config {
+        self.cur
+    }
+
     fn give(
         &self,
         alloc: Global,
         table: &str,
         key: &str,
         entry: &Entry,
+        there: Option<&Entry>,
         out: &mut Vec<Generated>,
     ) -> Result<(), Memory> {
-        if has_entry(self.cur, table, key) {
+        if there.is_some() {
             return Ok(());
         }
         let new = self.fields.choose(alloc, table, key, entry)?;

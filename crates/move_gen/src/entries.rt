@@ -3,6 +3,7 @@ ghost use Rattle.std.specs.Prelude.{◌<◌, length};
 ghost use Rattle.move_gen.specs.Given.{IsOfTable};
 ghost use Rattle.move_gen.specs.Giving.{Gives, IsOfSome};
 
+use crate::beside::{entry_beside, near_next};
 use conf_doc::{Config, Entry, Table};
 use host_core::Memory;
 use move_core::Generated;
@@ -10,22 +11,36 @@ use std::alloc::Global;
 
 /// The moves that are given for an entry.
 pub(crate) trait EntryMoves {
+    ghost use Rattle.std.specs.Prelude.{◌≡◌, [], ◌∷◌, option_copied, option_map};
+    ghost use Rattle.conf_doc.specs.Changes.{part_at};
+    ghost use Rattle.conf_doc.specs.declared.configuration.Config.{Config as Configuration};
+    ghost use Rattle.conf_doc.specs.declared.parts.Part.TheVariants as part;
     ghost use Rattle.move_gen.specs.Given.{AreForEntries, EntryGiver};
 
     /// What is given for a table, a key and the entry there.
     ghost is_given: { Self → EntryGiver };
 
-    /// Puts those moves.
+    /// The other configuration.
+    ghost other: { Self → Configuration };
+
+    /// It is looked at beside the one that is gone through.
+    fn beside(&self) -> &Config
+        ensures { result.now ≡ other self.now };
+
+    /// Puts those moves. What the other configuration has at that place is given too.
     fn give(
         &self,
         alloc: Global,
         table: &str,
         key: &str,
         entry: &Entry,
+        there: Option<&Entry>,
         out: &mut Vec<Generated>,
     ) -> Result<(), Memory>
         requires table { 0 < length table.now }
         requires key { 0 < length key.now }
+        requires there { option_map part.Entry (option_copied there)
+            ≡ part_at (other self.now) (table.now ∷ key.now ∷ []) }
         ensures { let Is = is_given self.now table.now key.now entry.now in
             Gives Is result out.old.items out.new.items };
 
@@ -45,8 +60,13 @@ fn give_in_table<M: EntryMoves>(
     ensures { let Is = IsOfTable (M.is_given moves.now) name.now table.now in
         Gives Is result out.old.items out.new.items }
 {
+    let other = moves.beside().table(name);
+    let mut near = 0;
     for i in 0..table.len() {
-        moves.give(alloc, name, table.name_at(i), table.part_at(i), out)?;
+        let key = table.name_at(i);
+        let there = entry_beside(other, key, near);
+        moves.give(alloc, name, key, table.part_at(i), there, out)?;
+        near = near_next(other, key, near);
     }
     Ok(())
 }

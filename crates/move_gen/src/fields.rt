@@ -7,7 +7,6 @@ ghost use Rattle.move_gen.specs.Giving.{Gives, IsOfSome};
 
 use crate::entries::{EntryMoves, give_entries};
 use crate::giving::{FIELD_CLASS, give_own};
-use crate::places::entry_at;
 use conf_doc::{Config, Entry, Part, Path, Value};
 use host_core::Memory;
 use move_core::{Ctx, Generated, Move, MoveGen};
@@ -54,15 +53,22 @@ struct ChangedEntries<'a> {
 impl<'a> EntryMoves for ChangedEntries<'a> {
     ghost is_given = { λ s. IsChangedEntry s.cur.now };
 
+    ghost other = { λ s. s.cur.now };
+
+    fn beside(&self) -> &Config {
+        self.cur
+    }
+
     fn give(
         &self,
         alloc: Global,
         table: &str,
         key: &str,
         entry: &Entry,
+        there: Option<&Entry>,
         out: &mut Vec<Generated>,
     ) -> Result<(), Memory> {
-        match entry_at(self.cur, table, key) {
+        match there {
             Some(old) => give_fields(alloc, table, key, old, entry, out),
             None => Ok(()),
         }
@@ -186,7 +192,7 @@ fn set_fields(
     Ok(())
 }
 
-/// Puts both for an entry.
+/// Puts both for an entry; for one that stays the same there are none.
 fn give_fields(
     alloc: Global,
     table: &str,
@@ -200,6 +206,9 @@ fn give_fields(
     ensures { let Is = IsOfFields table.now key.now old.now new.now in
         Gives Is result out.old.items out.new.items }
 {
+    if old.same(new) {
+        return Ok(());
+    }
     remove_fields(alloc, table, key, old, new, out)?;
     set_fields(alloc, table, key, old, new, out)
 }

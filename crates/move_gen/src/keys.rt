@@ -8,7 +8,6 @@ ghost use Rattle.move_gen.specs.Giving.{Gives};
 use crate::adding::{AddedEntries, Fields};
 use crate::entries::{EntryMoves, give_entries};
 use crate::giving::{KEY_CLASS, give_own};
-use crate::places::has_entry;
 use conf_doc::{Config, Entry, Path};
 use host_core::Memory;
 use move_core::{Ctx, Generated, Move, MoveGen};
@@ -55,15 +54,22 @@ struct RemovedEntries<'a> {
 impl<'a> EntryMoves for RemovedEntries<'a> {
     ghost is_given = { λ s. IsRemovedEntry s.goal.now };
 
+    ghost other = { λ s. s.goal.now };
+
+    fn beside(&self) -> &Config {
+        self.goal
+    }
+
     fn give(
         &self,
         alloc: Global,
         table: &str,
         key: &str,
         _entry: &Entry,
+        there: Option<&Entry>,
         out: &mut Vec<Generated>,
     ) -> Result<(), Memory> {
-        if has_entry(self.goal, table, key) {
+        if there.is_some() {
             return Ok(());
         }
         let path = Path::new(alloc, &[table, key])?;

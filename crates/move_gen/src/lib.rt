@@ -2,12 +2,12 @@
 #![tactic(auto)]
 
 mod adding;
+mod beside;
 mod entries;
 mod field_wants;
 mod fields;
 mod giving;
 mod keys;
-mod places;
 mod seeds;
 mod tables;
 

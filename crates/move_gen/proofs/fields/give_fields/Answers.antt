@@ -1,8 +1,13 @@
 use Rattle.move_gen.specs.Given.{IsOfFields, IsRemovedField, IsSetField}
 use Rattle.move_gen.specs.Giving.{IsOfSome}
-use Rattle.move_gen.proofs.Appended.{gives_both}
-use Rattle.move_gen.proofs.FieldMoves.{fields_apart}
+use Rattle.move_gen.proofs.Appended.{appends_none, gives_both}
+use Rattle.move_gen.proofs.FieldMoves.{fields_apart, unchanged}
 use Rattle.move_gen.proofs.fields.give_fields.Goals as goal
+
+pub returns-then-same : goal.returns-then-same
+returns-then-same c =
+    let t = c.args.table.now in let k = c.args.key.now in let old = c.args.old.now in let new = c.args.new.now in
+    appends_none (IsOfFields t k old new) c.args.out.now.items (λ g. unchanged t k old new g (c.same.ensures.0 c.if-same.true))
 
 pub returns : goal.returns
 returns c =
