@@ -1,6 +1,6 @@
 -- That each entry belongs to a shape or to none can't be refuted. So where nothing is to be shown but that something
 -- can't be, the shapes of all entries are known, and no call asks for them.
-use Rattle.std.proofs.Common.{ℕ, suc, List, [], ◌∷◌, Option, Some, None, take, arith, inl, inr}
+use Rattle.std.proofs.Common.{ℕ, suc, List, [], ◌∷◌, Option, Some, None, take, arith}
 use Rattle.std.proofs.lemmas.List.Elements.{All-cons, All-nil}
 use Rattle.conf_doc.specs.declared.configuration.Config.{Config}
 use Rattle.conf_doc.specs.declared.configuration.Table.{Table}

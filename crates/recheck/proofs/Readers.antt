@@ -1,7 +1,9 @@
 -- Verdicts on entries with a must that reads a table.
-use Rattle.std.proofs.Common.{◌≡◌, ◌≤◌, ◌+◌, ℕ, zero, suc, Bool, true, false, not, ◌||◌, List, [], ◌∷◌, None, Some, Option, option_and_then, IsTrue, slice_get, Contains, refl, sym, ap, ◌∙◌, subst, inl, inr, arith}
+use Rattle.std.proofs.Common.{◌≡◌, ◌≤◌, ◌+◌, ◌<◌, ℕ, zero, suc, Bool, true, false, not, ◌||◌, List, [], ◌∷◌, None, Some, Option, option_and_then, IsTrue, slice_get, get_or, length, Contains, refl, sym, ap, ◌∙◌, subst, inl, inr, arith}
+use Rattle.std.proofs.lemmas.Option.{slice_get-get_or}
 use Rattle.std.proofs.lemmas.Bool.{cases_lt, false≢true}
 use Rattle.std.specs.Option.{option_map_or}
+use Rattle.std.specs.Bool.{OnFalse}
 use Rattle.std.specs.List.{list_any}
 use Rattle.std.specs.Str.{bytes_eq}
 use Rattle.std.proofs.lemmas.Slice.Eq.{bytes_eq-Decides}
@@ -9,7 +11,7 @@ use Rattle.yang_model.specs.Belongs.{Belongs, Belongs-once}
 use Rattle.yang_model.specs.ModelSets.{ModelSet, TableModel, shape_of, shapes_of, table_named}
 use Rattle.yang_model.specs.declared.shapes.Shape.{Shape}
 use Rattle.conf_check.specs.Rows.{IsShapeOf}
-use Rattle.recheck.specs.Changes.{AreNoReaders, Reads, is_reader}
+use Rattle.recheck.specs.Changes.{AreNoReaders, AreUnread, HaveNoReaders, IsOfLast, Reads, is_reader}
 use Rattle.recheck.specs.declared.verdicts.Verdict.{Verdict}
 use Rattle.recheck.proofs.Pairs.{at_contained, some_same}
 use Rattle.recheck.proofs.Rows.{shape_once}
@@ -94,3 +96,63 @@ module _ (models : ModelSet) (table : List ℕ) (v : Verdict) where
       subst (λ x. Belongs (shapes_of v.table models) x None) is_k (subst (λ x. Belongs (shapes_of x models) k None) is_t nowhere) in
       let e : None ≡ Some reads.shaped.place = Belongs-once (shapes_of v.table models) v.key None (Some reads.shaped.place) none reads.shaped.belongs in
       cc
+
+-- ---- verdicts gone through
+
+module _ (models : ModelSet) (table : List ℕ) (vs : List Verdict) where
+  pub none_start : HaveNoReaders models table vs 0
+  none_start k v lt at = absurd (omega (arith, lt))
+
+  pub none_more : (i : ℕ) → HaveNoReaders models table vs i → (v : Verdict) → slice_get vs i ≡ Some v
+      → ((n : ℕ) → AreNoReaders models v.table table n) → HaveNoReaders models table vs (i + 1)
+  none_more i before v here none k w lt at =
+      elim (cases_lt k i) [
+        | inl less ↦ before k w less at
+        | inr more ↦
+            let same : k ≡ i = omega arith in
+            let there : slice_get vs i ≡ Some w = subst (λ j. slice_get vs j ≡ Some w) same at in
+            let e : v ≡ w = some_same v w (sym here ∙ there) in
+            subst (λ (x : Verdict). (n : ℕ) → AreNoReaders models x.table table n) e none
+      ]
+
+  pub none_last : (i : ℕ) → HaveNoReaders models table vs i → IsOfLast vs i → HaveNoReaders models table vs (i + 1)
+  none_last i before last =
+      let f = last.follows in
+      none_more i before last.here last.at
+      (subst (λ t. (n : ℕ) → AreNoReaders models t table n) last.same
+      (before last.k last.before (omega (arith, f)) last.at_before))
+
+  pub none_all : (i : ℕ) → length vs ≤ i → HaveNoReaders models table vs i → AreUnread models table vs
+  none_all i end none k d lt =
+      no_readers models table (get_or vs k d) (get_or vs k d).table refl
+      (none k (get_or vs k d) (omega (arith, lt, end)) (slice_get-get_or vs k d lt))
+
+equal_names : (a b : List ℕ) (e : Bool) → e ≡ bytes_eq a b → IsTrue e → a ≡ b
+equal_names a b true is t = (bytes_eq-Decides a b).0 (sym is)
+equal_names a b false is t = cc
+
+-- neighbours with one table
+pub last_by : (vs : List Verdict) (k i : ℕ) (u v : Verdict) (a b : List ℕ) (e : Bool) → suc k ≡ i → i < length vs
+    → a ≡ (get_or vs k u).table → b ≡ (get_or vs i v).table → e ≡ bytes_eq a b → IsTrue e → IsOfLast vs i
+last_by vs k i u v a b e follows within is_a is_b is holds = record {
+  k = k;
+  before = get_or vs k u;
+  here = get_or vs i v;
+  follows = follows;
+  at_before = slice_get-get_or vs k u (omega (arith, follows, within));
+  at = slice_get-get_or vs i v within;
+  same = sym is_a ∙ equal_names a b e is holds ∙ is_b;
+}
+
+-- the end of a walk over one more
+pub none_tells : (models : ModelSet) (table : List ℕ) (vs : List Verdict) (i : ℕ) (v : Verdict) (a : List ℕ) (b : Bool)
+    → HaveNoReaders models table vs i → i < length vs → a ≡ (get_or vs i v).table
+    → OnFalse b ((n : ℕ) → AreNoReaders models a table n) → OnFalse b (HaveNoReaders models table vs (i + 1))
+none_tells models table vs i v a true before within is tells = tells
+none_tells models table vs i v a false before within is tells =
+    none_more models table vs i before (get_or vs i v) (slice_get-get_or vs i v within)
+    (subst (λ t. (n : ℕ) → AreNoReaders models t table n) is tells)
+
+pub true_holds : (b : Bool) (P : Type 0) → b ≡ true → (IsTrue b → P) → P
+true_holds true P e f = f (search)
+true_holds false P e f = cc

@@ -1,5 +1,5 @@
 -- Verdicts that are found and noted on a walk.
-use Rattle.std.proofs.Common.{◌≡◌, ◌<◌, ◌==◌, ℕ, Bool, true, false, not, List, Some, length, map, is_some, IsTrue, slice_get, refl, sym, ap, ◌∙◌, subst, inl, inr, arith}
+use Rattle.std.proofs.Common.{◌≡◌, ℕ, Bool, true, false, List, Some, map, is_some, IsTrue, slice_get, refl, sym, subst, inl, inr}
 use Rattle.std.specs.Bool.{OnTrue, OnFalse}
 use Rattle.std.proofs.lemmas.Bool.{and_parts}
 use Rattle.std.proofs.lemmas.List.Elements.{All-contains}
@@ -8,16 +8,13 @@ use Rattle.conf_doc.specs.WellFormed.{IsConfig}
 use Rattle.conf_doc.specs.declared.configuration.Config.{Config}
 use Rattle.conf_doc.specs.declared.configuration.Table.{Table}
 use Rattle.yang_model.specs.ModelSets.{ModelSet}
-use Rattle.yang_model.specs.declared.shapes.MustRule.{MustRule}
-use Rattle.yang_model.specs.declared.shapes.Shape.{Shape}
-use Rattle.conf_check.specs.Rows.{IsEntryAt, IsShapeOf}
+use Rattle.conf_check.specs.Rows.{IsEntryAt}
 use Rattle.conf_check.specs.Validity.{IsValidAt}
 use Rattle.recheck.specs.Rechecks.{HasVerdict, IsNoted}
 use Rattle.recheck.specs.Verdicts.{AreSound, IsSound, entry_of}
 use Rattle.recheck.specs.declared.verdicts.Verdict.{Verdict}
 use Rattle.recheck.proofs.Lists.{all_insert, entry_found}
 use Rattle.recheck.proofs.Pairs.{holder_at, pair_at}
-use Rattle.recheck.proofs.Rows.{shape_once}
 
 -- what is answered true or false
 pub when_true : (b : Bool) (P : Type 0) → b ≡ true → OnTrue b P → P

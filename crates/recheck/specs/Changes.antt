@@ -1,5 +1,5 @@
 -- Which verdicts a change of the configuration may turn.
-use Rattle.std.specs.Prelude.{◌≡◌, ◌⊎◌, ◌<◌, ◌≤◌, ℕ, Bool, false, List, Some, length, map, slice_get}
+use Rattle.std.specs.Prelude.{◌≡◌, ◌⊎◌, ◌<◌, ◌≤◌, ℕ, suc, Bool, false, List, Some, length, map, slice_get}
 use Rattle.std.specs.List.{All, Contains, list_any}
 use Rattle.std.specs.Str.{bytes_eq}
 use Rattle.conf_doc.specs.Pairs.{find}
@@ -53,6 +53,22 @@ abbrev pub AreNoReaders : ModelSet → List ℕ → List ℕ → ℕ → Type 0
 AreNoReaders models name table n =
     (place : ℕ) (shape : Shape) → place < n → slice_get (shapes_of name models) place ≡ Some shape
     → list_any (is_reader table) shape.musts ≡ false
+
+-- no table of the verdicts before a position has one
+abbrev pub HaveNoReaders : ModelSet → List ℕ → List Verdict → ℕ → Type 0
+HaveNoReaders models table verdicts i =
+    (k : ℕ) (v : Verdict) → k < i → slice_get verdicts k ≡ Some v
+    → (n : ℕ) → AreNoReaders models v.table table n
+
+-- the verdict at a position is on an entry of the same table as the one before it
+pub record IsOfLast (verdicts : List Verdict) (i : ℕ) : Type 0 where
+  pub k : ℕ
+  pub before : Verdict
+  pub here : Verdict
+  pub follows : suc k ≡ i
+  pub at_before : slice_get verdicts k ≡ Some before
+  pub at : slice_get verdicts i ≡ Some here
+  pub same : before.table ≡ here.table
 
 -- a must of the shape of the verdict's entry reads that table
 pub record Reads (models : ModelSet) (table : List ℕ) (v : Verdict) : Type 0 where

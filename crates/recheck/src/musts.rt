@@ -1,11 +1,11 @@
 //! Which entries have a must that reads a table.
-ghost use Rattle.std.specs.Prelude.{◌≡◌, ℕ, None, IsTrue, MatchOption};
+ghost use Rattle.std.specs.Prelude.{◌≡◌, ◌<◌, ◌+◌, ℕ, length, None, IsTrue, MatchOption};
 ghost use Rattle.std.specs.Bool.{OnFalse};
 ghost use Rattle.std.specs.List.{list_any};
 ghost use Rattle.conf_check.specs.Rows.{IsShapeOf};
 ghost use Rattle.yang_model.specs.Belongs.{Belongs};
 ghost use Rattle.yang_model.specs.ModelSets.{shapes_of};
-ghost use Rattle.recheck.specs.Changes.{AreAmong, AreNoReaders, AreUnread, Reads, is_reader};
+ghost use Rattle.recheck.specs.Changes.{AreAmong, AreNoReaders, AreUnread, HaveNoReaders, IsOfLast, Reads, is_reader};
 
 use crate::verdicts::Verdict;
 use key_split::KeyView;
@@ -71,10 +71,45 @@ fn ignores(models: &Models, verdict: &Verdict, table: &str) -> bool
     }
 }
 
+/// Whether a verdict is on an entry of the same table as the one before it.
+fn is_of_last(verdicts: &[Verdict], i: usize) -> bool
+    requires { i < length verdicts.now }
+    ensures { IsTrue result → IsOfLast verdicts.now i }
+{
+    i > 0 && verdicts[i - 1].table.as_str() == verdicts[i].table.as_str()
+}
+
+/// Whether a shape of a verdict's table has a must that reads a table, where that of the one before hasn't.
+fn may_read_at(models: &Models, verdicts: &[Verdict], i: usize, table: &str) -> bool
+    requires within { i < length verdicts.now }
+    requires before { HaveNoReaders models.now table.now verdicts.now i }
+    ensures { OnFalse result (HaveNoReaders models.now table.now verdicts.now (i + 1)) }
+{
+    if is_of_last(verdicts, i) {
+        return false;
+    }
+    may_read(models, verdicts[i].table.as_str(), table)
+}
+
+/// The same of any verdict. Those of one table stand together, so its shapes are looked at once.
+fn one_may_read(models: &Models, verdicts: &[Verdict], table: &str) -> bool
+    ensures { OnFalse result (AreUnread models.now table.now verdicts.now) }
+{
+    for i in 0..verdicts.len() {
+        if may_read_at(models, verdicts, i, table) {
+            return true;
+        }
+    }
+    false
+}
+
 /// Drops the verdicts on entries with a must that reads a table.
 pub(crate) fn drop_readers(verdicts: &mut Vec<Verdict>, models: &Models, table: &str)
     ensures among { AreAmong verdicts.old.items verdicts.new.items }
     ensures dropped { AreUnread models.now table.now verdicts.new.items }
 {
+    if !one_may_read(models, verdicts.as_slice(), table) {
+        return;
+    }
     verdicts.retain(|verdict| ignores(models, verdict, table));
 }

@@ -2,6 +2,7 @@ use Rattle.std.proofs.Common.{Contains, rules, arith}
 use Rattle.std.proofs.lemmas.Fn.{All-from_retain}
 use Rattle.std.proofs.lemmas.List.Elements.{All-contains_itself}
 use Rattle.recheck.specs.Changes.{Reads}
+use Rattle.recheck.proofs.Dropped.{among_itself}
 use Rattle.recheck.proofs.Lists.{all_kept}
 use Rattle.recheck.proofs.musts.drop_readers.Goals as goal
 
@@ -13,3 +14,6 @@ returns-clause-among c =
 
 pub returns-clause-dropped : goal.returns-clause-dropped
 returns-clause-dropped c = All-from_retain _ (λ v. ¬ Reads c.args.models.now c.args.table.now v) _ (λ x b f' k. search rules) _ _ c.retain.ensures.filtered
+
+pub returns-then-not-one_may_read-clause-among : goal.returns-then-not-one_may_read-clause-among
+returns-then-not-one_may_read-clause-among c = among_itself c.args.verdicts.now.items
