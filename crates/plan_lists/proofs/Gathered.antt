@@ -1,9 +1,9 @@
 -- What four boxes give, one after another.
-use Rattle.std.proofs.Common.{◌≡◌, ◌⊎◌, inl, inr, ℕ, List, [], refl, sym, subst, All}
+use Rattle.std.proofs.Common.{◌≡◌, ◌⊎◌, inl, inr, ℕ, List, [], refl, sym, subst, arith, All}
 use Rattle.std.specs.List.{Contains}
 use Rattle.std.proofs.lemmas.List.Elements.{Contains-append_left, Contains-append_right, All-append, All-nil, All-weaker}
 use Rattle.move_core.specs.Appends.{Appends}
-use Rattle.move_core.specs.Extensions.{IsExtension}
+use Rattle.move_core.specs.Extensions.{IsExtension, IsUpper}
 use Rattle.move_core.specs.Generated.{IsGenerated}
 use Rattle.move_core.specs.Rulebook.{Rulebook}
 use Rattle.move_core.specs.Listed.{Extends, IsGeneratedMove}
@@ -45,6 +45,27 @@ module _ {A : Type 0} (P : ℕ → A → Type 0) (Q : A → Type 0) (is : (k : �
       by a (inr (inr (inl h))) = old_there 4 three four a4 a (new_there 3 two three a3 a h)
       by a (inr (inr (inr h))) = new_there 4 three four a4 a h
 
+  -- what the first box gives
+  pub first_given : (none one : List A) → none ≡ [] → Appends (P 1) none one → All Q one × ((a : A) → P 1 a → Contains one a)
+  first_given none one empty a1 = (more_each 1 none one a1 (subst (All Q) (sym empty) (All-nil Q)), λ a h. new_there 1 none one a1 a h)
+
+  -- those that the first box gives may be known already
+  pub gathered_after : (K : A → Type 0) → ((a : A) → Q a → OneOfFour P a) → (one two three four : List A) → All Q one
+      → ((a : A) → P 1 a → K a ⊎ Contains one a) → Appends (P 2) one two → Appends (P 3) two three → Appends (P 4) three four
+      → All Q four × ((a : A) → Q a → K a ⊎ Contains four a)
+  gathered_after K cases one two three four each first a2 a3 a4 =
+      (more_each 4 three four a4 (more_each 3 two three a3 (more_each 2 one two a2 each)), λ a h. by a (cases a h))
+    where
+      old : (a : A) → K a ⊎ Contains one a → K a ⊎ Contains four a
+      old a (inl k) = inl k
+      old a (inr h) = inr (old_there 4 three four a4 a (old_there 3 two three a3 a (old_there 2 one two a2 a h)))
+
+      by : (a : A) → OneOfFour P a → K a ⊎ Contains four a
+      by a (inl h) = old a (first a h)
+      by a (inr (inl h)) = inr (old_there 4 three four a4 a (old_there 3 two three a3 a (new_there 2 one two a2 a h)))
+      by a (inr (inr (inl h))) = inr (old_there 4 three four a4 a (new_there 3 two three a3 a h))
+      by a (inr (inr (inr h))) = inr (new_there 4 three four a4 a h)
+
 -- the generators
 pub four_generated : (book : Rulebook) (cur goal : Config) (g : Generated) → IsGeneratedMove book cur goal g
     → OneOfFour (λ k a. IsGenerated book cur goal k a) g
@@ -60,3 +81,10 @@ four_extended book cur goal m x (k, inl h) = inl (inl (refl, h.1))
 four_extended book cur goal m x (k, inr (inl h)) = inr (inl (inr (inl (refl, h.1))))
 four_extended book cur goal m x (k, inr (inr (inl h))) = inr (inr (inl (inr (inr (inl (refl, h.1))))))
 four_extended book cur goal m x (k, inr (inr (inr h))) = inr (inr (inr (inr (inr (inr (refl, h.1))))))
+
+-- the first extender gives the place above alone
+pub first_extended : (book : Rulebook) (cur goal : Config) (m x : Move) → IsExtension book cur goal 1 m x → IsUpper goal m x
+first_extended book cur goal m x (inl h) = h.1
+first_extended book cur goal m x (inr (inl h)) = absurd (let is = h.0 in omega (arith, is))
+first_extended book cur goal m x (inr (inr (inl h))) = absurd (let is = h.0 in omega (arith, is))
+first_extended book cur goal m x (inr (inr (inr h))) = absurd (let is = h.0 in omega (arith, is))

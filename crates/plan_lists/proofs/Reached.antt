@@ -1,14 +1,15 @@
 -- Moves that are reached by extensions.
-use Rattle.std.proofs.Common.{◌≡◌, ◌⊎◌, inl, inr, ℕ, zero, suc, ◌+◌, ◌<◌, ◌≤◌, List, [], ◌∷◌, ◌++◌, length, Some, slice_get, refl, sym, ap, subst, ◌∙◌, arith, append_assoc, append-nil, add-one, All}
+use Rattle.std.proofs.Common.{◌≡◌, ◌⊎◌, inl, inr, ℕ, zero, suc, ◌+◌, ◌<◌, ◌≤◌, List, [], ◌∷◌, ◌++◌, length, Some, slice_get, refl, sym, ap, subst, ◌∙◌, arith, append_assoc, append-nil, add-one, All, IsSomeAnd}
 use Rattle.std.specs.List.{Contains}
 use Rattle.std.proofs.lemmas.List.Elements.{Contains-append_left, Contains-push, Contains-push_cases, All-append, All-nil, All-push, All-contains, All-weaker}
 use Rattle.std.proofs.lemmas.Option.{slice_get_within, slice_get-get_or, get_or_from_slice_get}
 use Rattle.move_core.specs.Contexts.{rulebook}
+use Rattle.move_core.specs.Extensions.{IsUpper, as_in_goal, upper}
 use Rattle.move_core.specs.Listed.{IsListed}
-use Rattle.move_core.specs.Moves.{IsDefined}
+use Rattle.move_core.specs.Moves.{IsDefined, place}
 use Rattle.move_core.specs.declared.moves.Move.{Move}
 use Rattle.plan_lists.specs.Questions.{FollowsIn, LeadsIn}
-use Rattle.plan_lists.specs.Reaches.{AreNoted, AreReached, CanSpread, Depths, HasMove, HasWithin, HoldsAll, IsClosed, IsFirst, IsLedTo, IsNoted, IsSpread, most_moves}
+use Rattle.plan_lists.specs.Reaches.{AreNoted, AreReached, CanSpread, Depths, HasMove, HasWithin, HoldsAll, IsClosed, IsFirst, IsLedTo, IsNoted, IsSpread, IsSpreadBefore, SharesAbove, most_moves}
 use Rattle.plan_lists.specs.declared.asking.Question.{Question}
 use Rattle.plan_lists.proofs.Members.{no_member}
 
@@ -252,11 +253,22 @@ depth_at es i a b at_a at_b = ap (λ (e : Move × ℕ). e.1) (same a b (sym at_a
     same : (x y : Move × ℕ) → Some x ≡ Some y → x ≡ y
     same x y e = cc
 
+-- what the place above becomes is known where the move before shares it
+pub above_known : (q : Question) (beside es : Depths) (i : ℕ) (mv : Move) (depth : ℕ) → slice_get es i ≡ Some (mv, depth)
+    → IsSpreadBefore q beside es i → SharesAbove es i → (m : Move) → IsUpper q.goal.now mv m → HasMove beside m ⊎ HasMove es m
+above_known q beside es i mv depth at before shares m is =
+    before shares.k shares.before shares.follows shares.at_before m
+    (1, inl (refl, subst (λ p. IsSomeAnd p (λ p. m ≡ as_in_goal q.goal.now p)) (sym (shares.same ∙ ap (λ (e : Move × ℕ). upper (place e.0)) (same shares.at at))) is))
+  where
+    same : slice_get es i ≡ Some shares.here → slice_get es i ≡ Some (mv, depth) → shares.here ≡ (mv, depth)
+    same a b = cc
+
 -- the extensions of a move are noted
-pub spread_noted : (q : Question) (beside old new : Depths) (i : ℕ) (mv : Move) (depth : ℕ) (ms : List Move)
-    → slice_get old i ≡ Some (mv, depth) → All (FollowsIn q mv) ms → ((m : Move) → FollowsIn q mv m → Contains ms m)
-    → AreNoted beside old new ms (depth + 1) → IsSpread q beside old new i
-spread_noted q beside old new i mv depth ms at each all are = record {
+pub spread_noted : (q : Question) (beside old new : Depths) (i : ℕ) (mv : Move) (depth : ℕ) (ms : List Move) (K : Move → Type 0)
+    → slice_get old i ≡ Some (mv, depth) → All (FollowsIn q mv) ms → ((m : Move) → FollowsIn q mv m → K m ⊎ Contains ms m)
+    → ((m : Move) → K m → HasMove beside m ⊎ HasMove old m) → AreNoted beside old new ms (depth + 1)
+    → IsSpread q beside old new i
+spread_noted q beside old new i mv depth ms K at each all known are = record {
   mv = mv;
   depth = depth;
   at = at;
@@ -264,8 +276,16 @@ spread_noted q beside old new i mv depth ms at each all are = record {
   follows = are.follows;
   each = All-weaker (λ (e : Move × ℕ). Contains ms e.0 × (e.1 ≡ depth + 1)) (λ (e : Move × ℕ). FollowsIn q mv e.0 × (e.1 ≡ depth + 1))
       (λ e h. (All-contains (FollowsIn q mv) ms e.0 each h.0, h.1)) are.more are.each;
-  all = λ m h. are.all m (all m h);
+  all = λ m h. by m (all m h);
 }
+  where
+    old_now : (m : Move) → HasMove beside m ⊎ HasMove old m → HasMove beside m ⊎ HasMove new m
+    old_now m (inl b) = inl b
+    old_now m (inr h) = inr (subst (λ l. HasMove l m) (sym are.follows) (has_left old are.more m h))
+
+    by : (m : Move) → K m ⊎ Contains ms m → HasMove beside m ⊎ HasMove new m
+    by m (inl k) = old_now m (known m k)
+    by m (inr h) = are.all m h
 
 -- ---- the extenders asked
 
@@ -295,3 +315,12 @@ can_spread q beside first es i are lt small firsts defined =
       shallow = are.shallow i here.0 here.1;
       small = omega (arith, lt, small);
     }
+
+-- the extensions of the one before it are known
+pub spread_before : (q : Question) (beside : Depths) (first : List Move) (es : Depths) (i : ℕ) → AreReached q beside first es i
+    → IsSpreadBefore q beside es i
+spread_before q beside first es i are k e follows at x extends = by (are.spread k e (omega (arith, follows)) at x extends)
+  where
+    by : HasMove beside x ⊎ HasWithin es (e.1 + 1) x → HasMove beside x ⊎ HasMove es x
+    by (inl b) = inl b
+    by (inr w) = inr (w.0, w.2)

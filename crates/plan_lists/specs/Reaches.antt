@@ -1,7 +1,8 @@
 -- How moves are reached from others by extensions.
-use Rattle.std.specs.Prelude.{◌≡◌, ◌⊎◌, ℕ, ◌+◌, ◌<◌, ◌≤◌, List, [], ◌∷◌, ◌++◌, Some, slice_get, All}
+use Rattle.std.specs.Prelude.{◌≡◌, ◌⊎◌, ℕ, suc, ◌+◌, ◌<◌, ◌≤◌, List, [], ◌∷◌, ◌++◌, Some, slice_get, All}
 use Rattle.std.specs.List.{Contains}
-use Rattle.move_core.specs.Moves.{IsDefined}
+use Rattle.move_core.specs.Extensions.{upper}
+use Rattle.move_core.specs.Moves.{IsDefined, place}
 use Rattle.move_core.specs.declared.moves.Generated.{Generated}
 use Rattle.move_core.specs.declared.moves.Move.{Move}
 use Rattle.plan_lists.specs.Questions.{FollowsIn, IsOffered, LeadsIn}
@@ -45,6 +46,22 @@ pub record IsSpread (q : Question) (beside old new : Depths) (i : ℕ) : Type 0 
   pub follows : new ≡ old ++ more
   pub each : All (λ e. FollowsIn q mv e.0 × (e.1 ≡ depth + 1)) more
   pub all : (m : Move) → FollowsIn q mv m → HasMove beside m ⊎ HasMove new m
+
+-- the extensions of the move before an index are known
+abbrev pub IsSpreadBefore : Question → Depths → Depths → ℕ → Type 0
+IsSpreadBefore q beside es i =
+    (k : ℕ) (e : Move × ℕ) → suc k ≡ i → slice_get es k ≡ Some e
+    → (x : Move) → FollowsIn q e.0 x → HasMove beside x ⊎ HasMove es x
+
+-- the moves at an index and before it have the same place above
+pub record SharesAbove (es : Depths) (i : ℕ) : Type 0 where
+  pub k : ℕ
+  pub before : Move × ℕ
+  pub here : Move × ℕ
+  pub follows : suc k ≡ i
+  pub at_before : slice_get es k ≡ Some before
+  pub at : slice_get es i ≡ Some here
+  pub same : upper (place before.0) ≡ upper (place here.0)
 
 -- the extenders can be asked about the move at an index
 pub record CanSpread (q : Question) (es : Depths) (i : ℕ) : Type 0 where

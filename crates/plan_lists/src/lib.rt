@@ -6,6 +6,7 @@ mod asking;
 mod laws;
 mod listing;
 mod move_keys;
+mod places_above;
 mod ranking;
 mod reaches;
 

@@ -1,10 +1,11 @@
 //! Moves with the number of extensions by which each was reached first.
-ghost use Rattle.std.specs.Prelude.{◌≡◌, ◌<◌, ◌^◌, [], length, map, slice_get, Some, OnOk, IfOk, All};
+ghost use Rattle.std.specs.Prelude.{◌≡◌, ◌<◌, ◌^◌, [], length, map, slice_get, Some, OnOk, IfOk, IsTrue, All};
 ghost use Rattle.plan_lists.specs.Questions.{CanAsk};
-ghost use Rattle.plan_lists.specs.Reaches.{AreNoted, CanSpread, HoldsAll, IsClosed, IsFirst, IsLedTo, IsNoted, IsSpread};
+ghost use Rattle.plan_lists.specs.Reaches.{AreNoted, CanSpread, HoldsAll, IsClosed, IsFirst, IsLedTo, IsNoted, IsSpread, IsSpreadBefore, SharesAbove};
 
 use crate::asking::{Question, extended_moves};
 use crate::move_keys::MoveKey;
+use crate::places_above::is_same_above;
 use host_core::Memory;
 use indexmap::IndexMap;
 use move_core::{Boxes, Kit, Move, listed_moves_are_defined};
@@ -94,7 +95,21 @@ impl Reach {
         Ok(())
     }
 
-    /// Adds the extensions of the move at an index.
+    /// Whether the place above that of the move at an index is the one above that of the move before it too.
+    fn shares_above(&self, i: usize) -> bool
+        requires { i < length self.now }
+        ensures { IsTrue result → SharesAbove self.now i }
+    {
+        if i == 0 {
+            return false;
+        }
+        let (before, _) = self.at(i - 1);
+        let (mv, _) = self.at(i);
+        is_same_above(before.place(), mv.place())
+    }
+
+    /// Adds the extensions of the move at an index. Those of the move before it are known, so what the place
+    /// above becomes isn't made again where both share it.
     fn spread(
         &mut self,
         alloc: Global,
@@ -106,12 +121,14 @@ impl Reach {
         requires kinds { ⟦<Kit as Boxes>⟧.HasKinds kit.old }
         requires asked { CanAsk question.now }
         requires ready { CanSpread question.now self.old i }
+        requires before { IsSpreadBefore question.now beside.now self.old i }
         ensures kinds { ⟦<Kit as Boxes>⟧.HasKinds kit.new }
         ensures rules { kit.new.rules ≡ kit.old.rules }
         ensures spread { OnOk result (IsSpread question.now beside.now self.old self.new i) }
     {
+        let is_above_known = self.shares_above(i);
         let (mv, depth) = self.at(i);
-        let moves = extended_moves(alloc, question, kit, mv)?;
+        let moves = extended_moves(alloc, question, kit, mv, is_above_known)?;
         self.note_all(beside, moves, depth + 1)
     }
 }

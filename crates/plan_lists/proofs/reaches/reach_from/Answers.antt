@@ -1,6 +1,6 @@
 use Rattle.std.proofs.Common.{refl, subst, ◌∙◌, arith}
 use Rattle.plan_lists.specs.Reaches.{AreNoted}
-use Rattle.plan_lists.proofs.Reached.{can_spread, reached_all, reached_begun, reached_more}
+use Rattle.plan_lists.proofs.Reached.{can_spread, reached_all, reached_begun, reached_more, spread_before}
 use Rattle.plan_lists.proofs.reaches.reach_from.Goals as goal
 
 pub loop-i-init : goal.loop-i-init
@@ -22,6 +22,10 @@ spread-requires-clause-ready g c =
     can_spread q c.args.beside.now c.args.first.items c.loop-i.reached c.loop-i.i c.loop-i.invariant.reached
     (omega (arith, len, lt)) (omega (arith, len, small)) c.requires.first
     (λ m is. c.listed_moves_are_defined.ensures.listed q.ctx.now q.cur.now q.goal.now m c.len-tables.ensures.formed is)
+
+pub spread-requires-clause-before : goal.spread-requires-clause-before
+spread-requires-clause-before g c =
+    spread_before c.args.question.now c.args.beside.now c.args.first.items c.loop-i.reached c.loop-i.i c.loop-i.invariant.reached
 
 pub loop-i-preserved : goal.loop-i-preserved
 loop-i-preserved g c =

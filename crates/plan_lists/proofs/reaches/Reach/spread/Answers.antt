@@ -1,5 +1,7 @@
-use Rattle.std.proofs.Common.{OnOk, Result, Ok, Err, arith}
-use Rattle.plan_lists.proofs.Reached.{depth_at, spread_noted}
+use Rattle.std.proofs.Common.{OnOk, Result, Ok, Err, IsTrue, arith}
+use Rattle.std.proofs.lemmas.Option.{slice_get_within}
+use Rattle.move_core.specs.Extensions.{IsUpper}
+use Rattle.plan_lists.proofs.Reached.{above_known, depth_at, spread_noted}
 use Rattle.plan_lists.proofs.reaches.Reach.spread.Goals as goal
 
 on_ok : {T E P Q : Type 0} (r : Result T E) → (P → Q) → OnOk r P → OnOk r Q
@@ -15,7 +17,14 @@ overflow_add-depth g c =
 
 pub returns-clause-spread : goal.returns-clause-spread
 returns-clause-spread g c =
+    let q = c.args.question.now in
     on_ok c.note_all.result
-    (spread_noted c.args.question.now c.args.beside.now c.args.self.now c.note_all.new.self c.args.i c.at-depth.result.0.now c.at-depth.result.1
-    c.in_ok-moves.moves.items c.at-depth.ensures c.in_ok-moves.ensures.each c.in_ok-moves.ensures.all)
+    (spread_noted q c.args.beside.now c.args.self.now c.note_all.new.self c.args.i c.at-depth.result.0.now c.at-depth.result.1
+    c.in_ok-moves.moves.items (λ m. IsTrue c.shares_above-is_above_known.result × IsUpper q.goal.now c.at-depth.result.0.now m)
+    c.at-depth.ensures c.in_ok-moves.ensures.each c.in_ok-moves.ensures.all
+    (λ m k. above_known q c.args.beside.now c.args.self.now c.args.i c.at-depth.result.0.now c.at-depth.result.1 c.at-depth.ensures
+    c.requires.before (c.shares_above-is_above_known.ensures k.0) m k.1))
     c.note_all.ensures
+
+pub shares_above-is_above_known-requires : goal.shares_above-is_above_known-requires
+shares_above-is_above_known-requires g c = slice_get_within c.args.self.now c.args.i _ c.requires.ready.at
