@@ -126,11 +126,18 @@ pub fn faults_at(alloc: Global, row: &Value) -> Result<Faults, Fail> {
     let mut at = Sequence::new(alloc);
     if row.get("fails").is_some() {
         for number in items_at(row, "fails")? {
-            at.push(number.as_u64().ok_or(Fail::Row)?)?;
+            push_number(&mut at, number)?;
         }
     }
     let from = row.get("fails_from").and_then(Value::as_u64);
     Ok(Faults { at, from })
+}
+
+fn push_number(numbers: &mut Sequence<u64>, number: &Value) -> Result<(), Fail> {
+    match number.as_u64() {
+        Some(number) => Ok(numbers.push(number)?),
+        None => Err(Fail::Row),
+    }
 }
 
 /// Whether the stored configuration is that from before.

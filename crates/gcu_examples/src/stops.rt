@@ -39,10 +39,8 @@ impl<'a> Table for Stops<'a> {
 impl<'a> Stops<'a> {
     /// The host after the command, of whose calls none is done from that one on.
     fn stopped_at(&self, alloc: Global, row: &Value, from: Option<u64>) -> Result<MemHost, Fail> {
-        let faults = Faults {
-            at: Sequence::new(alloc),
-            from,
-        };
+        let at = Sequence::new(alloc);
+        let faults = Faults { at, from };
         let mut host = host_with(alloc, self.inputs, row, faults)?;
         let words = words_at(alloc, row)?;
         let _outcome = obey(alloc, words.items(), &mut host)?;
@@ -75,10 +73,15 @@ fn is_safe(alloc: Global, row: &Value, host: MemHost, way: u64) -> Result<bool, 
 fn pick(alloc: Global, way: u64) -> Result<Pick, Fail> {
     match way {
         0 => Ok(Pick::Gone),
-        1 => Ok(Pick::Bytes(Sequence::from_vec(b"half".to_vec(alloc)?))),
+        1 => half_pick(alloc),
         2 => Ok(Pick::Before),
         _ => Ok(Pick::After),
     }
+}
+
+fn half_pick(alloc: Global) -> Result<Pick, Fail> {
+    let half = b"half".to_vec(alloc)?;
+    Ok(Pick::Bytes(Sequence::from_vec(half)))
 }
 
 /// What the command prints where it is not stopped.

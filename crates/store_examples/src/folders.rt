@@ -24,10 +24,8 @@ impl Table for Folders {
 
 /// The host of a row, of which no call fails.
 fn calm_host(alloc: Global, row: &Value) -> Result<MemHost, Fail> {
-    let faults = Faults {
-        at: Sequence::new(alloc),
-        from: None,
-    };
+    let at = Sequence::new(alloc);
+    let faults = Faults { at, from: None };
     host_at(alloc, row, faults)
 }
 
