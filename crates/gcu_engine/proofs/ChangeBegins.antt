@@ -2,29 +2,14 @@
 use Rattle.std.proofs.Common.{◌≡◌, inl, inr, ℕ, List, [], append-nil, refl, sym, ap, ◌∙◌, subst, Option, Some, None, IfSome, option_map}
 use Rattle.host_core.specs.Counts.{Counts, NoneFell}
 use Rattle.host_core.specs.Crashes.{Elapses, Left, LeavesOnly, MayLeave, MayLeaveInPrint, MayLeaveNow}
-use Rattle.host_core.specs.State.{PrintsPart, State, printed}
+use Rattle.host_core.specs.State.{State, printed}
 use Rattle.host_core.proofs.Runs as runs
-use Rattle.conf_store.specs.Changes.{IsSettled}
-use Rattle.conf_store.specs.Folds.{StandsFor}
-use Rattle.conf_store.specs.declared.loaded.Stored.{Stored}
 use Rattle.move_core.specs.Operations.{plan_text}
 use Rattle.change_apply.specs.Change.{Change}
+use Rattle.gcu_lines.specs.declared.outcomes.Outcome.{Outcome}
 use Rattle.gcu_engine.specs.Changing.{LeftChanged}
 use Rattle.gcu_engine.specs.Doing.{EndsChange, EndsWork, LeftDoing}
-use Rattle.gcu_engine.specs.declared.outcomes.Outcome.{Outcome}
-use Rattle.gcu_engine.specs.declared.outcomes.Outcome.TheVariants.{PrintFault}
 use Rattle.gcu_engine.proofs.Changes.{work_since}
-
--- nothing is pending once it is printed
-pub printed_settled : (o told : Option State) (text : List ℕ) → told ≡ option_map (printed text) o → IfSome o IsSettled → IfSome told IsSettled
-printed_settled None told text is h = subst (λ t. IfSome t IsSettled) (sym is) tt
-printed_settled (Some s) told text is h = subst (λ t. IfSome t IsSettled) (sym is) h
-
--- and the folder stands for the same
-pub printed_stands : (o told : Option State) (text : List ℕ) (what : Stored) → told ≡ option_map (printed text) o → IfSome o (λ s. StandsFor what s.files)
-    → IfSome told (λ s. StandsFor what s.files)
-printed_stands None told text what is h = subst (λ t. IfSome t (λ s. StandsFor what s.files)) (sym is) tt
-printed_stands (Some s) told text what is h = subst (λ t. IfSome t (λ s. StandsFor what s.files)) (sym is) h
 
 -- all of it is printed
 pub plan_printed : (c : Change) (o told after : Option State) (text : List ℕ) (old mid new : Counts) (result : Outcome) → text ≡ plan_text c.moves
@@ -32,11 +17,6 @@ pub plan_printed : (c : Change) (o told after : Option State) (text : List ℕ) 
 plan_printed c o told after text old mid new result same is fell h =
     inr (work_since c (option_map (printed (plan_text c.moves)) o) after old mid new result fell
     (subst (λ t. EndsWork c t after mid new result) (is ∙ ap (λ (t : List ℕ). option_map (printed t) o) same) h))
-
--- a front of it is printed
-pub plan_cut : (c : Change) (o after : Option State) (text : List ℕ) (old new : Counts) → text ≡ plan_text c.moves → PrintsPart text o after
-    → EndsChange c o after old new (PrintFault 0)
-plan_cut c o after text old new same h = inl (refl, subst (λ (t : List ℕ). PrintsPart t o after) same h)
 
 module _ {H : Type 0} (moment : H → ℕ) (left_since : H → ℕ → Left → Type 0) where
   -- while it is printed

@@ -1,26 +1,25 @@
 -- How a change ends whose plan is printed: its last line, and what a crash leaves until it is printed.
 use Rattle.std.proofs.Common.{◌≡◌, ◌≤◌, ◌<◌, inl, inr, ℕ, suc, List, [], ◌++◌, length, refl, sym, ap, ◌∙◌, subst, arith, Option, Some, None, IfSome, option_map}
 use Rattle.std.specs.Prelude.{unwrap_or}
-use Rattle.host_core.specs.Counts.{Counts, NoneFell, PrintMayRise, Rose}
+use Rattle.host_core.specs.Counts.{Counts, PrintMayRise, Rose}
 use Rattle.host_core.specs.Crashes.{Elapses, Left, LeavesOnly, MayLeave, MayLeaveInPrint, MayLeaveNow}
 use Rattle.host_core.specs.State.{State, printed}
 use Rattle.host_core.proofs.Runs as runs
 use Rattle.change_apply.specs.Acknowledgements.{acks}
 use Rattle.change_apply.specs.Change.{Change}
 use Rattle.change_apply.specs.Crashes.{IsLeft}
-use Rattle.change_apply.specs.Ends.{Finishes, MayRise, Stops}
+use Rattle.change_apply.specs.Ends.{Finishes, Stops}
 use Rattle.change_apply.specs.declared.errors.ApplyFault.TheVariants.{Disk, Print, Service}
+use Rattle.gcu_lines.specs.Lines.{last_line, service_line}
+use Rattle.gcu_lines.specs.declared.outcomes.Outcome.{Outcome}
+use Rattle.gcu_lines.specs.declared.outcomes.Outcome.TheVariants.{Done, DiskFault, PrintFault, ServiceFault}
+use Rattle.gcu_engine.specs.FaultLines.{found, line_at, service_lines_at}
 use Rattle.gcu_engine.specs.Answers.{HasCause}
 use Rattle.gcu_engine.specs.Changing.{IsLastLine, LeftChanged}
 use Rattle.gcu_engine.specs.Doing.{EndsWork, HasBytes, IsEnded, IsLast, acknowledged}
-use Rattle.gcu_engine.specs.FaultLines.{found, line_at, service_lines_at}
-use Rattle.gcu_engine.specs.Lines.{last_line, service_line}
 use Rattle.gcu_engine.specs.declared.change.ReadyChange.{ReadyChange}
-use Rattle.gcu_engine.specs.declared.outcomes.Outcome.{Outcome}
-use Rattle.gcu_engine.specs.declared.outcomes.Outcome.TheVariants.{Done, DiskFault, PrintFault, ServiceFault}
-use Rattle.gcu_engine.proofs.Causes.{rose_from}
-use Rattle.gcu_engine.proofs.Changes.{last_output}
 use Rattle.gcu_engine.proofs.FaultTexts.{disk_there, service_there}
+use Rattle.gcu_engine.proofs.Changes.{last_output}
 
 -- what is there before the last line, of a host that may not tell its state
 abbrev pub IsLastIn : Change → Option State → Option State → Outcome → List ℕ → Type 0
@@ -100,31 +99,6 @@ disk_printed old mid new rises h = subst (λ (n : ℕ). Rose old.disk n) (sym (a
 pub service_printed : (old mid new : Counts) → PrintMayRise mid new → Rose old.service mid.service → Rose old.service new.service
 service_printed old mid new rises h = subst (λ (n : ℕ). Rose old.service n) (sym (ap (λ (c : Counts). c.service) rises.2)) h
 
--- what is then answered has its cause
-pub ended_cause : (old mid new : Counts) (answer result : Outcome) (text : List ℕ) (step : ℕ) (before after : Option State) → MayRise old mid → HasCause old new answer
-    → IsEnded answer text step before after mid new result → HasCause old new result
-ended_cause old mid new answer result text step before after may cause (inl whole) = subst (HasCause old new) (sym whole.0) cause
-ended_cause old mid new answer result text step before after may cause (inr part) =
-    subst (HasCause old new) (sym part.0) (rose_from old.print mid.print new.print may.print part.2)
-
--- no count falls
-pub work_fell : (old mid new : Counts) → MayRise old mid → PrintMayRise mid new → NoneFell old new
-work_fell old mid new may rises =
-    let input : new.input ≡ mid.input = ap (λ (c : Counts). c.input) rises.2 in
-    let disk : new.disk ≡ mid.disk = ap (λ (c : Counts). c.disk) rises.2 in
-    let print : new.print ≡ rises.0 = ap (λ (c : Counts). c.print) rises.2 in
-    let service : new.service ≡ mid.service = ap (λ (c : Counts). c.service) rises.2 in
-    record {
-      input = omega (arith, input, may.input);
-      disk = omega (arith, disk, may.disk);
-      print = omega (arith, print, rises.1, may.print);
-      service = omega (arith, service, may.service);
-    }
-
-pub run_fell : (old new : Counts) → MayRise old new → NoneFell old new
-run_fell old new may =
-    record { input = omega (arith, may.input); disk = may.disk; print = may.print; service = may.service }
-
 -- ---- what a crash leaves
 
 -- the last line of an answer
@@ -166,9 +140,3 @@ module _ {H : Type 0} (moment : H → ℕ) (left_since : H → ℕ → Left → 
       ends_in c began last.0 answer text old mid new last.2
       (λ left later may. here left later (subst (λ t. MayLeaveNow t left) (sym last.1) may)) so_far
       (subst (λ t. Elapses moment left_since mid new (MayLeaveInPrint text t)) last.1 time)
-
-  -- without a last line
-  pub steps_left : (c : Change) (o : Option State) (old mid : H) → IfSome o (λ s. LeavesOnly moment left_since old mid (IsLeft c s))
-      → IfSome o (λ s. LeavesOnly moment left_since old mid (LeftChanged c s))
-  steps_left c None old mid h = tt
-  steps_left c (Some s) old mid h = runs.weaker moment left_since old mid (IsLeft c s) (LeftChanged c s) (λ left is. inl is) h

@@ -14,28 +14,29 @@ use Rattle.change_apply.specs.Acknowledgements.{acks}
 use Rattle.change_apply.specs.Change.{Change, name_at, restarts_at}
 use Rattle.change_apply.specs.Ends.{IsStopped, IsStoppedInRestarts}
 use Rattle.change_apply.specs.declared.ready.Restart.{Restart}
+use Rattle.plan_options.specs.Targets.{Target, patched, replaced, rolled_back}
+use Rattle.gcu_lines.specs.Lines.{last_line, service_line}
+use Rattle.gcu_lines.specs.declared.outcomes.Outcome.{Outcome}
+use Rattle.gcu_lines.specs.declared.outcomes.Outcome.TheVariants.{Done, Memory, Usage, InputFault, DiskFault, PrintFault, ServiceFault, Unorderable, Budget, TargetInvalid}
+use Rattle.gcu_asking.specs.Asking.{Asking, a_file, follows, follows_by, ◌>>>◌}
+use Rattle.gcu_asking.specs.ChangeAsked.{settled_asked}
+use Rattle.gcu_asking.specs.PlanAsked.{HasKeys, IsElsewhereAs, IsValidOr, made_asked, planning_asked, start_asked}
+use Rattle.gcu_asking.specs.ReadPlannings.{planning_of}
+use Rattle.gcu_asking.specs.Preparing.{FailsIn, Refuses, StandsIn, refusal}
+use Rattle.gcu_asking.specs.Request.{Planning, Request, change}
+use Rattle.gcu_asking.specs.RulesAsked.{settings_asked}
+use Rattle.gcu_asking.specs.declared.planning.Planning as code
+use Rattle.gcu_engine.specs.FaultLines.{AreNamed}
 use Rattle.gcu_engine.specs.Answers.{HasCause, Leaves, Prints, Says}
-use Rattle.gcu_engine.specs.Asking.{Asking, a_file, follows, follows_by, ◌>>>◌}
-use Rattle.gcu_engine.specs.ChangeAsked.{settled_asked}
 use Rattle.gcu_engine.specs.Changing.{AreAcknowledged, IsChangeFor, LeftChanged, LeftOfChange, begun}
 use Rattle.gcu_engine.specs.Commands.{AnswersTo}
 use Rattle.gcu_engine.specs.Doing.{EndsChange, EndsWork, IsCutInLast, IsCutInStep, IsLast, IsMissed, IsReadyIn, IsTold, LeftDoing, LeftToChange, acknowledged, change_by}
-use Rattle.gcu_engine.specs.FaultLines.{AreNamed}
-use Rattle.gcu_engine.specs.Lines.{last_line, service_line}
-use Rattle.gcu_engine.specs.PlanAsked.{HasKeys, IsElsewhereAs, IsValidOr, made_asked, planning_asked, start_asked}
-use Rattle.gcu_engine.specs.PlanCommands.{IsSolved, RefusesOrEnds, planning_of}
+use Rattle.gcu_engine.specs.PlanCommands.{IsSolved, RefusesOrEnds}
 use Rattle.gcu_engine.specs.Plannings.{IsPlanFor}
-use Rattle.gcu_engine.specs.Preparing.{FailsIn, Refuses, StandsIn, refusal}
-use Rattle.gcu_engine.specs.Request.{Planning, Request, change}
-use Rattle.gcu_engine.specs.RulesAsked.{settings_asked}
 use Rattle.gcu_engine.specs.declared.change.ReadyChange.{ReadyChange}
-use Rattle.gcu_engine.specs.declared.outcomes.Outcome.{Outcome}
-use Rattle.gcu_engine.specs.declared.outcomes.Outcome.TheVariants.{Done, Memory, Usage, InputFault, DiskFault, PrintFault, ServiceFault, Unorderable, Budget, TargetInvalid}
-use Rattle.gcu_engine.specs.declared.planning.Planning as code
-use Rattle.plan_options.specs.Targets.{Target, patched, replaced, rolled_back}
+use Rattle.gcu_engine.proofs.FaultTexts.{all_named}
 use Rattle.gcu_engine.proofs.Answering.{says_prints}
 use Rattle.gcu_engine.proofs.Causes.{rose_from}
-use Rattle.gcu_engine.proofs.FaultTexts.{all_named}
 use Rattle.gcu_engine.proofs.Savings.{models_settled}
 use Rattle.gcu_engine.proofs.Writing.{as_is}
 

@@ -2,16 +2,16 @@
 use Rattle.std.proofs.Common.{◌≡◌, inl, inr, ℕ, List, refl, subst, Option, Some, None, IfSome}
 use Rattle.host_core.specs.Counts.{Counts, NoneRose}
 use Rattle.host_core.specs.State.{State}
+use Rattle.gcu_lines.specs.declared.outcomes.Outcome.{Outcome}
+use Rattle.gcu_lines.specs.declared.outcomes.Outcome.TheVariants.{Done, Memory, InputFault, DiskFault, PrintFault, ServiceFault, Unorderable, Budget}
+use Rattle.gcu_asking.specs.Asked.{asked, form_asked}
+use Rattle.gcu_asking.specs.Asking.{Asking}
+use Rattle.gcu_asking.specs.Form.{Form, form}
+use Rattle.gcu_asking.specs.Request as request
+use Rattle.gcu_asking.specs.Request.{Request}
 use Rattle.gcu_engine.specs.Answers.{Complete, Finishes, HasCause, Prints, Says}
-use Rattle.gcu_engine.specs.Asked.{asked, form_asked}
-use Rattle.gcu_engine.specs.Asking.{Asking}
 use Rattle.gcu_engine.specs.Commands.{AnswersTo, CompleteTo}
-use Rattle.gcu_engine.specs.Form.{Form, form}
 use Rattle.gcu_engine.specs.Plannings.{IsUnsolved}
-use Rattle.gcu_engine.specs.Request as request
-use Rattle.gcu_engine.specs.Request.{Request}
-use Rattle.gcu_engine.specs.declared.outcomes.Outcome.{Outcome}
-use Rattle.gcu_engine.specs.declared.outcomes.Outcome.TheVariants.{Done, Memory, InputFault, DiskFault, PrintFault, ServiceFault, Unorderable, Budget}
 
 -- what is done is finished
 finishes : (r : Request) → Finishes r Done

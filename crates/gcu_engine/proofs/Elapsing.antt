@@ -1,18 +1,20 @@
--- How time goes on through one call of a host after another, and what a crash leaves meanwhile.
-use Rattle.std.proofs.Common.{◌≡◌, ◌≤◌, inl, inr, ⊎_elim, ℕ, List, [], ◌++◌, ap, append_assoc, Option, Some, None, sym, ◌∙◌, subst, append-nil, arith}
-use Rattle.host_core.specs.Crashes.{Elapses, LeavesOnly, Left, MayLeave, MayLeaveInPrint, MayLeaveNow}
+-- What a crash leaves at the moments of a command.
+use Rattle.std.proofs.Common.{◌≡◌, ◌≤◌, inl, inr, ℕ, List, [], ◌++◌, ap, append_assoc, Option, Some, None, sym, ◌∙◌, subst, append-nil}
+use Rattle.host_core.specs.Crashes.{Elapses, LeavesOnly, Left, MayLeave, MayLeaveNow}
 use Rattle.host_core.specs.State.{State, printed}
 use Rattle.host_core.proofs.Runs.{begins, goes_on, weaker}
-use Rattle.gcu_engine.specs.Answers.{LeftByForm, LeftDoing, LeftMeanwhile, LeftOf, LeftWithOutput}
-use Rattle.gcu_engine.specs.Asked.{form_asked}
-use Rattle.gcu_engine.specs.Asking.{Asking}
-use Rattle.gcu_engine.specs.ChangeAsked.{change_asked}
+use Rattle.plan_options.specs.Targets.{Target}
+use Rattle.gcu_lines.specs.Printing.{LeftWithOutput}
+use Rattle.gcu_asking.specs.Asked.{form_asked}
+use Rattle.gcu_asking.specs.Asking.{Asking}
+use Rattle.gcu_asking.specs.ChangeAsked.{change_asked}
+use Rattle.gcu_asking.specs.Form.{Form, change, form}
+use Rattle.gcu_asking.specs.Request as request
+use Rattle.gcu_asking.specs.Request.{Request}
+use Rattle.gcu_engine.specs.Answers.{LeftByForm, LeftDoing, LeftMeanwhile, LeftOf}
 use Rattle.gcu_engine.specs.Commands.{LeftTo, TellsOn}
 use Rattle.gcu_engine.specs.Doing.{LeftToChange}
-use Rattle.gcu_engine.specs.Form.{Form, change, form}
-use Rattle.plan_options.specs.Targets.{Target}
-use Rattle.gcu_engine.specs.Request as request
-use Rattle.gcu_engine.specs.Request.{Request}
+use Rattle.gcu_lines.proofs.Elapsing.{elapses_both, elapses_weaker}
 
 -- with no output yet
 pub now_with_output : (before : Option State) (left : Left) → MayLeaveNow before left → LeftWithOutput before left
@@ -60,39 +62,6 @@ left_by P words f None left is gives h = tt
 left_by P words f (Some s) left is gives h = subst (λ g. LeftByForm g s left) is (gives s h)
 
 module _ {H : Type 0} (moment : H → ℕ) (left_since : H → ℕ → Left → Type 0) where
-  -- what may be left of these may be left of those
-  pub elapses_weaker : (old new : H) (P Q : Left → Type 0) → ((left : Left) → P left → Q left) → Elapses moment left_since old new P
-      → Elapses moment left_since old new Q
-  elapses_weaker old new P Q more h = record {
-    later = h.later;
-    nothing_else = λ t left le since. ⊎_elim (λ b. inl b) (λ p. inr (more left p)) (h.nothing_else t left le since);
-    keeps = h.keeps;
-  }
-
-  -- the same through two calls
-  pub elapses_both : (old mid new : H) (P : Left → Type 0) → Elapses moment left_since old mid P → Elapses moment left_since mid new P
-      → Elapses moment left_since old new P
-  elapses_both old mid new P a b = record {
-    later = omega (arith, a.later, b.later);
-    nothing_else = λ t left le since.
-        ⊎_elim (a.nothing_else t left le) (λ p. inr p) (b.nothing_else t left (omega (arith, le, a.later)) since);
-    keeps = λ t left le before. b.keeps t left (omega (arith, le, a.later)) (a.keeps t left le before);
-  }
-
-  -- two calls that change nothing
-  pub elapses_unchanged : (old mid new : H) (told before : Option State) → told ≡ before → Elapses moment left_since old mid (MayLeaveNow told)
-      → (after : Option State) → after ≡ told → Elapses moment left_since mid new (MayLeaveNow after)
-      → Elapses moment left_since old new (MayLeaveNow before)
-  elapses_unchanged old mid new told before same first after again second =
-      elapses_both old mid new (MayLeaveNow before)
-      (subst (λ x. Elapses moment left_since old mid (MayLeaveNow x)) same first)
-      (subst (λ x. Elapses moment left_since mid new (MayLeaveNow x)) (again ∙ same) second)
-
-  -- a front of what is printed is a front of some output
-  pub elapses_in_print : (old new : H) (text : List ℕ) (before : Option State) → Elapses moment left_since old new (MayLeaveInPrint text before)
-      → Elapses moment left_since old new (LeftWithOutput before)
-  elapses_in_print old new text before = elapses_weaker old new _ _ (λ left h. (h.0, h.3))
-
   -- a question whose command prints alone, once it has read what it needs
   pub asking_leaves_behind : (asking : State → Asking Request) (old mid new : H) (before told : Option State) → told ≡ before
       → ((left : Left) → left_since old (moment old) left → MayLeaveNow before left)
@@ -102,8 +71,8 @@ module _ {H : Type 0} (moment : H → ℕ) (left_since : H → ℕ → Left → 
       goes_on moment left_since old old new (LeftTo asking before) (LeftWithOutput before)
       (begins moment left_since old (LeftTo asking before)
       (λ left since. left_to asking before left (now_with_output before left (only left since))))
-      (elapses_both old mid new (LeftWithOutput before)
-      (elapses_weaker old mid _ _ (now_with_output before) first)
+      (elapses_both moment left_since old mid new (LeftWithOutput before)
+      (elapses_weaker moment left_since old mid _ _ (now_with_output before) first)
       (subst (λ x. Elapses moment left_since mid new (LeftWithOutput x)) same second))
       (left_to asking before)
 
@@ -151,6 +120,6 @@ module _ {H : Type 0} (moment : H → ℕ) (left_since : H → ℕ → Left → 
       → LeavesOnly moment left_since old new (LeftMeanwhile words before)
   command_leaves_behind words f old mid new before told is gives same only first second =
       command_leaves words f old new before is gives only
-      (elapses_both old mid new (LeftWithOutput before)
-      (elapses_weaker old mid _ _ (now_with_output before) first)
+      (elapses_both moment left_since old mid new (LeftWithOutput before)
+      (elapses_weaker moment left_since old mid _ _ (now_with_output before) first)
       (subst (λ x. Elapses moment left_since mid new (LeftWithOutput x)) same second))

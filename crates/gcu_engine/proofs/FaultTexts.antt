@@ -8,10 +8,10 @@ use Rattle.move_core.specs.declared.settings.ServiceTie.{ServiceTie}
 use Rattle.move_core.specs.declared.settings.Settings.{Settings}
 use Rattle.change_apply.specs.Change.{name_at, restart_of, restarts_of}
 use Rattle.change_apply.specs.declared.ready.Restart.{Restart}
+use Rattle.gcu_lines.specs.Lines.{last_line, service_line}
+use Rattle.gcu_lines.specs.declared.outcomes.Outcome.TheVariants.{DiskFault}
 use Rattle.gcu_engine.specs.FaultLines.{AreNamed, AreServiceLines, disk_lines, found, line_at, line_for, lines_for, service_lines_at}
-use Rattle.gcu_engine.specs.Lines.{last_line, service_line}
 use Rattle.gcu_engine.specs.declared.fault_lines.ServiceLine.{ServiceLine}
-use Rattle.gcu_engine.specs.declared.outcomes.Outcome.TheVariants.{DiskFault}
 
 -- ---- faults of the disk
 
@@ -113,30 +113,6 @@ service_there settings restarts lines k started r due are all is =
     ∙ ap (λ (o : Option (List ℕ)). unwrap_or o []) (found_there settings k started r due (subst (AreNamed settings) is all))
 
 -- ---- as they are made
-
--- the services of one step more
-pub one_more_step : (restarts : List (List Restart)) (lines : List (List ServiceLine)) (k : ℕ) (rs : List Restart) (ls : List ServiceLine)
-    → ((j : ℕ) (xs : List Restart) → j < k → slice_get restarts j ≡ Some xs → slice_get lines j ≡ Some (lines_for j xs))
-    → length lines ≡ k → slice_get restarts k ≡ Some rs → ls ≡ lines_for k rs
-    → (j : ℕ) (xs : List Restart) → j < k + 1 → slice_get restarts j ≡ Some xs → slice_get (lines ++ ls ∷ []) j ≡ Some (lines_for j xs)
-one_more_step restarts lines k rs ls so_far long is are j xs low at = by (lt_or_eq j k (omega (arith, low)))
-  where
-    kept : (ls' : List (List ServiceLine)) (i : ℕ) (x : List ServiceLine) → slice_get ls' i ≡ Some x → slice_get (ls' ++ ls ∷ []) i ≡ Some x
-    kept [] zero x e = absurd cc
-    kept [] (suc i) x e = absurd cc
-    kept (y ∷ ls') zero x e = e
-    kept (y ∷ ls') (suc i) x e = kept ls' i x e
-
-    last : (ls' : List (List ServiceLine)) → slice_get (ls' ++ ls ∷ []) (length ls') ≡ Some ls
-    last [] = refl
-    last (y ∷ ls') = last ls'
-
-    by : (j < k) ⊎ (j ≡ k) → slice_get (lines ++ ls ∷ []) j ≡ Some (lines_for j xs)
-    by (inl lt) = kept lines j (lines_for j xs) (so_far j xs lt at)
-    by (inr e) =
-        let one : Some rs ≡ Some xs = sym is ∙ ap (slice_get restarts) (sym e) ∙ at in
-        let same : rs ≡ xs = cc in
-        ap (λ (i : ℕ). slice_get (lines ++ ls ∷ []) i) (e ∙ sym long) ∙ last lines ∙ ap (λ (l : List ServiceLine). Some l) (are ∙ (λ i. lines_for (sym e i) (same i)))
 
 -- the first k and the next one are the first k + 1
 taken : {A : Type 0} (xs : List A) (k : ℕ) (x : A) → slice_get xs k ≡ Some x → take k xs ++ x ∷ [] ≡ take (suc k) xs

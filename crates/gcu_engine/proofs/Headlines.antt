@@ -16,21 +16,21 @@ use Rattle.change_apply.specs.Crashes.{StandAt}
 use Rattle.change_apply.specs.Ends.{IsStopped}
 use Rattle.change_apply.specs.declared.ready.Restart.{Restart}
 use Rattle.plan_options.specs.Targets.{Target}
+use Rattle.gcu_lines.specs.Lines.{last_line}
+use Rattle.gcu_lines.specs.declared.outcomes.Outcome.{Outcome}
+use Rattle.gcu_lines.specs.declared.outcomes.Outcome.TheVariants.{Done, Memory, InputFault, DiskFault, PrintFault, ServiceFault, Unorderable, Budget}
+use Rattle.gcu_asking.specs.Asked.{asked, form_asked}
+use Rattle.gcu_asking.specs.Asking.{Asking}
+use Rattle.gcu_asking.specs.ChangeAsked.{change_asked}
+use Rattle.gcu_asking.specs.Form.{Form, form}
+use Rattle.gcu_asking.specs.Form as forms
+use Rattle.gcu_asking.specs.PlanAsked.{dry_run_asked}
+use Rattle.gcu_asking.specs.Request as request
+use Rattle.gcu_asking.specs.Request.{Planning, Request}
 use Rattle.gcu_engine.specs.Answers.{Answers, IsDoneOutput, IsUntouched, Leaves, LeavesDone, LeavesStopped, LeftByForm, LeftDoing, LeftMeanwhile, LeftOf, Prints, Says}
-use Rattle.gcu_engine.specs.Asked.{asked, form_asked}
-use Rattle.gcu_engine.specs.Asking.{Asking}
-use Rattle.gcu_engine.specs.ChangeAsked.{change_asked}
 use Rattle.gcu_engine.specs.Changing.{IsChangeFor, IsFirstText, IsLastLine, LeftChanged, LeftEarly, LeftOfChange, begun}
-use Rattle.gcu_engine.specs.Form.{Form, form}
-use Rattle.gcu_engine.specs.Form as forms
 use Rattle.gcu_engine.specs.Headline.{HasNoOrder, IsBefore, IsHeadline, IsLastOrNext, IsOneChange, IsPlanOutput, IsRightPlan, PrintsPlan, StandsAfter, StoresTarget, target_in}
-use Rattle.gcu_engine.specs.Lines.{last_line}
-use Rattle.gcu_engine.specs.PlanAsked.{dry_run_asked}
 use Rattle.gcu_engine.specs.Plannings.{IsUnsolved}
-use Rattle.gcu_engine.specs.Request as request
-use Rattle.gcu_engine.specs.Request.{Planning, Request}
-use Rattle.gcu_engine.specs.declared.outcomes.Outcome.{Outcome}
-use Rattle.gcu_engine.specs.declared.outcomes.Outcome.TheVariants.{Done, Memory, InputFault, DiskFault, PrintFault, ServiceFault, Unorderable, Budget}
 use Rattle.gcu_engine.proofs.Changes.{some_is}
 use Rattle.gcu_engine.proofs.Naming.{named_is}
 use Rattle.gcu_engine.proofs.RightPlans.{IsAsked, asked_is, right_plan, way_last}

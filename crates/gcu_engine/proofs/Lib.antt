@@ -1,26 +1,21 @@
-pub mod Answering
+mod Answering
+mod Causes
 mod ChangeBegins
 mod ChangeEnds
 mod Changes
-pub mod Elapsing
-pub mod Finding
-pub mod ModelTexts
-pub mod Checked
-pub mod Judged
-pub mod PlanFinding
-pub mod TreeTexts
-mod Causes
+mod CheckSaying
 mod Completing
 mod Deletions
-mod DemoFinding
+mod DemoSaying
+mod Elapsing
 mod FaultTexts
 mod Headlines
 mod Listing
 mod Naming
+mod PlanSaying
 mod ReadyChanges
 mod ReadyOrNot
 mod RightPlans
 mod Savings
 mod SummaryTexts
-mod Words
 mod Writing

@@ -1,27 +1,15 @@
 -- The names of checkpoints, found and printed.
-use Rattle.std.proofs.Common.{ℕ, List, ◌++◌, refl, sym, ap, Option, Some, None, Ok, Err, IfSome}
+use Rattle.std.proofs.Common.{ℕ, List, ◌++◌, refl, Option, Some, None, Ok, Err, IfSome}
 use Rattle.host_core.specs.Counts.{Counts}
 use Rattle.host_core.specs.State.{State}
-use Rattle.checkpoints.specs.Answers.{Lists}
+use Rattle.gcu_lines.specs.Lines.{last_line, lines}
+use Rattle.gcu_lines.specs.declared.outcomes.Outcome.{Outcome}
+use Rattle.gcu_lines.specs.declared.outcomes.Outcome.TheVariants.{Done}
+use Rattle.gcu_asking.specs.Asked.{list_asked}
+use Rattle.gcu_asking.specs.Preparing.{Finds, Refuses}
+use Rattle.gcu_asking.specs.Request as request
 use Rattle.gcu_engine.specs.Answers.{Says}
-use Rattle.gcu_engine.specs.Asked.{list_asked}
-use Rattle.gcu_engine.specs.Lines.{last_line, lines}
-use Rattle.gcu_engine.specs.Preparing.{Finds, Refuses}
-use Rattle.gcu_engine.specs.Request as request
-use Rattle.gcu_engine.specs.declared.outcomes.Outcome.{Outcome}
-use Rattle.gcu_engine.specs.declared.outcomes.Outcome.TheVariants.{Done, DiskFault}
 use Rattle.gcu_engine.proofs.Answering.{refused_says}
-
--- what was listed is what is asked for
-pub found_names : (o : Option State) (names : List (List ℕ)) → IfSome o (λ s. Lists s.files (Ok names))
-    → Finds o request.list_checkpoints (Ok names) list_asked
-found_names None names lists = tt
-found_names (Some s) names lists = record { gives = ap (λ (ns : List (List ℕ)). Ok (request.list_checkpoints ns)) (sym lists); stands = tt }
-
--- a disk fault stands where the names are read
-pub names_fault_found : (o : Option State) (step : ℕ) → Finds {X = List (List ℕ)} o request.list_checkpoints (Err (DiskFault step)) list_asked
-names_fault_found None step = tt
-names_fault_found (Some s) step = record { gives = tt; stands = refl }
 
 -- what is printed of the names is what is asked for
 pub names_say : (o : Option State) (names : List (List ℕ)) → Finds o request.list_checkpoints (Ok names) list_asked

@@ -1,26 +1,25 @@
 -- What is said of a target that isn't refused by its name is said of the words that name it.
-use Rattle.std.proofs.Common.{◌≡◌, inl, inr, ℕ, List, ◌++◌, refl, sym, Bool, true, false, if◌then◌else◌, Option, Some, None, Result, Ok, Err, IfSome}
+use Rattle.std.proofs.Common.{◌≡◌, inl, inr, ℕ, List, ◌++◌, sym, Bool, true, false, if◌then◌else◌, Option, Some, None, Result, Ok, Err, IfSome}
 use Rattle.host_core.specs.Answers.{Gives, map_ok}
-use Rattle.host_core.specs.Counts.{Counts, NoneRose}
+use Rattle.host_core.specs.Counts.{Counts}
 use Rattle.host_core.specs.Crashes.{Left, LeavesOnly}
 use Rattle.host_core.specs.State.{State}
 use Rattle.host_core.proofs.Runs as runs
 use Rattle.checkpoints.specs.Names.{is_good_name}
 use Rattle.plan_options.specs.Targets.{Target, patched, replaced, rolled_back}
-use Rattle.gcu_engine.specs.Answers.{Complete, IsStopped, IsUntouched, Leaves, Prints, Says}
-use Rattle.gcu_engine.specs.Asking.{Asking, Source, follows}
-use Rattle.gcu_engine.specs.ChangeAsked.{change_asked, settled_asked}
-use Rattle.gcu_engine.specs.Changing.{IsFirstText, LeftEarly, LeftOfChange}
+use Rattle.gcu_lines.specs.Lines.{last_line}
+use Rattle.gcu_lines.specs.declared.outcomes.Outcome.{Outcome}
+use Rattle.gcu_lines.specs.declared.outcomes.Outcome.TheVariants.{Done, Memory, InputFault, DiskFault, PrintFault, ServiceFault, Unorderable, Budget, BadName}
+use Rattle.gcu_asking.specs.Asking.{Asking, Source, follows}
+use Rattle.gcu_asking.specs.ChangeAsked.{change_asked, settled_asked}
+use Rattle.gcu_asking.specs.PlanAsked.{target_answer}
+use Rattle.gcu_asking.specs.Preparing.{Found, Refuses, RefusesAlways, refusal}
+use Rattle.gcu_asking.specs.Request.{Request}
+use Rattle.gcu_engine.specs.Answers.{Complete, IsStopped, IsUntouched, Prints, Says}
 use Rattle.gcu_engine.specs.Commands.{AnswersTo, CompleteTo}
 use Rattle.gcu_engine.specs.Doing.{LeftToChange}
-use Rattle.gcu_engine.specs.Lines.{last_line}
-use Rattle.gcu_engine.specs.PlanAsked.{target_answer}
-use Rattle.gcu_engine.specs.Preparing.{Finds, Found, Refuses, RefusesAlways, refusal}
-use Rattle.gcu_engine.specs.Request.{Request}
-use Rattle.gcu_engine.specs.declared.outcomes.Outcome.{Outcome}
-use Rattle.gcu_engine.specs.declared.outcomes.Outcome.TheVariants.{Done, Memory, InputFault, DiskFault, PrintFault, ServiceFault, Unorderable, Budget, BadName}
+use Rattle.gcu_asking.proofs.Finding.{first_refused, found_always}
 use Rattle.gcu_engine.proofs.Answering.{refused_says}
-use Rattle.gcu_engine.proofs.Finding.{first_refused, found_always}
 
 -- ---- names
 
@@ -35,9 +34,6 @@ named_is (replaced path) x e = let same : replaced path ≡ x = cc in sym same
 named_is (rolled_back name) x e = named_by (is_good_name name) name x e
 
 -- ---- a name that is refused
-
-abbrev self : Unit {0} → Unit {0}
-self u = u
 
 -- it is said
 pub misnamed_says : (o : Option State) (from : Target) (budget : ℕ) (e : Outcome) (old new : Counts) → Gives {X = Unit {0}} (λ u. from) refusal (Err e) (target_answer from)

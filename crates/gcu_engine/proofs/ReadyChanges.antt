@@ -19,8 +19,8 @@ use Rattle.move_core.specs.declared.settings.ServiceTie.{ServiceTie}
 use Rattle.move_core.specs.declared.settings.Settings.{Settings}
 use Rattle.change_apply.specs.Change.{AreDefined, ArePositions, Change, restarts_at, restarts_of, steps}
 use Rattle.plan_options.specs.Options.{most_budget}
-use Rattle.gcu_engine.specs.Doing.{HasBytes, change_by}
 use Rattle.gcu_engine.specs.FaultLines.{AreFaultLines, AreNamed}
+use Rattle.gcu_engine.specs.Doing.{HasBytes, change_by}
 use Rattle.gcu_engine.specs.declared.change.ReadyChange.{ReadyChange}
 use Rattle.gcu_engine.proofs.FaultTexts.{all_named}
 

@@ -1,5 +1,5 @@
 -- A command that settles what is pending and then writes: what it leaves, and what is then answered.
-use Rattle.std.proofs.Common.{◌≡◌, ◌≤◌, ◌⊎◌, inl, inr, Bool, true, false, cond, List, ℕ, [], append-nil, refl, sym, ap, ◌∙◌, subst, arith, Option, Some, None, Result, Ok, Err, IfErr, IfSome, option_map}
+use Rattle.std.proofs.Common.{◌≡◌, ◌≤◌, ◌⊎◌, inl, inr, Bool, true, false, cond, List, [], ℕ, append-nil, refl, sym, ap, ◌∙◌, subst, arith, Option, Some, None, Result, Ok, Err, IfErr, IfSome, option_map}
 use Rattle.std.specs.Prelude.{OnOk}
 use Rattle.std.specs.Cmp.Lexicographic.{nat_list_cmp_total}
 use Rattle.std.specs.FinMap as finmap
@@ -13,15 +13,15 @@ use Rattle.host_core.specs.Names.{name_cmp}
 use Rattle.host_core.specs.State.{Files, Pending, State, dirty, listing, printed, settled, with_file, with_pending}
 use Rattle.host_core.proofs.Runs as runs
 use Rattle.conf_store.specs.Changes.{AreLeft, Changes, Leads, Settles}
-use Rattle.gcu_engine.specs.Answers.{HasCause, LeavesDone, LeavesStopped, LeftChanging, LeftDoing, LeftOf, LeftWithOutput, Says, IsDoneOutput}
-use Rattle.gcu_engine.specs.Asking.{Asking, a_file, a_settling}
-use Rattle.gcu_engine.specs.Commands.{AnswersTo, IsFirst, IsReady, IsTold, LeavesRefused, LeftTo, TellsOn, is_disk_fault, may_have_written, outcome_of}
-use Rattle.gcu_engine.specs.Lines.{last_line}
-use Rattle.gcu_engine.specs.Preparing.{FailsIn, Finds, Found, Refuses, StandsIn, refusal}
-use Rattle.gcu_engine.specs.Printing.{IsPrinted, IsSaid}
-use Rattle.gcu_engine.specs.Request.{Request}
-use Rattle.gcu_engine.specs.declared.outcomes.Outcome.{Outcome}
-use Rattle.gcu_engine.specs.declared.outcomes.Outcome.TheVariants.{Done, Memory, Usage, InputFault, DiskFault, PrintFault, ServiceFault, Unorderable, Budget}
+use Rattle.gcu_lines.specs.Printing.{LeftWithOutput, IsFirst, IsTold, may_have_written, outcome_of, IsPrinted}
+use Rattle.gcu_lines.specs.Lines.{last_line}
+use Rattle.gcu_lines.specs.declared.outcomes.Outcome.{Outcome}
+use Rattle.gcu_lines.specs.declared.outcomes.Outcome.TheVariants.{Done, Memory, Usage, InputFault, DiskFault, PrintFault, ServiceFault, Unorderable, Budget}
+use Rattle.gcu_asking.specs.Asking.{Asking, a_file, a_settling}
+use Rattle.gcu_asking.specs.Preparing.{FailsIn, Finds, Found, Refuses, StandsIn, refusal}
+use Rattle.gcu_asking.specs.Request.{Request}
+use Rattle.gcu_engine.specs.Answers.{HasCause, LeavesDone, LeavesStopped, LeftChanging, LeftDoing, LeftOf, Says, IsDoneOutput}
+use Rattle.gcu_engine.specs.Commands.{AnswersTo, IsReady, LeavesRefused, LeftTo, TellsOn}
 use Rattle.gcu_engine.proofs.Answering.{printed_leaves, refused_cause, refused_says}
 use Rattle.gcu_engine.proofs.Elapsing.{left_to, now_with_output}
 
@@ -257,18 +257,6 @@ module _ (asking : State → Asking Request) where
 
 -- ---- the outcome of what was done or refused
 
--- a refusal that is no fault of the disk comes before anything is written
-pub unwritten : (e : Outcome) → IsFirst e → is_disk_fault e ≡ false → may_have_written e ≡ false
-unwritten Done first isnt = absurd first
-unwritten (ServiceFault step service) first isnt = absurd first
-unwritten other first isnt = isnt
-
--- and its last line may ask for memory
-pub told_said : (e : Outcome) (written : Bool) → written ≡ false → (before after : Option State) (old new : Counts) (result : Outcome)
-    → IsSaid e (last_line e) before after old new result → IsTold written e before after old new result
-told_said e true isnt before after old new result said = absurd cc
-told_said e false isnt before after old new result said = said
-
 -- a refusal with its cause comes after no acknowledgement
 refused_first : (old new : Counts) (e : Outcome) → Refuses old new e → IsFirst e
 refused_first old new (DiskFault step) h = h.0
@@ -283,13 +271,6 @@ comes_first old new (Err e) h = refused_first old new e h
 pub outcome_cause : (old new : Counts) (result : Result (Unit {0}) Outcome) → IfErr result (Refuses old new) → HasCause old new (outcome_of result)
 outcome_cause old new (Ok done) h = tt
 outcome_cause old new (Err e) h = refused_cause old new e h
-
--- the fault of the disk after no acknowledgement
-pub first_fault : (e : Outcome) → IsFirst e → is_disk_fault e ≡ true → e ≡ DiskFault 0
-first_fault (DiskFault step) first is = ap DiskFault first
-first_fault Done never is = absurd never
-first_fault (ServiceFault step service) never is = absurd never
-first_fault other first is = absurd cc
 
 -- what follows of what is told
 pub of_some : (o : Option State) (P Q : State → Type 0) → ((s : State) → P s → Q s) → IfSome o P → IfSome o Q

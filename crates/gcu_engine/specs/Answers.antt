@@ -1,8 +1,8 @@
 -- Which answers a command may give to what is asked, what it then leaves and has printed, and what a fault
 -- needs.
-use Rattle.std.specs.Prelude.{◌≡◌, ◌⊎◌, ℕ, List, ◌++◌, length, Option, Some, None, Ok, Err, option_map, ⊤}
+use Rattle.std.specs.Prelude.{◌≡◌, ◌⊎◌, ℕ, List, ◌++◌, length, Option, Some, None, Ok, Err, ⊤}
 use Rattle.host_core.specs.Counts.{Counts, Rose}
-use Rattle.host_core.specs.Crashes.{Left, MayLeaveNow}
+use Rattle.host_core.specs.Crashes.{Left}
 use Rattle.host_core.specs.State.{Files, State, printed, settled, with_pending}
 use Rattle.conf_doc.specs.Texts.{file_text}
 use Rattle.conf_store.specs.Changes.{Leads}
@@ -11,18 +11,19 @@ use Rattle.move_core.specs.Operations.{plan_text}
 use Rattle.move_core.specs.declared.moves.Move.{Move}
 use Rattle.change_apply.specs.Change.{name_at}
 use Rattle.change_apply.specs.declared.errors.ApplyFault.TheVariants.{Disk, Service}
-use Rattle.gcu_engine.specs.Asked.{asked, form_asked}
-use Rattle.gcu_engine.specs.Asking.{Asking, an_input, a_file, a_settling}
-use Rattle.gcu_engine.specs.ChangeAsked.{change_asked}
+use Rattle.gcu_lines.specs.Lines.{last_line, lines, service_line}
+use Rattle.gcu_lines.specs.declared.outcomes.Outcome.{Outcome}
+use Rattle.gcu_lines.specs.declared.outcomes.Outcome.TheVariants.{Done, Memory, Usage, InputFault, DiskFault, PrintFault, ServiceFault, Unorderable, Budget}
+use Rattle.gcu_lines.specs.Printing.{LeftWithOutput}
+use Rattle.gcu_asking.specs.Asked.{asked, form_asked}
+use Rattle.gcu_asking.specs.Asking.{Asking, an_input, a_file, a_settling}
+use Rattle.gcu_asking.specs.ChangeAsked.{change_asked}
+use Rattle.gcu_asking.specs.Form as forms
+use Rattle.gcu_asking.specs.Form.{Form, form}
+use Rattle.gcu_asking.specs.Request.{Planning, Request, change, delete_checkpoint, demo, list_checkpoints, plan, preview, check, save_checkpoint}
 use Rattle.gcu_engine.specs.Changing.{AreAcknowledged, IsChanged, IsCutShort, IsHalted, LeftOfChange}
-use Rattle.gcu_engine.specs.Form as forms
-use Rattle.gcu_engine.specs.Form.{Form, form}
-use Rattle.gcu_engine.specs.Lines.{last_line, lines, service_line}
 use Rattle.gcu_engine.specs.Plannings.{IsPlanFor, IsUnsolved}
-use Rattle.gcu_engine.specs.Request.{Planning, Request, change, delete_checkpoint, demo, list_checkpoints, plan, preview, check, save_checkpoint}
 use Rattle.gcu_engine.specs.Summary.{summary}
-use Rattle.gcu_engine.specs.declared.outcomes.Outcome.{Outcome}
-use Rattle.gcu_engine.specs.declared.outcomes.Outcome.TheVariants.{Done, Memory, Usage, InputFault, DiskFault, PrintFault, ServiceFault, Unorderable, Budget}
 
 -- a fault is told only where its count rose
 abbrev pub HasCause : Counts → Counts → Outcome → Type 0
@@ -145,11 +146,6 @@ Answers words (Some before) after old new result =
     Leaves (asked words before) before after old new result
 
 -- ---- what a crash leaves
-
--- what a crash leaves where nothing but the output changes: what was there, with a front of some output
-abbrev pub LeftWithOutput : Option State → Left → Type 0
-LeftWithOutput before left =
-    (part : List ℕ) × MayLeaveNow (option_map (printed part) before) left
 
 -- what a crash leaves while the files are changed like this: all else is as before, with a front of some
 -- output

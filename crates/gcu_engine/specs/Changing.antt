@@ -13,11 +13,11 @@ use Rattle.change_apply.specs.Crashes.{IsLeft}
 use Rattle.change_apply.specs.Ends.{Finishes as IsFinished, IsStoppedBy}
 use Rattle.change_apply.specs.declared.errors.ApplyFault.{ApplyFault}
 use Rattle.change_apply.specs.declared.errors.ApplyFault.TheVariants.{Print}
-use Rattle.gcu_engine.specs.Asking.{Asking}
-use Rattle.gcu_engine.specs.Lines.{last_line, service_line}
+use Rattle.gcu_lines.specs.Lines.{last_line, service_line}
+use Rattle.gcu_lines.specs.declared.outcomes.Outcome.{Outcome}
+use Rattle.gcu_asking.specs.Asking.{Asking}
+use Rattle.gcu_asking.specs.Request.{Planning, Request, change}
 use Rattle.gcu_engine.specs.Plannings.{IsPlanFor}
-use Rattle.gcu_engine.specs.Request.{Planning, Request, change}
-use Rattle.gcu_engine.specs.declared.outcomes.Outcome.{Outcome}
 
 -- the change that does a plan on what the folder stands for, with the services of each move
 pub record IsChangeFor (p : Planning) (before : State) (c : Change) : Type 0 where

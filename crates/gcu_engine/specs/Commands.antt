@@ -1,16 +1,15 @@
 -- What a command leaves and answers that asks a stated question, for commands in functions of their own.
-use Rattle.std.specs.Prelude.{◌≡◌, Bool, true, false, Option, Some, None, Result, Ok, Err, IfSome, ⊤}
+use Rattle.std.specs.Prelude.{◌≡◌, Option, Some, None, IfSome, ⊤}
 use Rattle.host_core.specs.Counts.{Counts, NoneRose}
 use Rattle.host_core.specs.Crashes.{Left}
 use Rattle.host_core.specs.State.{Files, State}
 use Rattle.conf_store.specs.Changes.{Changes}
+use Rattle.gcu_lines.specs.Lines.{last_line}
+use Rattle.gcu_lines.specs.declared.outcomes.Outcome.{Outcome}
+use Rattle.gcu_lines.specs.declared.outcomes.Outcome.TheVariants.{DiskFault}
+use Rattle.gcu_asking.specs.Asking.{Asking}
+use Rattle.gcu_asking.specs.Request.{Request}
 use Rattle.gcu_engine.specs.Answers.{Complete, Leaves, LeftOf, Says}
-use Rattle.gcu_engine.specs.Asking.{Asking}
-use Rattle.gcu_engine.specs.Lines.{last_line}
-use Rattle.gcu_engine.specs.Printing.{IsPrinted, IsSaid}
-use Rattle.gcu_engine.specs.Request.{Request}
-use Rattle.gcu_engine.specs.declared.outcomes.Outcome.{Outcome}
-use Rattle.gcu_engine.specs.declared.outcomes.Outcome.TheVariants.{Done, DiskFault, ServiceFault}
 
 -- what is left, with that answer
 abbrev pub AnswersTo : (State → Asking Request)
@@ -36,35 +35,6 @@ TellsOn None after = ⊤
 TellsOn (Some before) after = (now : State) × (after ≡ Some now)
 
 -- ---- a command that writes
-
--- a refusal before any restart, and where it is a fault of the disk it comes after no acknowledgement
-abbrev pub IsFirst : Outcome → Type 0
-IsFirst Done = ⊥
-IsFirst (DiskFault step) = step ≡ 0
-IsFirst (ServiceFault step service) = ⊥
-IsFirst other = ⊤
-
--- the outcome of what was done or refused
-abbrev pub outcome_of : Result (Unit {0}) Outcome → Outcome
-outcome_of (Ok done) = Done
-outcome_of (Err e) = e
-
--- a fault of the disk
-abbrev pub is_disk_fault : Outcome → Bool
-is_disk_fault (DiskFault step) = true
-is_disk_fault other = false
-
--- an answer that something may have been written before, so that its line asks for no memory
-abbrev pub may_have_written : Outcome → Bool
-may_have_written Done = true
-may_have_written (ServiceFault step service) = true
-may_have_written other = is_disk_fault other
-
--- the answer that is printed; for want of memory another one may be, unless none is asked for
-abbrev pub IsTold : Bool → Outcome
-    → Option State → Option State → Counts → Counts → Outcome → Type 0
-IsTold true answer = IsPrinted answer (last_line answer)
-IsTold false answer = IsSaid answer (last_line answer)
 
 -- after a fault of the disk the files are changed like this, and after another refusal nothing is changed
 abbrev pub LeavesRefused : (Files → Files → Type 0)

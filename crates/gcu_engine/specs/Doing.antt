@@ -11,17 +11,17 @@ use Rattle.move_core.specs.declared.settings.Settings.{Settings}
 use Rattle.change_apply.specs.Change.{Change, change_of, restarts_at, steps}
 use Rattle.change_apply.specs.Ends.{Finishes, IsStoppedBy, IsStoppedInRestarts}
 use Rattle.change_apply.specs.declared.errors.ApplyFault.TheVariants.{Disk, Print}
-use Rattle.gcu_engine.specs.Answers.{HasCause}
-use Rattle.gcu_engine.specs.Asking.{Asking}
-use Rattle.gcu_engine.specs.Changing.{IsChangeFor, LeftChanged, LeftOfChange}
+use Rattle.gcu_lines.specs.Lines.{last_line, service_line}
+use Rattle.gcu_lines.specs.declared.outcomes.Outcome.{Outcome}
+use Rattle.gcu_lines.specs.declared.outcomes.Outcome.TheVariants.{Done, DiskFault, PrintFault, ServiceFault, Unorderable, Budget}
+use Rattle.gcu_asking.specs.Asking.{Asking}
+use Rattle.gcu_asking.specs.Preparing.{FailsIn, StandsIn, refusal}
+use Rattle.gcu_asking.specs.Request.{Planning, Request}
 use Rattle.gcu_engine.specs.FaultLines.{AreFaultLines, AreNamed}
-use Rattle.gcu_engine.specs.Lines.{last_line, service_line}
+use Rattle.gcu_engine.specs.Answers.{HasCause}
+use Rattle.gcu_engine.specs.Changing.{IsChangeFor, LeftChanged, LeftOfChange}
 use Rattle.gcu_engine.specs.Plannings.{HasNone}
-use Rattle.gcu_engine.specs.Preparing.{FailsIn, StandsIn, refusal}
-use Rattle.gcu_engine.specs.Request.{Planning, Request}
 use Rattle.gcu_engine.specs.declared.change.ReadyChange.{ReadyChange}
-use Rattle.gcu_engine.specs.declared.outcomes.Outcome.{Outcome}
-use Rattle.gcu_engine.specs.declared.outcomes.Outcome.TheVariants.{Done, DiskFault, PrintFault, ServiceFault, Unorderable, Budget}
 
 -- ---- what is ready
 

@@ -18,15 +18,15 @@ use Rattle.move_core.specs.declared.contexts.Ctx.{Ctx}
 use Rattle.move_core.specs.declared.moves.Move.{Move}
 use Rattle.change_apply.specs.Acknowledgements.{ack, acks}
 use Rattle.plan_options.specs.Targets.{Target}
-use Rattle.gcu_engine.specs.Asked.{asked}
+use Rattle.gcu_lines.specs.declared.outcomes.Outcome.{Outcome}
+use Rattle.gcu_lines.specs.declared.outcomes.Outcome.TheVariants.{Done, Unorderable}
+use Rattle.gcu_asking.specs.Asked.{asked}
+use Rattle.gcu_asking.specs.Form.{Form, form, plan, change}
+use Rattle.gcu_asking.specs.PlanAsked.{made_asked}
+use Rattle.gcu_asking.specs.Request as request
+use Rattle.gcu_asking.specs.Request.{Planning, Request, delete_checkpoint, save_checkpoint}
+use Rattle.gcu_asking.specs.RulesAsked.{ctx_asked}
 use Rattle.gcu_engine.specs.Changing.{IsLastLine}
-use Rattle.gcu_engine.specs.Form.{Form, form, plan, change}
-use Rattle.gcu_engine.specs.PlanAsked.{made_asked}
-use Rattle.gcu_engine.specs.Request as request
-use Rattle.gcu_engine.specs.Request.{Planning, Request, delete_checkpoint, save_checkpoint}
-use Rattle.gcu_engine.specs.RulesAsked.{ctx_asked}
-use Rattle.gcu_engine.specs.declared.outcomes.Outcome.{Outcome}
-use Rattle.gcu_engine.specs.declared.outcomes.Outcome.TheVariants.{Done, Unorderable}
 
 -- ---- a plan
 
@@ -114,7 +114,7 @@ IsOneChange (save_checkpoint name config) before after = after ≡ with_point na
 IsOneChange (delete_checkpoint name) before after = after ≡ without_point name before
 IsOneChange other before after = ⊥
 
--- the checkpoints are as before, or with the one change that was asked for
+-- the checkpoints are as before, or with the one change that the command makes
 abbrev pub HasWholePoints : List (List ℕ) → State → Files → Type 0
 HasWholePoints words s files =
     (points files ≡ points s.files)

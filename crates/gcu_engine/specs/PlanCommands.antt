@@ -1,46 +1,20 @@
 -- What the parts of a command that plans give.
-use Rattle.std.specs.Prelude.{◌≡◌, ◌<◌, true, ℕ, List, ◌++◌, length, Result, Ok, Err, ⊤}
-use Rattle.std.specs.List.{AllPass}
+use Rattle.std.specs.Prelude.{ℕ, List, ◌++◌, length, Result, Ok, Err, ⊤}
 use Rattle.host_core.specs.Counts.{Counts}
 use Rattle.host_core.specs.State.{State}
-use Rattle.conf_doc.specs.WellFormed.{IsConfig}
-use Rattle.conf_store.specs.Files.{is_step_name}
-use Rattle.checkpoints.specs.Names.{is_good_name}
-use Rattle.move_core.specs.Contexts.{AgreeElsewhere, IsNamed, IsValidIn}
 use Rattle.move_core.specs.Operations.{plan_text}
 use Rattle.move_core.specs.declared.moves.Move.{Move}
-use Rattle.plan_options.specs.Targets.{Target, rolled_back}
+use Rattle.gcu_lines.specs.Lines.{last_line}
+use Rattle.gcu_lines.specs.declared.outcomes.Outcome.{Outcome}
+use Rattle.gcu_lines.specs.declared.outcomes.Outcome.TheVariants.{Done, Memory, Unorderable, Budget}
+use Rattle.gcu_asking.specs.Asking.{Asking}
+use Rattle.gcu_asking.specs.Preparing.{Refuses}
+use Rattle.gcu_asking.specs.Request.{Request}
+use Rattle.gcu_asking.specs.declared.planning.Planning.{Planning}
+use Rattle.gcu_asking.specs.ReadPlannings.{planning_of}
 use Rattle.gcu_engine.specs.Answers.{Says}
-use Rattle.gcu_engine.specs.Asking.{Asking}
-use Rattle.gcu_engine.specs.Lines.{last_line}
 use Rattle.gcu_engine.specs.Plannings.{HasNone, IsPlanFor}
-use Rattle.gcu_engine.specs.Preparing.{Refuses}
-use Rattle.gcu_engine.specs.Request as request
-use Rattle.gcu_engine.specs.Request.{Request}
 use Rattle.gcu_engine.specs.Summary.{summary}
-use Rattle.gcu_engine.specs.declared.planning.Planning.{Planning}
-use Rattle.gcu_engine.specs.declared.outcomes.Outcome.{Outcome}
-use Rattle.gcu_engine.specs.declared.outcomes.Outcome.TheVariants.{Done, Memory, Unorderable, Budget}
-
--- where the target is a checkpoint, its name is good
-abbrev pub HasGoodName : Target → Type 0
-HasGoodName (rolled_back name) = is_good_name name ≡ true
-HasGoodName other = ⊤
-
--- what was read for a plan, as a request has it
-abbrev pub planning_of : Planning → request.Planning
-planning_of p =
-    record { ctx = p.ctx; start = p.stored.config; goal = p.goal; budget = p.budget }
-
--- what a search asks of it
-pub record IsReadyToSearch (p : Planning) : Type 0 where
-  pub named : IsNamed p.ctx
-  pub formed : IsConfig p.stored.config
-  pub names : AllPass is_step_name p.stored.steps
-  pub start : IsValidIn p.ctx p.stored.config
-  pub goal : IsValidIn p.ctx p.goal
-  pub elsewhere : AgreeElsewhere p.ctx p.stored.config p.goal
-  pub budget : 0 < p.budget
 
 -- a plan, or why there is none
 abbrev pub IsSolved : Planning → Result (List Move) Outcome → Type 0

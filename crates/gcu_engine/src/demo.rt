@@ -2,29 +2,23 @@
 ghost use Rattle.std.specs.Prelude.{◌≡◌, ◌≤◌, ◌++◌, IfErr, IfOk, IfSome, OnOk, string_bytes};
 ghost use Rattle.host_core.specs.Counts.{NoneFell, PrintMayRise};
 ghost use Rattle.host_core.specs.Crashes.{Elapses, LeavesOnly, MayLeaveNow};
-ghost use Rattle.move_core.specs.Contexts.{IsNamed};
 ghost use Rattle.gcu_demo.specs.Demo.{most_ports};
-ghost use Rattle.gcu_engine.specs.Answers.{HasCause, LeftWithOutput};
+ghost use Rattle.gcu_lines.specs.Printing.{LeftWithOutput, IsSaid};
+ghost use Rattle.gcu_lines.specs.Lines.{last_line, line_feed};
+ghost use Rattle.gcu_lines.specs.declared.outcomes.Outcome.TheVariants.{Done as done, Usage as usage};
+ghost use Rattle.gcu_asking.specs.DemoAsked.{demo_asked};
+ghost use Rattle.gcu_engine.specs.Answers.{HasCause};
 ghost use Rattle.gcu_engine.specs.Commands.{AnswersTo, CompleteTo, LeftTo};
-ghost use Rattle.gcu_engine.specs.DemoAsked.{demo_asked, demo_planning_asked, generated_asked};
-ghost use Rattle.gcu_engine.specs.Lines.{last_line, line_feed};
-ghost use Rattle.gcu_engine.specs.PlanCommands.{IsReadyToSearch, RefusesOrEnds, SaysSteps, planning_of};
-ghost use Rattle.gcu_engine.specs.Preparing.{Finds, Found, Refuses, RefusesAlways};
-ghost use Rattle.gcu_engine.specs.Printing.{IsSaid};
+ghost use Rattle.gcu_engine.specs.PlanCommands.{RefusesOrEnds, SaysSteps};
 ghost use Rattle.gcu_engine.specs.Summary.{counted, summary};
-ghost use Rattle.gcu_engine.specs.declared.outcomes.Outcome.TheVariants.{Done as done, Usage as usage};
 
 use crate::Outcome;
-use crate::judging::{End, judge};
-use crate::plan_goal::judge_goal;
-use crate::planning::{Planning, find_plan};
-use crate::printing::{print, say, say_memory};
-use crate::rules::input_ctx;
-use conf_store::Stored;
-use gcu_demo::make;
-use host_core::{Host, Names};
-use move_core::{Boxes, Ctx, Kit, Plan};
-use plan_options::{DEFAULT_BUDGET, Demo};
+use crate::solving::find_plan;
+use gcu_asking::prepare_demo;
+use gcu_lines::{print, say, say_memory};
+use host_core::Host;
+use move_core::{Boxes, Kit, Plan};
+use plan_options::Demo;
 use std::alloc::{AllocError, Global};
 
 /// Says of how many steps a plan is between the configurations of a demonstration. No file of the folder is
@@ -68,44 +62,6 @@ fn find_steps<H: Host>(
 {
     let planning = prepare_demo(alloc, size, host)?;
     find_plan(alloc, kit, &planning)
-}
-
-/// Reads what a demonstration needs, and generates its configurations.
-fn prepare_demo<H: Host>(alloc: Global, size: Demo, host: &mut H) -> Result<Planning, Outcome>
-    ensures answer { Finds (H.told host.old) planning_of result
-        (demo_planning_asked size.seed size.ports) }
-    ensures ready { IfOk result IsReadyToSearch }
-    ensures told { H.told host.new ≡ H.told host.old }
-    ensures counts { NoneFell (H.counts host.old) (H.counts host.new) }
-    ensures cause { IfErr result (Refuses (H.counts host.old) (H.counts host.new)) }
-    ensures time { Elapses H.moment H.left_since host.old host.new (MayLeaveNow (H.told host.old)) }
-    ensures goes { H.goes_on host.old host.new }
-{
-    let ctx = input_ctx(alloc, host)?;
-    generate(alloc, ctx, size)
-}
-
-/// Generates the configurations of a demonstration, and judges them.
-fn generate(alloc: Global, ctx: Ctx, size: Demo) -> Result<Planning, Outcome>
-    requires named { IsNamed ctx }
-    ensures answer { Found planning_of result (generated_asked size.seed size.ports ctx) }
-    ensures ready { IfOk result IsReadyToSearch }
-    ensures cause { IfErr result RefusesAlways }
-{
-    let (start, goal) = make(alloc, size.seed, size.ports)?;
-    let config = judge(alloc, End::Start, &ctx, start)?;
-    let goal = judge_goal(alloc, &ctx, &config, goal)?;
-    let stored = Stored {
-        config,
-        steps: Names::new(alloc),
-        folded: false,
-    };
-    Ok(Planning {
-        ctx,
-        stored,
-        goal,
-        budget: DEFAULT_BUDGET,
-    })
 }
 
 /// Prints how many there are of all, and the last line of Done.

@@ -2,18 +2,18 @@
 ghost use Rattle.std.specs.Prelude.{◌≡◌, ◌++◌, IfErr, IfOk, OnOk, take};
 ghost use Rattle.host_core.specs.Counts.{DiskMayRise, NoneFell, PrintMayRise};
 ghost use Rattle.host_core.specs.Crashes.{Elapses, LeavesOnly, MayLeaveNow};
-ghost use Rattle.gcu_engine.specs.Answers.{HasCause, LeftWithOutput};
-ghost use Rattle.gcu_engine.specs.Asked.{list_asked};
+ghost use Rattle.gcu_lines.specs.Printing.{LeftWithOutput, IsSaid};
+ghost use Rattle.gcu_lines.specs.Lines.{last_line, line_feed, lines as in_lines};
+ghost use Rattle.gcu_lines.specs.declared.outcomes.Outcome.TheVariants.{Done as done, Usage as usage};
+ghost use Rattle.gcu_asking.specs.Asked.{list_asked};
+ghost use Rattle.gcu_asking.specs.Preparing.{Finds, Refuses};
+ghost use Rattle.gcu_asking.specs.Request.{list_checkpoints as list_of};
+ghost use Rattle.gcu_engine.specs.Answers.{HasCause};
 ghost use Rattle.gcu_engine.specs.Commands.{AnswersTo, CompleteTo, LeftTo};
-ghost use Rattle.gcu_engine.specs.Lines.{last_line, line_feed, lines as in_lines};
-ghost use Rattle.gcu_engine.specs.Preparing.{Finds, Refuses};
-ghost use Rattle.gcu_engine.specs.Printing.{IsSaid};
-ghost use Rattle.gcu_engine.specs.Request.{list_checkpoints as list_of};
-ghost use Rattle.gcu_engine.specs.declared.outcomes.Outcome.TheVariants.{Done as done, Usage as usage};
 
 use crate::Outcome;
-use crate::printing::{print, say, say_memory};
 use checkpoints::{PointError, names};
+use gcu_lines::{print, say, say_memory};
 use host_core::{Host, Memory, Names};
 use std::alloc::Global;
 

@@ -1,9 +1,9 @@
 use Rattle.plan_options.specs.Views.{target_view}
-use Rattle.gcu_engine.specs.ChangeAsked.{settled_asked}
+use Rattle.gcu_asking.specs.ChangeAsked.{settled_asked}
 use Rattle.gcu_engine.proofs.Causes.{unsolved_cause}
 use Rattle.gcu_engine.proofs.Changes.{cause_from, change_answers}
 use Rattle.gcu_engine.proofs.Completing.{completes}
-use Rattle.gcu_engine.proofs.PlanFinding.{end_cause}
+use Rattle.gcu_engine.proofs.PlanSaying.{end_cause}
 use Rattle.gcu_engine.proofs.ReadyOrNot.{change_leaves, line_leaves, said_ready, settled_now, stands_now}
 use Rattle.gcu_engine.proofs.change.change_named.Goals as goal
 

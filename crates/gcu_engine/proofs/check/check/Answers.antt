@@ -1,11 +1,11 @@
-use Rattle.gcu_engine.specs.Checking.{check_asked}
-use Rattle.gcu_engine.specs.Lines.{last_line}
-use Rattle.gcu_engine.specs.declared.outcomes.Outcome.TheVariants.{Done}
+use Rattle.gcu_lines.specs.Lines.{last_line}
+use Rattle.gcu_lines.specs.declared.outcomes.Outcome.TheVariants.{Done}
+use Rattle.gcu_asking.specs.Checking.{check_asked}
 use Rattle.gcu_engine.proofs.Answering.{refused_cause, said_to}
 use Rattle.gcu_engine.proofs.Causes.{said_cause}
 use Rattle.gcu_engine.proofs.Completing.{completes}
 use Rattle.gcu_engine.proofs.Elapsing.{asking_leaves_behind}
-use Rattle.gcu_engine.proofs.Checked.{check_refused, check_says}
+use Rattle.gcu_engine.proofs.CheckSaying.{check_refused, check_says}
 use Rattle.gcu_engine.proofs.check.check.Goals as goal
 
 pub returns-in-Ok-clause-answers : goal.returns-in-Ok-clause-answers

@@ -1,13 +1,13 @@
 use Rattle.std.proofs.Common.{◌++◌, length}
-use Rattle.gcu_engine.specs.DemoAsked.{demo_asked}
-use Rattle.gcu_engine.specs.Lines.{last_line}
+use Rattle.gcu_lines.specs.Lines.{last_line}
+use Rattle.gcu_lines.specs.declared.outcomes.Outcome.TheVariants.{Done}
+use Rattle.gcu_asking.specs.DemoAsked.{demo_asked}
 use Rattle.gcu_engine.specs.Summary.{summary}
-use Rattle.gcu_engine.specs.declared.outcomes.Outcome.TheVariants.{Done}
 use Rattle.gcu_engine.proofs.Answering.{said_to}
 use Rattle.gcu_engine.proofs.Causes.{done_cause, unsolved_cause}
 use Rattle.gcu_engine.proofs.Completing.{completes}
 use Rattle.gcu_engine.proofs.Elapsing.{asking_leaves_behind}
-use Rattle.gcu_engine.proofs.PlanFinding.{end_cause}
+use Rattle.gcu_engine.proofs.PlanSaying.{end_cause}
 use Rattle.gcu_engine.proofs.demo.demo.Goals as goal
 
 pub returns-in-Ok-clause-answers : goal.returns-in-Ok-clause-answers

@@ -1,6 +1,6 @@
 use Rattle.std.proofs.lemmas.Result.{err_from_is_err_and}
-use Rattle.gcu_engine.proofs.DemoFinding.{steps_refused, steps_say}
-use Rattle.gcu_engine.proofs.PlanFinding.{refuses_ends, solved_ends}
+use Rattle.gcu_engine.proofs.DemoSaying.{steps_refused, steps_say}
+use Rattle.gcu_engine.proofs.PlanSaying.{refuses_ends, solved_ends}
 use Rattle.gcu_engine.proofs.demo.find_steps.Goals as goal
 
 -- something is refused

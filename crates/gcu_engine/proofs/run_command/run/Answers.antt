@@ -1,13 +1,13 @@
 use Rattle.std.proofs.Common.{None, Some, inl, sym, ◌++◌}
 use Rattle.conf_doc.specs.Trees.{document}
-use Rattle.gcu_engine.specs.Form.{check, list_checkpoints}
-use Rattle.gcu_engine.specs.Lines.{last_line}
-use Rattle.gcu_engine.specs.Printing.{text_in_lines}
+use Rattle.gcu_lines.specs.Lines.{last_line}
+use Rattle.gcu_lines.specs.Printing.{text_in_lines}
+use Rattle.gcu_lines.specs.declared.outcomes.Outcome.TheVariants.{Usage, Done}
+use Rattle.gcu_asking.specs.Form.{check, list_checkpoints}
 use Rattle.gcu_engine.proofs.Completing.{complete_by}
 use Rattle.gcu_engine.proofs.Headlines.{headline}
 use Rattle.gcu_engine.proofs.Elapsing.{changes_by, command_leaves, command_leaves_behind, leaves_by}
 use Rattle.gcu_engine.proofs.Answering.{answers_by, said_answers, done_completes, said_completes, no_form_says, preview_says, preview_refuses, refused_cause}
-use Rattle.gcu_engine.specs.declared.outcomes.Outcome.TheVariants.{Usage, Done}
 use Rattle.gcu_engine.proofs.run_command.run.Goals as goal
 
 -- the words are no command

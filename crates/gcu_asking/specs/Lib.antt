@@ -1,0 +1,21 @@
+-- what public clauses cite
+pub mod Asked
+pub mod Asking
+pub mod ChangeAsked
+pub mod Checking
+pub mod DemoAsked
+pub mod FileAsked
+pub mod Form
+pub mod FormView
+pub mod ModelFiles
+pub mod PatchAsked
+pub mod PlanAsked
+pub mod PointAsked
+pub mod Preparing
+pub mod ReadPlannings
+pub mod Request
+pub mod RulesAsked
+pub mod StoredAsked
+pub mod Trees
+-- what only private clauses cite
+pub mod Judging

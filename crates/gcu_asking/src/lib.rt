@@ -1,0 +1,26 @@
+//! What the words of a command and the files of the folder ask for: a request with all that it needs, or the
+//! first refusal.
+#![tactic(auto)]
+
+mod checking;
+mod checkpoint_goal;
+mod demo_planning;
+mod file_goal;
+mod form;
+mod inputs;
+mod judging;
+mod model_files;
+mod models;
+mod patch_goal;
+mod plan_goal;
+mod planning;
+mod previewing;
+mod rules;
+mod stored;
+
+pub use checking::judge_stored;
+pub use demo_planning::prepare_demo;
+pub use form::{Form, read_form};
+pub use plan_goal::test_target;
+pub use planning::{Planning, prepare};
+pub use previewing::preview;

@@ -1,0 +1,96 @@
+-- How what is found for a plan and what the search gives make what a command that plans says.
+use Rattle.std.proofs.Common.{inl, inr, ℕ, List, refl, Option, Some, None, Result, Ok, Err, IfErr, IfSome}
+use Rattle.host_core.specs.Answers.{Gives}
+use Rattle.host_core.specs.Counts.{Counts}
+use Rattle.host_core.specs.State.{State}
+use Rattle.move_core.specs.declared.moves.Move.{Move}
+use Rattle.plan_options.specs.Targets.{Target}
+use Rattle.gcu_lines.specs.declared.outcomes.Outcome.{Outcome}
+use Rattle.gcu_lines.specs.declared.outcomes.Outcome.TheVariants.{Done, Memory, Usage, InputFault, DiskFault, PrintFault, ServiceFault, Unorderable, Budget}
+use Rattle.gcu_asking.specs.Asking.{Asking, follows}
+use Rattle.gcu_asking.specs.PlanAsked.{dry_run_asked, plan_asked, planning_asked, target_answer}
+use Rattle.gcu_asking.specs.ReadPlannings.{planning_of}
+use Rattle.gcu_asking.specs.Preparing.{Finds, Refuses, RefusesAlways, refusal}
+use Rattle.gcu_asking.specs.Request as request
+use Rattle.gcu_asking.specs.Request.{Request}
+use Rattle.gcu_asking.specs.declared.planning.Planning as code
+use Rattle.gcu_engine.specs.Answers.{HasCause}
+use Rattle.gcu_engine.specs.PlanCommands.{IsSolved, RefusesOrEnds, SaysPlan}
+use Rattle.gcu_asking.proofs.Finding.{first_refused, found_always, then_found}
+use Rattle.gcu_engine.proofs.Answering.{refused_says}
+
+-- the request for it
+abbrev request_of : code.Planning → Request
+request_of p = request.plan (planning_of p)
+
+-- what a plan needs makes the request
+planned_found : (o : Option State) (from : Target) (budget : ℕ) (r : Result code.Planning Outcome) → Finds o planning_of r (planning_asked from budget)
+    → Finds o request_of r (plan_asked from budget)
+planned_found None from budget r h = tt
+planned_found (Some s) from budget (Ok p) h =
+    record {
+      gives = inr (planning_of p, h.gives, refl);
+      stands = tt;
+    }
+planned_found (Some s) from budget (Err e) h = first_refused planning_of request_of e (planning_asked from budget s) _ h
+
+-- the target is by a name that no checkpoint has
+pub no_named : (o : Option State) (from : Target) (budget : ℕ) (e : Outcome) → Gives {X = Unit {0}} (λ u. from) refusal (Err e) (target_answer from)
+    → RefusesAlways e → Finds {X = code.Planning} o request_of (Err e) (dry_run_asked from budget)
+no_named None from budget e gives always = tt
+no_named (Some s) from budget e gives always =
+    first_refused {X = Unit {0}} (λ u. from) request_of e (follows (target_answer from)) _
+    (found_always {X = Unit {0}} (λ u. from) (Err e) (target_answer from) _ (λ q same. same) gives always)
+
+-- it isn't
+pub named_found : (o : Option State) (from : Target) (budget : ℕ) (u : Unit {0}) (r : Result code.Planning Outcome) → Gives (λ v. from) refusal (Ok u) (target_answer from)
+    → Finds o planning_of r (planning_asked from budget) → Finds o request_of r (dry_run_asked from budget)
+named_found None from budget u r gives h = tt
+named_found (Some s) from budget u r gives h =
+    then_found (λ v. from) request_of u r (follows (target_answer from)) _
+    (found_always (λ v. from) (Ok u) (target_answer from) _ (λ q same. same) gives tt)
+    (planned_found (Some s) from budget r h)
+
+-- what a search answers is said of the request
+solved_says : (asking : Asking Request) (s : State) (p : code.Planning) (r : Result (List Move) Outcome) → asking.Gives (Ok (request_of p))
+    → IsSolved p r → SaysPlan asking s r
+solved_says asking s p (Ok ms) given h = (request_of p, given, refl, (ms, h, refl))
+solved_says asking s p (Err Memory) given h = (inl refl, refl)
+solved_says asking s p (Err Unorderable) given h = ((request_of p, given, h), inl refl, refl)
+solved_says asking s p (Err (Budget n)) given h = ((request_of p, given, h), inl refl, refl)
+solved_says asking s p (Err other) given never = absurd never
+
+pub plan_says : (o : Option State) (asking : State → Asking Request) (p : code.Planning) (r : Result (List Move) Outcome) → Finds o request_of (Ok p) asking
+    → IsSolved p r → IfSome o (λ s. SaysPlan (asking s) s r)
+plan_says None asking p r h solved = tt
+plan_says (Some s) asking p r h solved = solved_says (asking s) s p r h.gives solved
+
+-- what is refused is said of the question
+pub plan_refused : (o : Option State) (asking : State → Asking Request) (e : Outcome) (old new : Counts) → Refuses old new e
+    → Finds {X = code.Planning} o request_of (Err e) asking → IfSome o (λ s. SaysPlan (asking s) s (Err e))
+plan_refused None asking e old new h f = tt
+plan_refused (Some s) asking e old new h f = refused_says (asking s) s e old new h f.stands f.gives
+
+-- a refusal is one of the ends
+pub refuses_ends : (old new : Counts) (e : Outcome) → Refuses old new e → RefusesOrEnds old new e
+refuses_ends old new Unorderable never = absurd never
+refuses_ends old new (Budget n) never = absurd never
+refuses_ends old new other h = h
+
+-- so is the end of a search
+pub solved_ends : (p : code.Planning) (r : Result (List Move) Outcome) (old new : Counts) → IsSolved p r → IfErr r (RefusesOrEnds old new)
+solved_ends p (Ok ms) old new h = tt
+solved_ends p (Err Memory) old new h = tt
+solved_ends p (Err Unorderable) old new h = tt
+solved_ends p (Err (Budget n)) old new h = tt
+solved_ends p (Err other) old new never = absurd never
+
+-- it has its cause
+pub end_cause : (old new : Counts) (e : Outcome) → RefusesOrEnds old new e → HasCause old new e
+end_cause old new Done never = absurd never
+end_cause old new Usage never = absurd never
+end_cause old new (PrintFault step) never = absurd never
+end_cause old new (ServiceFault step service) never = absurd never
+end_cause old new InputFault h = h
+end_cause old new (DiskFault step) h = h.1
+end_cause old new other h = tt

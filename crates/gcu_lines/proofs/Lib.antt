@@ -1,0 +1,3 @@
+pub mod Elapsing
+mod Telling
+mod TreeTexts
