@@ -1,0 +1,8 @@
+-- what public clauses cite
+pub mod Names
+pub mod Inputs
+-- what only private clauses cite
+pub mod Errors
+pub mod Listings
+pub mod Requests
+pub mod Turns
