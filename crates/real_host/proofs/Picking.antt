@@ -1,6 +1,6 @@
 -- A list of which some items are picked, and one item more.
-use Rattle.std.proofs.Common.{◌≡◌, ◌<◌, ◌+◌, ℕ, Bool, true, false, List, [], ◌∷◌, ◌++◌, length, get_or, take, cond, ap, sym, ◌∙◌}
-use Rattle.std.proofs.lemmas.List.{append-nil, take_more}
+use Rattle.std.proofs.Common.{◌≡◌, ◌<◌, ◌+◌, ℕ, Bool, true, false, List, [], ◌∷◌, ◌++◌, length, get_or, take, drop, cond, append_assoc, ap, sym, ◌∙◌}
+use Rattle.std.proofs.lemmas.List.{append-nil, take-append-drop, take_more}
 use Rattle.std.proofs.lemmas.List.Elements.{filter-append, filter_map-append}
 use Rattle.std.specs.List.{filter_map, cons_option}
 use Rattle.std.specs.Prelude.{Option, Some, None, filter}
@@ -26,3 +26,9 @@ module _ {X : Type 0} (p : X → Bool) (xs : List X) (k : ℕ) (x : X) (less : k
   -- it is passed over
   pub next_passed : p x ≡ false → filter p (take (k + 1) xs) ≡ filter p (take k xs)
   next_passed e = next_of false e ∙ append-nil (filter p (take k xs))
+
+  -- it is picked, and stands between those before it and those after it
+  pub picked_between : p x ≡ true → filter p xs ≡ filter p (take k xs) ++ x ∷ filter p (drop (k + 1) xs)
+  picked_between e =
+      let after = filter p (drop (k + 1) xs) in
+      sym (ap (filter p) (take-append-drop (k + 1) xs)) ∙ filter-append p (take (k + 1) xs) (drop (k + 1) xs) ∙ ap (λ l. l ++ after) (next_picked e) ∙ append_assoc (filter p (take k xs)) (x ∷ []) after

@@ -2,6 +2,7 @@
 pub mod Names
 pub mod Inputs
 -- what only private clauses cite
+pub mod Calls
 pub mod Errors
 pub mod Listings
 pub mod Requests

@@ -2,6 +2,7 @@
 use Rattle.std.specs.Prelude.{◌≡◌, ◌≢◌, ℕ, List, filter_map, Option, Some, None, Result, Ok, Err, IfErr, IsErrAnd}
 use Rattle.std.specs.IoError.{error_kind}
 use Rattle.std.specs.Fs.{dir_entry_name}
+use Rattle.std.specs.Iterator.{YieldsThen}
 use Rattle.std.specs.declared.fs.DirEntry.{DirEntry}
 use Rattle.std.specs.declared.io.Error.{Error}
 use Rattle.std.specs.declared.io.ErrorKind.TheVariants.{InvalidFilename, OutOfMemory}
@@ -24,3 +25,10 @@ module _ {R A F D : Type 0} where
   abbrev pub IsFault : Result (DirEntry R A F D) Error → Type 0
   IsFault item = IsErrAnd item
       (λ e. (error_kind e ≢ InvalidFilename) × (error_kind e ≢ OutOfMemory))
+
+  -- the calls gave some items and then a fault
+  abbrev pub GivesFault :
+      {S : Type 0} → (S → Option (Result (DirEntry R A F D) Error) → S → Type 0) → S → Type 0
+  GivesFault {S} steps start =
+      (before : List (Result (DirEntry R A F D) Error)) × (item : Result (DirEntry R A F D) Error)
+      × (rest : S) × YieldsThen steps start before (Some item) rest × IsFault item

@@ -1,12 +1,11 @@
 //! The files of the working folder. A call that a signal interrupts is tried again: here where std does
 //! not do so itself, which opens, writes and syncs again, and `reading.rt`, which reads again.
 
-ghost use Rattle.std.specs.Prelude.{◌≡◌, ◌↔◌, IsTrue, IsErr, IfOk, IfErr, OnOk, Ok, Err, Some, None, is_ok, string_bytes, filter, IsSorted};
-ghost use Rattle.std.specs.Fn.{CalledAt};
+ghost use Rattle.std.specs.Prelude.{◌≡◌, ◌↔◌, IsTrue, IsErr, IfOk, IfErr, OnOk, OnErr, Ok, Err, Some, None, is_ok, string_bytes, filter, IsSorted};
 ghost use Rattle.std.specs.IoError.{error_kind};
-ghost use Rattle.std.specs.List.{FoldsTo};
 ghost use Rattle.host_core.specs.Names.{name_cmp};
 ghost use Rattle.host_core.specs.declared.errors.HostError.TheVariants.{Failed as call_failed, Memory as no_memory};
+ghost use Rattle.real_host.specs.Calls.{AreDone, AnyFails};
 ghost use Rattle.real_host.specs.Errors.{IsMissing};
 ghost use Rattle.real_host.specs.Inputs.{IsWithin};
 ghost use Rattle.real_host.specs.Names.{AreDots, IsPlainName, is_scratch_name};
@@ -144,8 +143,8 @@ fn each_scratch<F: FnMut(&str) -> Result<(), Failed>>(
     mut call: F,
 ) -> Result<(), Failed>
     requires { F.IsAlwaysCallable call }
-    ensures { OnOk result ((last : F) × FoldsTo (λ p name q. CalledAt F.FnMut p name (Ok tt) q)
-        call (filter is_scratch_name names.now) last) }
+    ensures done { OnOk result (AreDone F.FnMut call (filter is_scratch_name names.now)) }
+    ensures failed { OnErr result (AnyFails F.FnMut call (filter is_scratch_name names.now)) }
 {
     for name in names {
         if is_scratch(name.as_str()) {

@@ -3,7 +3,7 @@ ghost use Rattle.std.specs.Prelude.{◌≡◌, All, IsSorted, IsPermutation, IsO
 ghost use Rattle.std.specs.Iterator.{IsFinite, Drains};
 ghost use Rattle.host_core.specs.Names.{name_cmp};
 ghost use Rattle.host_core.specs.declared.errors.HostError.TheVariants.{Failed as call_failed};
-ghost use Rattle.real_host.specs.Listings.{item_name as name_in, item_names, IsEntry, IsFault};
+ghost use Rattle.real_host.specs.Listings.{item_name as name_in, item_names, IsEntry, IsFault, GivesFault};
 
 use crate::reading::host_error;
 use host_core::{HostError, Names, Sequence, Txt};
@@ -23,6 +23,7 @@ pub(crate) fn sorted_names<R: Files + Drop, I: Iterator<Item = io::Result<DirEnt
     ensures sorted { IfOk result (IsSorted name_cmp) }
     ensures listed { IfOk result (λ names. (all : _) × Drains I.next_gives items all
         × All IsEntry all × IsPermutation (item_names all) names) }
+    ensures fault { IsErrOf result call_failed → GivesFault I.next_gives items }
 {
     let mut names = listed_names(alloc, items)?;
     names.sort()?;
@@ -36,8 +37,9 @@ pub(crate) fn listed_names<R: Files + Drop, I: Iterator<Item = io::Result<DirEnt
 ) -> Result<Vec<Txt>, HostError>
     requires can { I.can_next items }
     requires ends { IsFinite (I.remaining items) }
-    ensures { IfOk result (λ names. (all : _) × Drains I.next_gives items all
+    ensures listed { IfOk result (λ names. (all : _) × Drains I.next_gives items all
         × All IsEntry all × (names.items ≡ item_names all)) }
+    ensures fault { IsErrOf result call_failed → GivesFault I.next_gives items }
 {
     let mut names = Vec::new(alloc);
     for item in items {
