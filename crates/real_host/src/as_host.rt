@@ -1,9 +1,11 @@
 //! The host that the program works on: the working folder, standard output and `restarts.log`.
-ghost use Rattle.std.specs.Prelude.{◌≡◌, ◌≤◌, length, None, OnOk, OnErr, IsErrOf};
+ghost use Rattle.std.specs.Prelude.{◌≡◌, ◌≤◌, length, None, IfOk, IsErr, OnOk, OnErr, IsErrOf, IsSorted};
 ghost use Rattle.host_core.specs.Counts.{Rose, Counts, InputMayRise, DiskMayRise, PrintMayRise, ServiceMayRise};
 ghost use Rattle.host_core.specs.Faults.{no_faults, input_fault, disk_fault, print_fault, service_fault};
-ghost use Rattle.host_core.specs.Names.{longest_file_name};
+ghost use Rattle.host_core.specs.Names.{longest_file_name, name_cmp};
 ghost use Rattle.host_core.specs.declared.errors.HostError.TheVariants.{Failed as call_failed};
+ghost use Rattle.real_host.specs.Inputs.{IsWithin};
+ghost use Rattle.real_host.specs.Names.{IsPlainName};
 
 use crate::folder::{
     file_bytes, file_names, input_bytes, log_restart, remove_file, rename_file, settle_files,
@@ -25,7 +27,8 @@ pub struct RealHost<R> {
 impl<R: Files + Print + AllocGlobal + Clone + Drop> RealHost<R> {
     /// The host of a runtime, with no faults so far.
     pub fn new(rt: R) -> Self
-        ensures { result.counts ≡ no_faults }
+        ensures counts { result.counts ≡ no_faults }
+        ensures runtime { result.rt ≡ rt }
     {
         RealHost {
             rt,
@@ -35,6 +38,7 @@ impl<R: Files + Print + AllocGlobal + Clone + Drop> RealHost<R> {
 
     /// Counts a fault of the disk where a call failed.
     fn count_disk(&mut self, done: Result<(), Failed>) -> Result<(), Failed>
+        ensures answer { result ≡ done }
         ensures ok { OnOk result (self.new.counts ≡ self.old.counts) }
         ensures err { OnErr result (self.new.counts ≡ disk_fault self.old.counts) }
         ensures counts { DiskMayRise self.old.counts self.new.counts }
@@ -80,6 +84,7 @@ impl<R: Files + Print + AllocGlobal + Clone + Drop> Host for RealHost<R> {
         ensures failed { IsErrOf result call_failed
             → self.new.counts ≡ input_fault self.old.counts }
         ensures not_failed { ¬ IsErrOf result call_failed → self.new.counts ≡ self.old.counts }
+        ensures limit { IfOk result (IsWithin limit) }
     {
         let answer = input_bytes(&self.rt, alloc, path, limit);
         if let Err(HostError::Failed) = &answer {
@@ -95,6 +100,7 @@ impl<R: Files + Print + AllocGlobal + Clone + Drop> Host for RealHost<R> {
             → Rose self.old.counts.disk self.new.counts.disk }
         ensures failed { IsErrOf result call_failed → self.new.counts ≡ disk_fault self.old.counts }
         ensures not_failed { ¬ IsErrOf result call_failed → self.new.counts ≡ self.old.counts }
+        ensures sorted { IfOk result (IsSorted name_cmp) }
     {
         let answer = file_names(&self.rt, alloc);
         if let Err(HostError::Failed) = &answer {
@@ -112,6 +118,7 @@ impl<R: Files + Print + AllocGlobal + Clone + Drop> Host for RealHost<R> {
             → Rose self.old.counts.disk self.new.counts.disk }
         ensures failed { IsErrOf result call_failed → self.new.counts ≡ disk_fault self.old.counts }
         ensures not_failed { ¬ IsErrOf result call_failed → self.new.counts ≡ self.old.counts }
+        ensures refused { ¬ IsPlainName name.now → IsErrOf result call_failed }
     {
         let answer = file_bytes(&self.rt, alloc, name);
         if let Err(HostError::Failed) = &answer {
@@ -127,6 +134,7 @@ impl<R: Files + Print + AllocGlobal + Clone + Drop> Host for RealHost<R> {
         ensures cause { OnErr result (Rose self.old.counts.disk self.new.counts.disk) }
         ensures not_failed { OnOk result (self.new.counts ≡ self.old.counts) }
         ensures failed { OnErr result (self.new.counts ≡ disk_fault self.old.counts) }
+        ensures refused { ¬ IsPlainName name.now → IsErr result }
     {
         let done = write_file(&self.rt, name, bytes);
         self.count_disk(done)
@@ -139,6 +147,7 @@ impl<R: Files + Print + AllocGlobal + Clone + Drop> Host for RealHost<R> {
         ensures cause { OnErr result (Rose self.old.counts.disk self.new.counts.disk) }
         ensures not_failed { OnOk result (self.new.counts ≡ self.old.counts) }
         ensures failed { OnErr result (self.new.counts ≡ disk_fault self.old.counts) }
+        ensures refused { ¬ IsPlainName name.now → IsErr result }
     {
         let done = sync_file(&self.rt, name);
         self.count_disk(done)
@@ -152,6 +161,8 @@ impl<R: Files + Print + AllocGlobal + Clone + Drop> Host for RealHost<R> {
         ensures cause { OnErr result (Rose self.old.counts.disk self.new.counts.disk) }
         ensures not_failed { OnOk result (self.new.counts ≡ self.old.counts) }
         ensures failed { OnErr result (self.new.counts ≡ disk_fault self.old.counts) }
+        ensures refused_from { ¬ IsPlainName from.now → IsErr result }
+        ensures refused_to { ¬ IsPlainName to.now → IsErr result }
     {
         let done = rename_file(&self.rt, from, to);
         self.count_disk(done)
@@ -164,6 +175,7 @@ impl<R: Files + Print + AllocGlobal + Clone + Drop> Host for RealHost<R> {
         ensures cause { OnErr result (Rose self.old.counts.disk self.new.counts.disk) }
         ensures not_failed { OnOk result (self.new.counts ≡ self.old.counts) }
         ensures failed { OnErr result (self.new.counts ≡ disk_fault self.old.counts) }
+        ensures refused { ¬ IsPlainName name.now → IsErr result }
     {
         let done = remove_file(&self.rt, name);
         self.count_disk(done)

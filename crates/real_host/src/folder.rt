@@ -1,8 +1,20 @@
 //! The files of the working folder. A call that a signal interrupts is tried again: here where std does
 //! not do so itself, which opens, writes and syncs again, and `reading.rt`, which reads again.
 
+ghost use Rattle.std.specs.Prelude.{◌≡◌, ◌↔◌, IsTrue, IsErr, IfOk, IfErr, OnOk, OnErr, Ok, Err, Some, None, is_ok, string_bytes, filter, IsSorted};
+ghost use Rattle.std.specs.IoError.{error_kind};
+ghost use Rattle.host_core.specs.Names.{name_cmp};
+ghost use Rattle.host_core.specs.declared.errors.HostError.TheVariants.{Failed as call_failed, Memory as no_memory};
+ghost use Rattle.real_host.specs.Calls.{AreDone, AnyFails};
+ghost use Rattle.real_host.specs.Errors.{IsMissing};
+ghost use Rattle.real_host.specs.Inputs.{IsWithin};
+ghost use Rattle.real_host.specs.Names.{AreDots, IsPlainName, is_scratch_name};
+ghost use Rattle.real_host.specs.Requests.{restart_request};
+ghost use Rattle.real_host.specs.Turns.{IsInterrupted, AnswersInTurns};
+
+use crate::listing::{listed_names, sorted_names};
 use crate::reading::{host_error, read_input, read_whole};
-use host_core::{Failed, HostError, Input, Names, Sequence, Txt};
+use host_core::{Failed, HostError, Input, Names, Txt};
 use std::alloc::Global;
 use std::fs::{File, OpenFile, OpenOptions, ReadDir};
 use std::io::{ErrorKind, Write};
@@ -18,13 +30,18 @@ const SCRATCH_END: &str = "tmp.new";
 /// The folder itself.
 const FOLDER: &str = ".";
 
+/// How often a call is made at most that a signal interrupts.
+const MOST_CALLS: u64 = u64::MAX;
+
 /// What the input at a path holds.
 pub(crate) fn input_bytes<R: Files>(
     rt: &R,
     alloc: Global,
     path: &str,
     limit: u64,
-) -> Result<Input, HostError> {
+) -> Result<Input, HostError>
+    ensures { IfOk result (IsWithin limit) }
+{
     match open_there(rt, path)? {
         None => Ok(Input::Absent),
         Some(mut file) => read_input(alloc, &mut file, limit),
@@ -36,7 +53,9 @@ pub(crate) fn file_bytes<R: Files>(
     rt: &R,
     alloc: Global,
     name: &str,
-) -> Result<Option<Vec<u8>>, HostError> {
+) -> Result<Option<Vec<u8>>, HostError>
+    ensures { ¬ IsPlainName name.now → result ≡ Err call_failed }
+{
     if !is_plain(name) {
         return Err(HostError::Failed);
     }
@@ -50,18 +69,19 @@ pub(crate) fn file_bytes<R: Files>(
 pub(crate) fn file_names<R: Files + AllocGlobal + Clone + Drop>(
     rt: &R,
     alloc: Global,
-) -> Result<Names, HostError> {
-    let mut names = unsorted_names(rt, alloc)?;
-    names.sort()?;
-    let mut all = Sequence::new(alloc);
-    for name in names {
-        all.push(Txt::from(name))?;
+) -> Result<Names, HostError>
+    ensures { IfOk result (IsSorted name_cmp) }
+{
+    match open_folder(rt) {
+        Ok(entries) => sorted_names(alloc, entries),
+        Err(error) => Err(host_error(&error)),
     }
-    Ok(all)
 }
 
 /// Writes a file whole.
-pub(crate) fn write_file<R: Files>(rt: &R, name: &str, bytes: &[u8]) -> Result<(), Failed> {
+pub(crate) fn write_file<R: Files>(rt: &R, name: &str, bytes: &[u8]) -> Result<(), Failed>
+    ensures { ¬ IsPlainName name.now → IsErr result }
+{
     if !is_plain(name) {
         return Err(Failed);
     }
@@ -69,7 +89,9 @@ pub(crate) fn write_file<R: Files>(rt: &R, name: &str, bytes: &[u8]) -> Result<(
 }
 
 /// Syncs the bytes of a file.
-pub(crate) fn sync_file<R: Files>(rt: &R, name: &str) -> Result<(), Failed> {
+pub(crate) fn sync_file<R: Files>(rt: &R, name: &str) -> Result<(), Failed>
+    ensures { ¬ IsPlainName name.now → IsErr result }
+{
     if !is_plain(name) {
         return Err(Failed);
     }
@@ -80,7 +102,10 @@ pub(crate) fn sync_file<R: Files>(rt: &R, name: &str) -> Result<(), Failed> {
 }
 
 /// Gives a file another name.
-pub(crate) fn rename_file<R: Files>(rt: &R, from: &str, to: &str) -> Result<(), Failed> {
+pub(crate) fn rename_file<R: Files>(rt: &R, from: &str, to: &str) -> Result<(), Failed>
+    ensures from { ¬ IsPlainName from.now → IsErr result }
+    ensures to { ¬ IsPlainName to.now → IsErr result }
+{
     if !is_plain(from) || !is_plain(to) {
         return Err(Failed);
     }
@@ -88,7 +113,9 @@ pub(crate) fn rename_file<R: Files>(rt: &R, from: &str, to: &str) -> Result<(), 
 }
 
 /// Removes a file.
-pub(crate) fn remove_file<R: Files>(rt: &R, name: &str) -> Result<(), Failed> {
+pub(crate) fn remove_file<R: Files>(rt: &R, name: &str) -> Result<(), Failed>
+    ensures { ¬ IsPlainName name.now → IsErr result }
+{
     if !is_plain(name) {
         return Err(Failed);
     }
@@ -97,18 +124,34 @@ pub(crate) fn remove_file<R: Files>(rt: &R, name: &str) -> Result<(), Failed> {
 
 /// Syncs each file that may have been written and not synced, and then the folder.
 pub(crate) fn settle_files<R: Files + AllocGlobal + Clone + Drop>(rt: &R) -> Result<(), Failed> {
-    let Ok(names) = unsorted_names(rt, rt.alloc()) else {
+    let Ok(entries) = open_folder(rt) else {
         return Err(Failed);
     };
-    for name in &names {
-        if name.ends_with(SCRATCH_END) {
-            sync_file(rt, name.as_str())?;
-        }
-    }
+    let Ok(names) = listed_names(rt.alloc(), entries) else {
+        return Err(Failed);
+    };
+    each_scratch(&names, |name| sync_file(rt, name))?;
     match File::open(rt, FOLDER) {
         Ok(folder) => done(folder.sync_all()),
         Err(_) => Err(Failed),
     }
+}
+
+/// Makes a call for each file of the names that may have been written and not synced, until one fails.
+fn each_scratch<F: FnMut(&str) -> Result<(), Failed>>(
+    names: &[Txt],
+    mut call: F,
+) -> Result<(), Failed>
+    requires { F.IsAlwaysCallable call }
+    ensures done { OnOk result (AreDone F.FnMut call (filter is_scratch_name names.now)) }
+    ensures failed { OnErr result (AnyFails F.FnMut call (filter is_scratch_name names.now)) }
+{
+    for name in names {
+        if is_scratch(name.as_str()) {
+            call(name.as_str())?;
+        }
+    }
+    Ok(())
 }
 
 /// Appends the request of a restart to the log.
@@ -126,73 +169,78 @@ pub(crate) fn log_restart<R: Files + AllocGlobal>(rt: &R, service: &str) -> Resu
     }
 }
 
-fn restart_line(alloc: Global, service: &str) -> Result<String, HostError> {
+/// The line that requests the restart of a service.
+fn restart_line(alloc: Global, service: &str) -> Result<String, HostError>
+    ensures line { IfOk result (λ line. string_bytes line ≡ restart_request service.now) }
+    ensures starved { IfErr result (λ e. e ≡ no_memory) }
+{
     let mut line = String::from_str(alloc, "restart ")?;
     line.push_str(service)?;
     line.push('\n')?;
     Ok(line)
 }
 
-/// The names in the folder that are UTF-8.
-fn unsorted_names<R: Files + AllocGlobal + Clone + Drop>(
-    rt: &R,
-    alloc: Global,
-) -> Result<Vec<String>, HostError> {
-    let entries = match open_folder(rt) {
-        Ok(entries) => entries,
-        Err(error) => return Err(host_error(&error)),
-    };
-    let mut names = Vec::new(alloc);
-    for entry in entries {
-        match entry {
-            Ok(entry) => names.push(String::from_str(alloc, entry.file_name())?)?,
-            Err(error) if error.kind() == ErrorKind::InvalidFilename => {}
-            Err(error) => return Err(host_error(&error)),
-        }
-    }
-    Ok(names)
-}
-
-fn open_folder<R: Files + AllocGlobal + Clone + Drop>(rt: &R) -> io::Result<ReadDir<R>> {
-    for _ in 0..u64::MAX {
-        match fs::read_dir(rt, FOLDER) {
-            Ok(entries) => return Ok(entries),
-            Err(error) if is_interrupted(&error) => {}
-            Err(error) => return Err(error),
-        }
-    }
-    Err(io::Error::from(ErrorKind::Interrupted))
-}
-
 /// The file at a path, or None where there is none: where the path names nothing, or leads through
 /// something that is no folder.
-fn open_there<R: Files>(rt: &R, path: &str) -> Result<Option<R::File>, HostError> {
-    match File::open(rt, path) {
+fn open_there<R: Files>(rt: &R, path: &str) -> Result<Option<R::File>, HostError>
+    ensures { IfErr result (λ e. e ≡ call_failed) }
+{
+    there(File::open(rt, path))
+}
+
+/// What was opened, or None where there is none.
+fn there<T>(opened: io::Result<T>) -> Result<Option<T>, HostError>
+    ensures found { IfOk opened (λ file. result ≡ Ok (Some file)) }
+    ensures missing { IfErr opened (λ e. IsMissing (error_kind e) → result ≡ Ok None) }
+    ensures failed { IfErr opened (λ e. ¬ IsMissing (error_kind e) → result ≡ Err call_failed) }
+    ensures fault { IfErr result (λ e. e ≡ call_failed) }
+{
+    match opened {
         Ok(file) => Ok(Some(file)),
         Err(error) if is_missing(&error) => Ok(None),
         Err(_) => Err(HostError::Failed),
     }
 }
 
-/// The answer of a call, tried again as long as a signal interrupts it.
-fn again<T: Drop, F: Fn() -> io::Result<T>>(call: F) -> io::Result<T>
-    requires { F.IsAlwaysCallable call }
-{
-    for _ in 0..u64::MAX {
-        match call() {
-            Ok(value) => return Ok(value),
-            Err(error) if is_interrupted(&error) => {}
-            Err(error) => return Err(error),
+/// The listing of the folder.
+fn open_folder<R: Files + AllocGlobal + Clone + Drop>(rt: &R) -> io::Result<ReadDir<R>> {
+    for _turn in 1..MOST_CALLS {
+        let listing = fs::read_dir(rt, FOLDER);
+        if !is_interrupted(&listing) {
+            return listing;
         }
     }
-    Err(io::Error::from(ErrorKind::Interrupted))
+    fs::read_dir(rt, FOLDER)
 }
 
-fn is_interrupted(error: &io::Error) -> bool {
-    error.kind() == ErrorKind::Interrupted
+/// The answer of a call, made again as long as a signal interrupts it.
+fn again<T: Drop, F: FnMut() -> io::Result<T>>(mut call: F) -> io::Result<T>
+    requires { F.IsAlwaysCallable call }
+    ensures { AnswersInTurns F.step MOST_CALLS call result }
+{
+    for _turn in 1..MOST_CALLS {
+        let answer = call();
+        if !is_interrupted(&answer) {
+            return answer;
+        }
+    }
+    call()
 }
 
-fn done(answer: io::Result<()>) -> Result<(), Failed> {
+/// Whether a signal interrupted a call.
+fn is_interrupted<T>(answer: &io::Result<T>) -> bool
+    ensures { IsTrue result ↔ IsInterrupted answer.now }
+{
+    match answer {
+        Ok(_) => false,
+        Err(error) => error.kind() == ErrorKind::Interrupted,
+    }
+}
+
+/// Whether a call was done.
+fn done(answer: io::Result<()>) -> Result<(), Failed>
+    ensures { is_ok result ≡ is_ok answer }
+{
     match answer {
         Ok(()) => Ok(()),
         Err(_) => Err(Failed),
@@ -200,10 +248,29 @@ fn done(answer: io::Result<()>) -> Result<(), Failed> {
 }
 
 /// Whether a name is one of the folder, and no path.
-fn is_plain(name: &str) -> bool {
-    !name.is_empty() && name != "." && name != ".." && !name.contains('/')
+fn is_plain(name: &str) -> bool
+    ensures { IsTrue result ↔ IsPlainName name.now }
+{
+    !name.is_empty() && !are_dots(name) && !name.as_bytes().contains(&b'/')
 }
 
-fn is_missing(error: &io::Error) -> bool {
+/// Whether a name is that of the folder itself or of the one above.
+fn are_dots(name: &str) -> bool
+    ensures { IsTrue result ↔ AreDots name.now }
+{
+    name == "." || name == ".."
+}
+
+/// Whether the file of a name may have been written and not synced.
+fn is_scratch(name: &str) -> bool
+    ensures { result ≡ is_scratch_name name.now }
+{
+    name.as_bytes().ends_with(SCRATCH_END.as_bytes())
+}
+
+/// Whether an error says that there is no file at the path.
+fn is_missing(error: &io::Error) -> bool
+    ensures { IsTrue result ↔ IsMissing (error_kind error.now) }
+{
     error.kind() == ErrorKind::NotFound || error.kind() == ErrorKind::NotADirectory
 }

@@ -4,6 +4,7 @@
 mod as_host;
 mod command_line;
 mod folder;
+mod listing;
 mod reading;
 #[cfg(test)]
 mod tests;

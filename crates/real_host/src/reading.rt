@@ -1,8 +1,13 @@
 //! Reading the bytes of a file, up to a limit.
-ghost use Rattle.std.specs.Prelude.{◌≡◌, ◌≤◌, ◌<◌, ◌*◌, ◌+◌, ◌++◌, ◌⊎◌, ℕ, List, true, false, length, take, IfOk, IfSome, OnOk, Some, vec_len};
+ghost use Rattle.std.specs.Prelude.{◌≡◌, ◌≢◌, ◌≤◌, ◌<◌, ◌*◌, ◌+◌, ◌++◌, ◌⊎◌, ℕ, List, true, false, length, take, IfOk, IfErr, IfSome, OnOk, Some, vec_len};
 ghost use Rattle.std.specs.Io.{ReadsAtMost};
 ghost use Rattle.std.specs.Io.KnownBytes.{Consumes, IsAtEnd};
+ghost use Rattle.std.specs.IoError.{error_kind};
 ghost use Rattle.host_core.specs.Inputs.{within};
+ghost use Rattle.host_core.specs.declared.errors.HostError.TheVariants.{Failed as call_failed};
+ghost use Rattle.host_core.specs.declared.host_calls.Input.TheVariants.{Absent};
+ghost use Rattle.real_host.specs.Errors.{TellsError};
+ghost use Rattle.real_host.specs.Inputs.{IsWithin};
 
 use host_core::{HostError, Input, Sequence};
 use std::alloc::Global;
@@ -21,8 +26,10 @@ pub(crate) fn read_input<F: Read>(
     file: &mut F,
     limit: u64,
 ) -> Result<Input, HostError>
-    ensures { IfOk result (λ i. IfSome (F.remaining file.old)
+    ensures bytes { IfOk result (λ i. IfSome (F.remaining file.old)
         (λ bytes. i ≡ within limit (Some bytes))) }
+    ensures limit { IfOk result (IsWithin limit) }
+    ensures there { IfOk result (λ i. i ≢ Absent) }
 {
     let bytes = read_up_to(alloc, file, limit.saturating_add(1))?;
     if bytes.len() as u64 > limit {
@@ -106,6 +113,7 @@ fn read_once<F: Read>(file: &mut F, piece: &mut [u8]) -> Result<usize, HostError
         (λ n. Consumes (F.remaining file.old) (F.remaining file.new) (take n piece.new)) }
     ensures end { IfOk result
         (λ n. n ≡ 0 → 0 < length piece.old → IsAtEnd (F.remaining file.new)) }
+    ensures fault { IfErr result (λ e. e ≡ call_failed) }
 {
     for _ in 0..u64::MAX {
         match file.read(piece) {
@@ -118,7 +126,9 @@ fn read_once<F: Read>(file: &mut F, piece: &mut [u8]) -> Result<usize, HostError
 }
 
 /// What the host tells of an error.
-pub(crate) fn host_error(error: &io::Error) -> HostError {
+pub(crate) fn host_error(error: &io::Error) -> HostError
+    ensures { TellsError (error_kind error.now) result }
+{
     if error.kind() == ErrorKind::OutOfMemory {
         HostError::Memory
     } else {

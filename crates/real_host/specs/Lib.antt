@@ -1,0 +1,9 @@
+-- what public clauses cite
+pub mod Names
+pub mod Inputs
+-- what only private clauses cite
+pub mod Calls
+pub mod Errors
+pub mod Listings
+pub mod Requests
+pub mod Turns

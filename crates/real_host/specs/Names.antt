@@ -1,0 +1,20 @@
+-- The names of files in the working folder.
+use Rattle.std.specs.Prelude.{◌≡◌, ◌≢◌, ◌⊎◌, ℕ, Bool, List, [], codes, IsFalse, nat_eq, ◌==◌}
+use Rattle.std.specs.List.{list_any, ends_with}
+
+-- what parts the names of a path
+abbrev pub slash : ℕ
+slash = 47
+
+-- dot and dot-dot, which name the folder and the one above
+abbrev pub AreDots : List ℕ → Type 0
+AreDots name = (name ≡ codes ".") ⊎ (name ≡ codes "..")
+
+-- a filename (POSIX, 3.170) but these
+abbrev pub IsPlainName : List ℕ → Type 0
+IsPlainName name =
+    (name ≢ []) × (¬ AreDots name) × IsFalse (list_any (λ b. b == slash) name)
+
+-- the file of that name may have been written and not synced
+abbrev pub is_scratch_name : List ℕ → Bool
+is_scratch_name name = ends_with nat_eq name (codes "tmp.new")
