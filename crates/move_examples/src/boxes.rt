@@ -30,21 +30,27 @@ pub struct Boxes<'a> {
 
 impl<'a> Table for Boxes<'a> {
     fn is_as_said(&self, alloc: Global, row: &Value) -> Result<bool, Fail> {
-        ask_full(alloc, self, row)
+        let situation = situation_at(alloc, self.inputs, row)?;
+        ask_full(alloc, self, &situation, row)
     }
 }
 
 impl<'a> KitTable for Boxes<'a> {
-    fn is_said_by(&self, alloc: Global, kit: &mut Kit, row: &Value) -> Result<bool, Fail> {
-        let situation = situation_at(alloc, self.inputs, row)?;
-        let generated = generated_lines(alloc, &situation, kit)?;
+    fn is_said_by(
+        &self,
+        alloc: Global,
+        kit: &mut Kit,
+        situation: &Situation,
+        row: &Value,
+    ) -> Result<bool, Fail> {
+        let generated = generated_lines(alloc, situation, kit)?;
         let same = are_lines(alloc, generated, items_at(row, "generated")?)?;
-        let moves = listed_moves(alloc, &situation, kit)?;
+        let moves = listed_moves(alloc, situation, kit)?;
         let said = items_at(row, "moves")?;
-        let followed = are_followed(alloc, &situation, kit, moves.items(), said)?;
+        let followed = are_followed(alloc, situation, kit, moves.items(), said)?;
         kit.begin(&situation.ctx);
-        let judged = are_judged(alloc, &situation, kit, moves.items(), said)?;
-        Ok(same && moves.len() == said.len() && followed && judged)
+        let judged = are_judged(alloc, situation, kit, moves.items(), said)?;
+        Ok(same && followed && judged)
     }
 }
 
@@ -97,7 +103,12 @@ fn listed_moves(alloc: Global, situation: &Situation, kit: &mut Kit) -> Result<M
     ensures kinds { ⟦<Kit as KitBoxes>⟧.HasKinds kit.new }
     ensures defined { IfOk result (All (IsDefined situation.now.cur)) }
 {
-    let Situation { ctx, start, cur, goal } = situation;
+    let Situation {
+        ctx,
+        start,
+        cur,
+        goal,
+    } = situation;
     listed_moves_are_defined();
     let _tables = cur.len();
     Ok(listed(alloc, ctx, kit, start, cur, goal)?)
@@ -116,12 +127,13 @@ fn are_followed(
     requires defined { All (IsDefined situation.now.cur) moves.now }
     ensures kinds { ⟦<Kit as KitBoxes>⟧.HasKinds kit.new }
 {
-    for (mv, row) in moves.iter().zip(said) {
-        if !is_followed(alloc, situation, kit, mv, row)? {
-            return Ok(false);
+    match (moves, said) {
+        ([mv, rest @ ..], [row, others @ ..]) => {
+            let followed = is_followed(alloc, situation, kit, mv, row)?;
+            Ok(are_followed(alloc, situation, kit, rest, others)? && followed)
         }
+        _ => Ok(moves.len() == said.len()),
     }
-    Ok(true)
 }
 
 /// Whether a move is that of its row, with its extensions where they are said.
@@ -188,12 +200,13 @@ fn are_judged(
     requires ready { IsReady situation.now }
     requires defined { All (IsDefined situation.now.cur) moves.now }
 {
-    for (mv, row) in moves.iter().zip(said) {
-        if !is_judged(alloc, situation, kit, mv, row)? {
-            return Ok(false);
+    match (moves, said) {
+        ([mv, rest @ ..], [row, others @ ..]) => {
+            let judged = is_judged(alloc, situation, kit, mv, row)?;
+            Ok(are_judged(alloc, situation, kit, rest, others)? && judged)
         }
+        _ => Ok(moves.len() == said.len()),
     }
-    Ok(true)
 }
 
 /// Whether the rules answer of a move what its row says.

@@ -29,7 +29,8 @@ pub fn read_inputs<R: Files + AllocGlobal>(rt: &R, file: &str) -> Result<Value, 
 pub fn models_at(alloc: Global, inputs: &Value, row: &Value) -> Result<Models, Fail> {
     let lists = inputs.get("models").ok_or(Fail::Row)?;
     let names = items_at(lists, text_at(row, "models")?)?;
-    let texts = read_texts(alloc, inputs, names)?;
+    let texts = inputs.get("texts").ok_or(Fail::Row)?;
+    let texts = read_texts(alloc, texts, Sequence::new(alloc), names)?;
     if texts.len() > MOST_FILES {
         return Err(Fail::Row);
     }
@@ -40,18 +41,20 @@ pub fn models_at(alloc: Global, inputs: &Value, row: &Value) -> Result<Models, F
     }
 }
 
-/// The statements of some texts.
-fn read_texts(alloc: Global, inputs: &Value, names: &[Value]) -> Result<Texts, Fail>
+/// The statements of the texts of some names, behind those that were read before.
+fn read_texts(alloc: Global, texts: &Value, mut read: Texts, names: &[Value]) -> Result<Texts, Fail>
+    requires { AreSmall read }
     ensures { IfOk result AreSmall }
 {
-    let texts = inputs.get("texts").ok_or(Fail::Row)?;
-    let mut read = Sequence::new(alloc);
-    for name in names {
-        let name = name.as_str().ok_or(Fail::Row)?;
-        let statements = read_text(alloc, texts, name)?;
-        read.push((Txt::new(alloc, name)?, statements))?;
+    match names {
+        [] => Ok(read),
+        [name, rest @ ..] => {
+            let name = name.as_str().ok_or(Fail::Row)?;
+            let statements = read_text(alloc, texts, name)?;
+            read.push((Txt::new(alloc, name)?, statements))?;
+            read_texts(alloc, texts, read, rest)
+        }
     }
-    Ok(read)
 }
 
 /// The statements of the text of a name.

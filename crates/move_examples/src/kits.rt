@@ -1,37 +1,69 @@
 //! Kits of all boxes, with one or the other first rule.
 ghost use Rattle.std.specs.Prelude.{◌≡◌, IfOk};
 ghost use Rattle.move_core.specs.Kinds.{AreOfKinds, extender_kinds, generator_kinds, rule_kinds};
+ghost use Rattle.move_examples.specs.Situations.{IsReady};
 
+use crate::situations::Situation;
 use example_rows::Fail;
 use host_core::Memory;
 use move_core::{Boxes, Kit, MoveExt, MoveGen, MoveRule};
 use move_extend::{DeleteExt, ReferrersExt, RequiredExt, UpperExt};
 use move_gen::{FieldGen, KeyGen, SeedGen, TableGen};
 use move_rules::{CreateOnlyRule, FullRule, NoDependencyRule, NoEmptyRule, RequiredRule};
+use recheck::RecheckRule;
 use serde_json::Value;
 use std::alloc::Global;
 
 /// What the rows of a table ask a kit.
 pub trait KitTable {
-    /// Whether what the kit gives is what the row says.
-    fn is_said_by(&self, alloc: Global, kit: &mut Kit, row: &Value) -> Result<bool, Fail>
-        requires { ⟦<Kit as Boxes>⟧.HasKinds kit.old };
+    /// Whether what the kit gives in the situation of a row is what the row says.
+    fn is_said_by(
+        &self,
+        alloc: Global,
+        kit: &mut Kit,
+        situation: &Situation,
+        row: &Value,
+    ) -> Result<bool, Fail>
+        requires kinds { ⟦<Kit as Boxes>⟧.HasKinds kit.old }
+        requires ready { IsReady situation.now };
 }
 
 /// Asks a kit whose first rule looks at the whole configuration.
-pub fn ask_full<T: KitTable>(alloc: Global, table: &T, row: &Value) -> Result<bool, Fail> {
+pub fn ask_full<T: KitTable>(
+    alloc: Global,
+    table: &T,
+    situation: &Situation,
+    row: &Value,
+) -> Result<bool, Fail>
+    requires { IsReady situation.now }
+{
     let full = Box::new(alloc, FullRule::new())?;
-    ask_with(alloc, full, table, row)
+    ask_with(alloc, full, table, situation, row)
+}
+
+/// Asks a kit whose first rule looks at what changed.
+pub fn ask_recheck<T: KitTable>(
+    alloc: Global,
+    table: &T,
+    situation: &Situation,
+    row: &Value,
+) -> Result<bool, Fail>
+    requires { IsReady situation.now }
+{
+    let recheck = Box::new(alloc, RecheckRule::new(alloc))?;
+    ask_with(alloc, recheck, table, situation, row)
 }
 
 /// Asks a kit with that first rule.
-pub fn ask_with<T: KitTable>(
+fn ask_with<T: KitTable>(
     alloc: Global,
     full: Box<dyn MoveRule>,
     table: &T,
+    situation: &Situation,
     row: &Value,
 ) -> Result<bool, Fail>
-    requires { rule_kind full ≡ 1 }
+    requires full { rule_kind full ≡ 1 }
+    requires ready { IsReady situation.now }
 {
     let gens = generators(
         alloc,
@@ -56,7 +88,7 @@ pub fn ask_with<T: KitTable>(
         Box::new(alloc, RequiredRule::new())?,
     )?;
     let mut kit = Kit { gens, exts, rules };
-    table.is_said_by(alloc, &mut kit, row)
+    table.is_said_by(alloc, &mut kit, situation, row)
 }
 
 fn generators(

@@ -23,19 +23,25 @@ pub struct Lists<'a> {
 
 impl<'a> Table for Lists<'a> {
     fn is_as_said(&self, alloc: Global, row: &Value) -> Result<bool, Fail> {
-        ask_full(alloc, self, row)
+        let situation = situation_at(alloc, self.inputs, row)?;
+        ask_full(alloc, self, &situation, row)
     }
 }
 
 impl<'a> KitTable for Lists<'a> {
-    fn is_said_by(&self, alloc: Global, kit: &mut Kit, row: &Value) -> Result<bool, Fail> {
-        let situation = situation_at(alloc, self.inputs, row)?;
+    fn is_said_by(
+        &self,
+        alloc: Global,
+        kit: &mut Kit,
+        situation: &Situation,
+        row: &Value,
+    ) -> Result<bool, Fail> {
         let said = items_at(row, "list")?;
-        let first = is_tier(alloc, &situation, kit, 1, said)?;
-        let second = is_tier(alloc, &situation, kit, 2, said)?;
-        let third = is_tier(alloc, &situation, kit, 3, said)?;
-        let fourth = is_tier(alloc, &situation, kit, 4, said)?;
-        Ok(first && second && third && fourth && is_list(alloc, &situation, kit, said)?)
+        let first = is_tier(alloc, situation, kit, 1, said)?;
+        let second = is_tier(alloc, situation, kit, 2, said)?;
+        let third = is_tier(alloc, situation, kit, 3, said)?;
+        let fourth = is_tier(alloc, situation, kit, 4, said)?;
+        Ok(first && second && third && fourth && is_list(alloc, situation, kit, said)?)
     }
 }
 
@@ -53,7 +59,12 @@ fn is_tier(
     requires high { tier ≤ 4 }
     ensures kinds { ⟦<Kit as Boxes>⟧.HasKinds kit.new }
 {
-    let Situation { ctx, start, cur, goal } = situation;
+    let Situation {
+        ctx,
+        start,
+        cur,
+        goal,
+    } = situation;
     let moves = listed_in_tier(alloc, ctx, kit, start, cur, goal, tier)?;
     Ok(move_texts(alloc, &moves)? == said_texts(alloc, said, Some(u64::from(tier)))?)
 }
@@ -68,7 +79,12 @@ fn is_list(
     requires kinds { ⟦<Kit as Boxes>⟧.HasKinds kit.old }
     requires ready { IsReady situation.now }
 {
-    let Situation { ctx, start, cur, goal } = situation;
+    let Situation {
+        ctx,
+        start,
+        cur,
+        goal,
+    } = situation;
     let moves = listed(alloc, ctx, kit, start, cur, goal)?;
     let same = move_texts(alloc, moves.items())? == said_texts(alloc, said, None)?;
     Ok(same && are_ranked(alloc, moves.items(), said)?)

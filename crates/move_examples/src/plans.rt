@@ -29,22 +29,29 @@ const AMPLE: u32 = 10_000;
 
 impl<'a> Table for Plans<'a> {
     fn is_as_said(&self, alloc: Global, row: &Value) -> Result<bool, Fail> {
-        Ok(ask_full(alloc, self, row)? && ask_recheck(alloc, self, row)?)
+        let situation = situation_at(alloc, self.inputs, row)?;
+        let full = ask_full(alloc, self, &situation, row)?;
+        Ok(full && ask_recheck(alloc, self, &situation, row)?)
     }
 }
 
 impl<'a> KitTable for Plans<'a> {
-    fn is_said_by(&self, alloc: Global, kit: &mut Kit, row: &Value) -> Result<bool, Fail> {
-        let situation = situation_at(alloc, self.inputs, row)?;
+    fn is_said_by(
+        &self,
+        alloc: Global,
+        kit: &mut Kit,
+        situation: &Situation,
+        row: &Value,
+    ) -> Result<bool, Fail> {
         let said = said_lines(alloc, row)?;
         if row.get("budget").is_some() {
             let budget = budget_of(number_at(row, "budget")?)?;
-            return Ok(answer(alloc, &situation, kit, budget)? == said);
+            return Ok(answer(alloc, situation, kit, budget)? == said);
         }
         let least = budget_of(number_at(row, "least_budget")?)?;
-        let ample = answer(alloc, &situation, kit, AMPLE)? == said;
-        let enough = answer(alloc, &situation, kit, least)? == said;
-        Ok(ample && enough && is_least(alloc, &situation, kit, least)?)
+        let ample = answer(alloc, situation, kit, AMPLE)? == said;
+        let enough = answer(alloc, situation, kit, least)? == said;
+        Ok(ample && enough && is_least(alloc, situation, kit, least)?)
     }
 }
 
@@ -93,12 +100,7 @@ fn why_line(alloc: Global, why: &str) -> Result<Lines, Fail> {
 }
 
 /// The texts of the steps, or why there is no plan.
-fn answer(
-    alloc: Global,
-    situation: &Situation,
-    kit: &mut Kit,
-    budget: u32,
-) -> Result<Lines, Fail>
+fn answer(alloc: Global, situation: &Situation, kit: &mut Kit, budget: u32) -> Result<Lines, Fail>
     requires kinds { ⟦<Kit as Boxes>⟧.HasKinds kit.old }
     requires ready { IsReady situation.now }
     requires budget { 0 < budget }

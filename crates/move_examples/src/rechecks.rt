@@ -24,23 +24,31 @@ impl<'a> Table for Rechecks<'a> {
         let ctx = ctx_at(alloc, self.inputs, row)?;
         let mut rule = RecheckRule::new(alloc);
         rule.begin(&ctx);
-        for asked in items_at(row, "asked")? {
-            if !answers(alloc, &ctx, &mut rule, asked)? {
-                return Ok(false);
-            }
+        answers_all(alloc, &ctx, &mut rule, items_at(row, "asked")?)
+    }
+}
+
+/// Whether the rule answers of each configuration in turn what is said.
+fn answers_all(
+    alloc: Global,
+    ctx: &Ctx,
+    rule: &mut RecheckRule,
+    asked: &[Value],
+) -> Result<bool, Fail>
+    requires named { IsNamed ctx.now }
+    requires fits { ⟦<RecheckRule as MoveRule>⟧.fits rule.old ctx.now.models }
+{
+    match asked {
+        [] => Ok(true),
+        [first, rest @ ..] => {
+            Ok(answers(alloc, ctx, rule, first)? && answers_all(alloc, ctx, rule, rest)?)
         }
-        Ok(true)
     }
 }
 
 /// Whether the rule answers of a configuration what is said. It is told of a move, and of configurations
 /// beside it, which it doesn't look at.
-fn answers(
-    alloc: Global,
-    ctx: &Ctx,
-    rule: &mut RecheckRule,
-    asked: &Value,
-) -> Result<bool, Fail>
+fn answers(alloc: Global, ctx: &Ctx, rule: &mut RecheckRule, asked: &Value) -> Result<bool, Fail>
     requires named { IsNamed ctx.now }
     requires fits { ⟦<RecheckRule as MoveRule>⟧.fits rule.old ctx.now.models }
     ensures fits { ⟦<RecheckRule as MoveRule>⟧.fits rule.new ctx.now.models }
