@@ -65,21 +65,7 @@ fn ask_with<T: KitTable>(
     requires full { rule_kind full ≡ 1 }
     requires ready { IsReady situation.now }
 {
-    let gens = generators(
-        alloc,
-        Box::new(alloc, TableGen::new())?,
-        Box::new(alloc, KeyGen::new())?,
-        Box::new(alloc, FieldGen::new())?,
-        Box::new(alloc, SeedGen::new())?,
-    )?;
-    let exts = extenders(
-        alloc,
-        Box::new(alloc, UpperExt::new())?,
-        Box::new(alloc, DeleteExt::new())?,
-        Box::new(alloc, ReferrersExt::new())?,
-        Box::new(alloc, RequiredExt::new())?,
-    )?;
-    let rules = rules(
+    let rules = kit_rules(
         alloc,
         full,
         Box::new(alloc, NoDependencyRule::new())?,
@@ -87,11 +73,40 @@ fn ask_with<T: KitTable>(
         Box::new(alloc, CreateOnlyRule::new())?,
         Box::new(alloc, RequiredRule::new())?,
     )?;
+    ask_rules(alloc, rules, table, situation, row)
+}
+
+/// Asks a kit with these rules.
+pub fn ask_rules<T: KitTable>(
+    alloc: Global,
+    rules: Vec<Box<dyn MoveRule>>,
+    table: &T,
+    situation: &Situation,
+    row: &Value,
+) -> Result<bool, Fail>
+    requires rules { AreOfKinds (λ b. (MoveRule-box b).rule_kind b.value) rule_kinds rules.items }
+    requires ready { IsReady situation.now }
+{
+    let gens = kit_generators(
+        alloc,
+        Box::new(alloc, TableGen::new())?,
+        Box::new(alloc, KeyGen::new())?,
+        Box::new(alloc, FieldGen::new())?,
+        Box::new(alloc, SeedGen::new())?,
+    )?;
+    let exts = kit_extenders(
+        alloc,
+        Box::new(alloc, UpperExt::new())?,
+        Box::new(alloc, DeleteExt::new())?,
+        Box::new(alloc, ReferrersExt::new())?,
+        Box::new(alloc, RequiredExt::new())?,
+    )?;
     let mut kit = Kit { gens, exts, rules };
     table.is_said_by(alloc, &mut kit, situation, row)
 }
 
-fn generators(
+/// The generators in the order of their kinds.
+fn kit_generators(
     alloc: Global,
     tables: Box<dyn MoveGen>,
     keys: Box<dyn MoveGen>,
@@ -113,7 +128,8 @@ fn generators(
     Ok(boxes)
 }
 
-fn extenders(
+/// The extenders in the order of their kinds.
+fn kit_extenders(
     alloc: Global,
     upper: Box<dyn MoveExt>,
     delete: Box<dyn MoveExt>,
@@ -135,7 +151,8 @@ fn extenders(
     Ok(boxes)
 }
 
-fn rules(
+/// The rules in the order of their kinds.
+pub fn kit_rules(
     alloc: Global,
     full: Box<dyn MoveRule>,
     no_dependency: Box<dyn MoveRule>,

@@ -2,6 +2,7 @@
 #![tactic(auto)]
 
 mod boxes;
+mod counts;
 mod inputs;
 mod kits;
 mod lists;
@@ -14,6 +15,7 @@ mod rules_files;
 mod situations;
 
 use boxes::Boxes;
+use counts::Counts;
 use example_rows::{Fail, tell};
 use inputs::read_inputs;
 use lists::Lists;
@@ -29,5 +31,6 @@ fn main(rt: HostRuntime) -> Result<(), Fail> {
     tell(&rt, "boxes.json", &Boxes { inputs: &inputs })?;
     tell(&rt, "lists.json", &Lists { inputs: &inputs })?;
     tell(&rt, "plans.json", &Plans { inputs: &inputs })?;
-    tell(&rt, "rechecks.json", &Rechecks { inputs: &inputs })
+    tell(&rt, "rechecks.json", &Rechecks { inputs: &inputs })?;
+    tell(&rt, "counts.json", &Counts { inputs: &inputs })
 }

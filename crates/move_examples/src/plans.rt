@@ -25,7 +25,7 @@ pub struct Plans<'a> {
 }
 
 /// A budget that ends no search of the rows.
-const AMPLE: u32 = 10_000;
+pub const AMPLE: u32 = 10_000;
 
 impl<'a> Table for Plans<'a> {
     fn is_as_said(&self, alloc: Global, row: &Value) -> Result<bool, Fail> {
@@ -99,14 +99,19 @@ fn why_line(alloc: Global, why: &str) -> Result<Lines, Fail> {
     Ok(lines)
 }
 
-/// The texts of the steps, or why there is no plan.
+/// The texts of the steps, or why there is no plan. Fewer configurations are expanded than the budget.
 fn answer(alloc: Global, situation: &Situation, kit: &mut Kit, budget: u32) -> Result<Lines, Fail>
     requires kinds { ⟦<Kit as Boxes>⟧.HasKinds kit.old }
     requires ready { IsReady situation.now }
     requires budget { 0 < budget }
     ensures kinds { ⟦<Kit as Boxes>⟧.HasKinds kit.new }
 {
-    let found = find_plan::<Brand>(alloc, situation, kit, budget, Blank::new(1));
+    let mut expanded = 0;
+    let blank = Blank::new(1);
+    let found = find_plan::<Brand>(alloc, situation, kit, budget, blank, &mut expanded);
+    if expanded >= u64::from(budget) {
+        return why_line(alloc, "too many expanded");
+    }
     match found {
         Ok(plan) => Ok(move_texts(alloc, plan.items())?),
         Err(SearchError::Unorderable) => why_line(alloc, "unorderable"),
@@ -115,13 +120,14 @@ fn answer(alloc: Global, situation: &Situation, kit: &mut Kit, budget: u32) -> R
     }
 }
 
-/// Searches for a plan, and counts the configurations that are expanded in a ledger.
-fn find_plan<L: Ledger>(
+/// Searches for a plan from `cur` to `goal`, and counts the configurations that are expanded.
+pub fn find_plan<L: Ledger>(
     alloc: Global,
     situation: &Situation,
     kit: &mut Kit,
     budget: u32,
     blank: Blank,
+    expanded: &mut u64,
 ) -> Result<Plan, SearchError>
     requires kinds { ⟦<Kit as Boxes>⟧.HasKinds kit.old }
     requires ready { IsReady situation.now }
@@ -134,5 +140,7 @@ fn find_plan<L: Ledger>(
     let Situation { ctx, cur, goal, .. } = situation;
     let (book, share) = blank.open::<L>();
     let mut steps = Steps::new(book, share);
-    search(alloc, ctx, kit, cur, goal, budget, &mut steps)
+    let found = search(alloc, ctx, kit, cur, goal, budget, &mut steps);
+    *expanded = steps.count();
+    found
 }
