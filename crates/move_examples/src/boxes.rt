@@ -5,7 +5,7 @@ ghost use Rattle.move_core.specs.Moves.{IsDefined};
 ghost use Rattle.move_examples.specs.Situations.{IsReady};
 
 use crate::kits::{KitTable, ask_full};
-use crate::move_texts::{Lines, are_lines, line_of, line_with, move_text, place_text, push_word};
+use crate::move_texts::{Lines, are_lines, line_of, move_text, place_text, push_word};
 use crate::ranks::class_name;
 use crate::situations::{Situation, situation_at};
 use conf_doc::Config;
@@ -93,7 +93,11 @@ fn generate(
 fn generated_line(alloc: Global, kind: &str, generated: &Generated) -> Result<Vec<u8>, Fail> {
     let place = place_text(alloc, &generated.place)?;
     let class = class_name(generated.class);
-    line_with(alloc, &[kind, class, place.as_str()], &generated.mv)
+    let mut line = kind.as_bytes().to_vec(alloc)?;
+    push_word(&mut line, class.as_bytes())?;
+    push_word(&mut line, place.as_str().as_bytes())?;
+    push_word(&mut line, &move_text(alloc, &generated.mv)?)?;
+    Ok(line)
 }
 
 /// The list of moves, each of which is defined.
@@ -182,9 +186,15 @@ fn extend(
     let mut out = Vec::new(alloc);
     kit.extend_at(alloc, i, ctx, cur, goal, mv, &mut out)?;
     for extension in &out {
-        lines.push(line_with(alloc, &[KINDS[i]], extension)?)?;
+        lines.push(extension_line(alloc, KINDS[i], extension)?)?;
     }
     Ok(())
+}
+
+fn extension_line(alloc: Global, kind: &str, extension: &Move) -> Result<Vec<u8>, Fail> {
+    let mut line = kind.as_bytes().to_vec(alloc)?;
+    push_word(&mut line, &move_text(alloc, extension)?)?;
+    Ok(line)
 }
 
 /// Whether the rules answer of each move what its row says.

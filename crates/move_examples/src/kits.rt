@@ -37,8 +37,15 @@ pub fn ask_full<T: KitTable>(
 ) -> Result<bool, Fail>
     requires { IsReady situation.now }
 {
-    let full = Box::new(alloc, FullRule::new())?;
-    ask_with(alloc, full, table, situation, row)
+    let rules = kit_rules(
+        alloc,
+        Box::new(alloc, FullRule::new())?,
+        Box::new(alloc, NoDependencyRule::new())?,
+        Box::new(alloc, NoEmptyRule::new())?,
+        Box::new(alloc, CreateOnlyRule::new())?,
+        Box::new(alloc, RequiredRule::new())?,
+    )?;
+    ask_rules(alloc, rules, table, situation, row)
 }
 
 /// Asks a kit whose first rule looks at what changed.
@@ -50,24 +57,9 @@ pub fn ask_recheck<T: KitTable>(
 ) -> Result<bool, Fail>
     requires { IsReady situation.now }
 {
-    let recheck = Box::new(alloc, RecheckRule::new(alloc))?;
-    ask_with(alloc, recheck, table, situation, row)
-}
-
-/// Asks a kit with that first rule.
-fn ask_with<T: KitTable>(
-    alloc: Global,
-    full: Box<dyn MoveRule>,
-    table: &T,
-    situation: &Situation,
-    row: &Value,
-) -> Result<bool, Fail>
-    requires full { rule_kind full ≡ 1 }
-    requires ready { IsReady situation.now }
-{
     let rules = kit_rules(
         alloc,
-        full,
+        Box::new(alloc, RecheckRule::new(alloc))?,
         Box::new(alloc, NoDependencyRule::new())?,
         Box::new(alloc, NoEmptyRule::new())?,
         Box::new(alloc, CreateOnlyRule::new())?,

@@ -25,16 +25,6 @@ pub fn move_texts(alloc: Global, moves: &[Move]) -> Result<Lines, Memory> {
     Ok(texts)
 }
 
-/// A line of some words and a move.
-pub fn line_with(alloc: Global, words: &[&str], mv: &Move) -> Result<Vec<u8>, Fail> {
-    let mut line = Vec::new(alloc);
-    for word in words {
-        push_word(&mut line, word.as_bytes())?;
-    }
-    push_word(&mut line, &move_text(alloc, mv)?)?;
-    Ok(line)
-}
-
 /// A line of what a list has: its texts as they stand, and the compact text of all else.
 pub fn line_of(alloc: Global, list: &Value) -> Result<Vec<u8>, Fail> {
     let mut line = Vec::new(alloc);
