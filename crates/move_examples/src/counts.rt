@@ -14,9 +14,7 @@ use plan_search::SearchError;
 use serde_json::Value;
 use std::alloc::Global;
 use std::cell::Cell;
-use std::marker::Brand;
 use std::rc::Rc;
-use std::sync::ledger::Blank;
 
 /// A row has a situation, how many configurations a search from `cur` to `goal` has `expanded`, and how
 /// often it has `asked` each rule, in the order of their numbers. The rule that looks at the whole
@@ -46,8 +44,7 @@ impl<'a> KitTable for Counts<'a> {
         row: &Value,
     ) -> Result<bool, Fail> {
         let mut expanded = 0;
-        let blank = Blank::new(1);
-        let found = find_plan::<Brand>(alloc, situation, kit, AMPLE, blank, &mut expanded);
+        let found = find_plan(alloc, situation, kit, AMPLE, &mut expanded);
         match found {
             Err(SearchError::Memory) => Err(Fail::Memory),
             _ => Ok(expanded == number_at(row, "expanded")?),

@@ -107,8 +107,7 @@ fn answer(alloc: Global, situation: &Situation, kit: &mut Kit, budget: u32) -> R
     ensures kinds { ⟦<Kit as Boxes>⟧.HasKinds kit.new }
 {
     let mut expanded = 0;
-    let blank = Blank::new(1);
-    let found = find_plan::<Brand>(alloc, situation, kit, budget, blank, &mut expanded);
+    let found = find_plan(alloc, situation, kit, budget, &mut expanded);
     if expanded >= u64::from(budget) {
         return why_line(alloc, "too many expanded");
     }
@@ -120,14 +119,30 @@ fn answer(alloc: Global, situation: &Situation, kit: &mut Kit, budget: u32) -> R
     }
 }
 
-/// Searches for a plan from `cur` to `goal`, and counts the configurations that are expanded.
-pub fn find_plan<L: Ledger>(
+/// Searches for a plan from `cur` to `goal`, and tells how many configurations are expanded.
+pub fn find_plan(
     alloc: Global,
     situation: &Situation,
     kit: &mut Kit,
     budget: u32,
-    blank: Blank,
     expanded: &mut u64,
+) -> Result<Plan, SearchError>
+    requires kinds { ⟦<Kit as Boxes>⟧.HasKinds kit.old }
+    requires ready { IsReady situation.now }
+    requires budget { 0 < budget }
+    ensures kinds { ⟦<Kit as Boxes>⟧.HasKinds kit.new }
+{
+    count_steps::<Brand>(alloc, situation, kit, budget, expanded, Blank::new(1))
+}
+
+/// The same, where the steps are counted in a ledger.
+fn count_steps<L: Ledger>(
+    alloc: Global,
+    situation: &Situation,
+    kit: &mut Kit,
+    budget: u32,
+    expanded: &mut u64,
+    blank: Blank,
 ) -> Result<Plan, SearchError>
     requires kinds { ⟦<Kit as Boxes>⟧.HasKinds kit.old }
     requires ready { IsReady situation.now }
