@@ -1,0 +1,271 @@
+//! What the boxes of a kit give and answer.
+ghost use Rattle.std.specs.Prelude.{◌<◌, All, IfOk};
+ghost use Rattle.move_core.specs.Contexts.{IsResult};
+ghost use Rattle.move_core.specs.Moves.{IsDefined};
+ghost use Rattle.move_examples.specs.Situations.{IsReady};
+
+use crate::kits::{KitTable, ask_full};
+use crate::move_texts::{Lines, are_lines, line_of, move_text, place_text, push_word};
+use crate::ranks::class_name;
+use crate::situations::{Situation, situation_at};
+use conf_doc::Config;
+use example_rows::{Fail, Table, items_at, text_bytes};
+use move_core::{Boxes as KitBoxes, Generated, Kit, Move, Moves, listed_moves_are_defined, step};
+use plan_lists::listed;
+use serde_json::Value;
+use std::alloc::Global;
+
+/// The numbers of the kinds.
+const KINDS: [&str; 5] = ["1", "2", "3", "4", "5"];
+
+/// A row has a situation and what is `generated`, each the number of a generator, the class, the place and
+/// the move. Its `moves` are those of the list. Each has the numbers of the rules that it is `refused` by,
+/// and says where its result is the `same` as before. Where it is there `extensions` has what follows it,
+/// each the number of an extender and the move.
+#[derive(Drop)]
+pub struct Boxes<'a> {
+    /// The models and the rules of the rows.
+    pub inputs: &'a Value,
+}
+
+impl<'a> Table for Boxes<'a> {
+    fn is_as_said(&self, alloc: Global, row: &Value) -> Result<bool, Fail> {
+        let situation = situation_at(alloc, self.inputs, row)?;
+        ask_full(alloc, self, &situation, row)
+    }
+}
+
+impl<'a> KitTable for Boxes<'a> {
+    fn is_said_by(
+        &self,
+        alloc: Global,
+        kit: &mut Kit,
+        situation: &Situation,
+        row: &Value,
+    ) -> Result<bool, Fail> {
+        let generated = generated_lines(alloc, situation, kit)?;
+        let same = are_lines(alloc, generated, items_at(row, "generated")?)?;
+        let moves = listed_moves(alloc, situation, kit)?;
+        let said = items_at(row, "moves")?;
+        let followed = are_followed(alloc, situation, kit, moves.items(), said)?;
+        kit.begin(&situation.ctx);
+        let judged = are_judged(alloc, situation, kit, moves.items(), said)?;
+        Ok(same && followed && judged)
+    }
+}
+
+/// The moves of all generators, a line each.
+fn generated_lines(alloc: Global, situation: &Situation, kit: &mut Kit) -> Result<Lines, Fail>
+    requires kinds { ⟦<Kit as KitBoxes>⟧.HasKinds kit.old }
+    requires ready { IsReady situation.now }
+    ensures kinds { ⟦<Kit as KitBoxes>⟧.HasKinds kit.new }
+{
+    let mut lines = Vec::new(alloc);
+    generate(alloc, situation, kit, 0, &mut lines)?;
+    generate(alloc, situation, kit, 1, &mut lines)?;
+    generate(alloc, situation, kit, 2, &mut lines)?;
+    generate(alloc, situation, kit, 3, &mut lines)?;
+    Ok(lines)
+}
+
+/// Adds the moves of the generator at an index.
+fn generate(
+    alloc: Global,
+    situation: &Situation,
+    kit: &mut Kit,
+    i: usize,
+    lines: &mut Lines,
+) -> Result<(), Fail>
+    requires kinds { ⟦<Kit as KitBoxes>⟧.HasKinds kit.old }
+    requires ready { IsReady situation.now }
+    requires at { i < 4 }
+    ensures kinds { ⟦<Kit as KitBoxes>⟧.HasKinds kit.new }
+{
+    let Situation { ctx, cur, goal, .. } = situation;
+    let mut out = Vec::new(alloc);
+    kit.moves_at(alloc, i, ctx, cur, goal, &mut out)?;
+    for generated in &out {
+        lines.push(generated_line(alloc, KINDS[i], generated)?)?;
+    }
+    Ok(())
+}
+
+fn generated_line(alloc: Global, kind: &str, generated: &Generated) -> Result<Vec<u8>, Fail> {
+    let place = place_text(alloc, &generated.place)?;
+    let class = class_name(generated.class);
+    let mut line = kind.as_bytes().to_vec(alloc)?;
+    push_word(&mut line, class.as_bytes())?;
+    push_word(&mut line, place.as_str().as_bytes())?;
+    push_word(&mut line, &move_text(alloc, &generated.mv)?)?;
+    Ok(line)
+}
+
+/// The list of moves, each of which is defined.
+fn listed_moves(alloc: Global, situation: &Situation, kit: &mut Kit) -> Result<Moves, Fail>
+    requires kinds { ⟦<Kit as KitBoxes>⟧.HasKinds kit.old }
+    requires ready { IsReady situation.now }
+    ensures kinds { ⟦<Kit as KitBoxes>⟧.HasKinds kit.new }
+    ensures defined { IfOk result (All (IsDefined situation.now.cur)) }
+{
+    let Situation {
+        ctx,
+        start,
+        cur,
+        goal,
+    } = situation;
+    listed_moves_are_defined();
+    let _tables = cur.len();
+    Ok(listed(alloc, ctx, kit, start, cur, goal)?)
+}
+
+/// Whether moves are those of the rows, each with its extensions where they are said.
+fn are_followed(
+    alloc: Global,
+    situation: &Situation,
+    kit: &mut Kit,
+    moves: &[Move],
+    said: &[Value],
+) -> Result<bool, Fail>
+    requires kinds { ⟦<Kit as KitBoxes>⟧.HasKinds kit.old }
+    requires ready { IsReady situation.now }
+    requires defined { All (IsDefined situation.now.cur) moves.now }
+    ensures kinds { ⟦<Kit as KitBoxes>⟧.HasKinds kit.new }
+{
+    match (moves, said) {
+        ([mv, rest @ ..], [row, others @ ..]) => {
+            let followed = is_followed(alloc, situation, kit, mv, row)?;
+            Ok(are_followed(alloc, situation, kit, rest, others)? && followed)
+        }
+        _ => Ok(moves.len() == said.len()),
+    }
+}
+
+/// Whether a move is that of its row, with its extensions where they are said.
+fn is_followed(
+    alloc: Global,
+    situation: &Situation,
+    kit: &mut Kit,
+    mv: &Move,
+    row: &Value,
+) -> Result<bool, Fail>
+    requires kinds { ⟦<Kit as KitBoxes>⟧.HasKinds kit.old }
+    requires ready { IsReady situation.now }
+    requires defined { IsDefined situation.now.cur mv.now }
+    ensures kinds { ⟦<Kit as KitBoxes>⟧.HasKinds kit.new }
+{
+    if move_text(alloc, mv)? != text_bytes(alloc, row, "move")? {
+        return Ok(false);
+    }
+    if row.get("extensions").is_none() {
+        return Ok(true);
+    }
+    let mut lines = Vec::new(alloc);
+    extend(alloc, situation, kit, 0, mv, &mut lines)?;
+    extend(alloc, situation, kit, 1, mv, &mut lines)?;
+    extend(alloc, situation, kit, 2, mv, &mut lines)?;
+    extend(alloc, situation, kit, 3, mv, &mut lines)?;
+    are_lines(alloc, lines, items_at(row, "extensions")?)
+}
+
+/// Adds what the extender at an index gives.
+fn extend(
+    alloc: Global,
+    situation: &Situation,
+    kit: &mut Kit,
+    i: usize,
+    mv: &Move,
+    lines: &mut Lines,
+) -> Result<(), Fail>
+    requires kinds { ⟦<Kit as KitBoxes>⟧.HasKinds kit.old }
+    requires ready { IsReady situation.now }
+    requires at { i < 4 }
+    requires defined { IsDefined situation.now.cur mv.now }
+    ensures kinds { ⟦<Kit as KitBoxes>⟧.HasKinds kit.new }
+{
+    let Situation { ctx, cur, goal, .. } = situation;
+    let mut out = Vec::new(alloc);
+    kit.extend_at(alloc, i, ctx, cur, goal, mv, &mut out)?;
+    for extension in &out {
+        lines.push(extension_line(alloc, KINDS[i], extension)?)?;
+    }
+    Ok(())
+}
+
+fn extension_line(alloc: Global, kind: &str, extension: &Move) -> Result<Vec<u8>, Fail> {
+    let mut line = kind.as_bytes().to_vec(alloc)?;
+    push_word(&mut line, &move_text(alloc, extension)?)?;
+    Ok(line)
+}
+
+/// Whether the rules answer of each move what its row says.
+fn are_judged(
+    alloc: Global,
+    situation: &Situation,
+    kit: &mut Kit,
+    moves: &[Move],
+    said: &[Value],
+) -> Result<bool, Fail>
+    requires kinds { ⟦<Kit as KitBoxes>⟧.HasKinds kit.old }
+    requires fits { ⟦<Kit as KitBoxes>⟧.IsFit kit.old situation.now.ctx.models }
+    requires ready { IsReady situation.now }
+    requires defined { All (IsDefined situation.now.cur) moves.now }
+{
+    match (moves, said) {
+        ([mv, rest @ ..], [row, others @ ..]) => {
+            let judged = is_judged(alloc, situation, kit, mv, row)?;
+            Ok(are_judged(alloc, situation, kit, rest, others)? && judged)
+        }
+        _ => Ok(moves.len() == said.len()),
+    }
+}
+
+/// Whether the rules answer of a move what its row says.
+fn is_judged(
+    alloc: Global,
+    situation: &Situation,
+    kit: &mut Kit,
+    mv: &Move,
+    row: &Value,
+) -> Result<bool, Fail>
+    requires kinds { ⟦<Kit as KitBoxes>⟧.HasKinds kit.old }
+    requires fits { ⟦<Kit as KitBoxes>⟧.IsFit kit.old situation.now.ctx.models }
+    requires ready { IsReady situation.now }
+    requires defined { IsDefined situation.now.cur mv.now }
+    ensures kinds { ⟦<Kit as KitBoxes>⟧.HasKinds kit.new }
+    ensures fits { ⟦<Kit as KitBoxes>⟧.IsFit kit.new situation.now.ctx.models }
+{
+    let next = step(alloc, &situation.cur, mv)?;
+    let same = next.same(&situation.cur) == row.get("same").is_some();
+    let mut refused = Vec::new(alloc);
+    judge(situation, kit, 0, &next, mv, &mut refused)?;
+    judge(situation, kit, 1, &next, mv, &mut refused)?;
+    judge(situation, kit, 2, &next, mv, &mut refused)?;
+    judge(situation, kit, 3, &next, mv, &mut refused)?;
+    judge(situation, kit, 4, &next, mv, &mut refused)?;
+    let said = line_of(alloc, row.get("refused").ok_or(Fail::Row)?)?;
+    Ok(same && refused == said)
+}
+
+/// Adds the number of the rule at an index, where it says no.
+fn judge(
+    situation: &Situation,
+    kit: &mut Kit,
+    i: usize,
+    next: &Config,
+    mv: &Move,
+    refused: &mut Vec<u8>,
+) -> Result<(), Fail>
+    requires kinds { ⟦<Kit as KitBoxes>⟧.HasKinds kit.old }
+    requires fits { ⟦<Kit as KitBoxes>⟧.IsFit kit.old situation.now.ctx.models }
+    requires ready { IsReady situation.now }
+    requires at { i < 5 }
+    requires next { IsResult situation.now.cur mv.now next.now }
+    ensures kinds { ⟦<Kit as KitBoxes>⟧.HasKinds kit.new }
+    ensures fits { ⟦<Kit as KitBoxes>⟧.IsFit kit.new situation.now.ctx.models }
+{
+    let Situation { ctx, cur, goal, .. } = situation;
+    if !kit.allows_at(i, ctx, cur, next, goal, mv) {
+        push_word(refused, KINDS[i].as_bytes())?;
+    }
+    Ok(())
+}

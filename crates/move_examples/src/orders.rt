@@ -1,0 +1,102 @@
+//! Ranked moves in the order of the list.
+ghost use Rattle.std.specs.Prelude.{◌<◌, IfOk, length};
+
+use crate::ranks::ranked_at;
+use crate::situations::config_at;
+use conf_doc::{Config, Entry, Part, Path, Table as Entries};
+use example_rows::{Fail, Table, items_at, text_at};
+use move_core::{Move, Ranked, cmp_listed};
+use serde_json::Value;
+use std::alloc::Global;
+
+/// A row has `moves` in order. Each has its `tier`, its number of `extensions` and its `class`, what it
+/// does, which is its `action`, and the names of its `place`. What it puts there is what the configuration
+/// `within` has there.
+pub struct Orders;
+
+impl Table for Orders {
+    fn is_as_said(&self, alloc: Global, row: &Value) -> Result<bool, Fail> {
+        let mut ranked = Vec::new(alloc);
+        for item in items_at(row, "moves")? {
+            let mv = move_at(alloc, item)?;
+            ranked.push(ranked_at(item, mv)?)?;
+        }
+        Ok(are_in_order(&ranked))
+    }
+}
+
+/// Whether each two compare as their numbers do.
+pub fn are_in_order(ranked: &[Ranked]) -> bool {
+    for (i, one) in ranked.iter().enumerate() {
+        if !stands_at(ranked, i, one) {
+            return false;
+        }
+    }
+    true
+}
+
+/// Whether a move compares with each one as its number does.
+fn stands_at(ranked: &[Ranked], i: usize, one: &Ranked) -> bool {
+    for (j, other) in ranked.iter().enumerate() {
+        if cmp_listed(one, other) != i.cmp(&j) {
+            return false;
+        }
+    }
+    true
+}
+
+fn move_at(alloc: Global, item: &Value) -> Result<Move, Fail> {
+    let place = items_at(item, "place")?;
+    let path = path_of(alloc, place)?;
+    match text_at(item, "action")? {
+        "add" => Ok(Move::Add(path, part_at(alloc, item, place)?)),
+        "replace" => Ok(Move::Replace(path, part_at(alloc, item, place)?)),
+        "remove" => Ok(Move::Remove(path)),
+        _ => Err(Fail::Row),
+    }
+}
+
+fn path_of(alloc: Global, place: &[Value]) -> Result<Path, Fail> {
+    match place {
+        [table] => Ok(Path::new(alloc, &[name_of(table)?])?),
+        [table, key] => Ok(Path::new(alloc, &[name_of(table)?, name_of(key)?])?),
+        [table, key, field] => {
+            let names = [name_of(table)?, name_of(key)?, name_of(field)?];
+            Ok(Path::new(alloc, &names)?)
+        }
+        _ => Err(Fail::Row),
+    }
+}
+
+/// A name, which isn't empty.
+fn name_of(value: &Value) -> Result<&str, Fail>
+    ensures { IfOk result (λ name. 0 < length name.now) }
+{
+    match value.as_str() {
+        Some(name) if !name.is_empty() => Ok(name),
+        _ => Err(Fail::Row),
+    }
+}
+
+/// What stands at the place in the configuration of the row.
+fn part_at(alloc: Global, item: &Value, place: &[Value]) -> Result<Part, Fail> {
+    let within = config_at(alloc, item, "within")?;
+    match place {
+        [table] => Ok(Part::Table(entries(&within, table)?.copy(alloc)?)),
+        [table, key] => Ok(Part::Entry(fields(&within, table, key)?.copy(alloc)?)),
+        [table, key, field] => {
+            let found = fields(&within, table, key)?.field(name_of(field)?);
+            Ok(Part::Value(found.ok_or(Fail::Row)?.copy(alloc)?))
+        }
+        _ => Err(Fail::Row),
+    }
+}
+
+fn entries<'a>(config: &'a Config, table: &Value) -> Result<&'a Entries, Fail> {
+    config.table(name_of(table)?).ok_or(Fail::Row)
+}
+
+fn fields<'a>(config: &'a Config, table: &Value, key: &Value) -> Result<&'a Entry, Fail> {
+    let found = entries(config, table)?.entry(name_of(key)?);
+    found.ok_or(Fail::Row)
+}

@@ -1,0 +1,161 @@
+//! The first plans, by kits with one and the other first rule.
+ghost use Rattle.std.specs.Prelude.{◌≡◌, ◌<◌, IfOk};
+ghost use Rattle.move_examples.specs.Situations.{IsReady};
+
+use crate::kits::{KitTable, ask_full, ask_recheck};
+use crate::move_texts::{Lines, move_texts};
+use crate::situations::{Situation, situation_at};
+use example_rows::{Fail, Table, number_at};
+use move_core::{Boxes, Kit, Plan};
+use plan_search::{SearchError, Steps, search};
+use serde_json::Value;
+use std::alloc::Global;
+use std::marker::Brand;
+use std::sync::ledger::{Blank, Ledger};
+
+/// A row has a situation and the first `plan` from `cur` to `goal`, or in its place the text `unorderable`,
+/// with the least budget that doesn't end the search, `least_budget`. Where `budget` stands for it, that
+/// one is given alone, and the text `budget` in the place of a plan says that it ends the search. The
+/// kit with a first rule that looks at the whole configuration and the one that looks at what changed
+/// answer the same.
+#[derive(Drop)]
+pub struct Plans<'a> {
+    /// The models and the rules of the rows.
+    pub inputs: &'a Value,
+}
+
+/// A budget that ends no search of the rows.
+pub const AMPLE: u32 = 10_000;
+
+impl<'a> Table for Plans<'a> {
+    fn is_as_said(&self, alloc: Global, row: &Value) -> Result<bool, Fail> {
+        let situation = situation_at(alloc, self.inputs, row)?;
+        let full = ask_full(alloc, self, &situation, row)?;
+        Ok(full && ask_recheck(alloc, self, &situation, row)?)
+    }
+}
+
+impl<'a> KitTable for Plans<'a> {
+    fn is_said_by(
+        &self,
+        alloc: Global,
+        kit: &mut Kit,
+        situation: &Situation,
+        row: &Value,
+    ) -> Result<bool, Fail> {
+        let said = said_lines(alloc, row)?;
+        if row.get("budget").is_some() {
+            let budget = budget_of(number_at(row, "budget")?)?;
+            return Ok(answer(alloc, situation, kit, budget)? == said);
+        }
+        let least = budget_of(number_at(row, "least_budget")?)?;
+        let ample = answer(alloc, situation, kit, AMPLE)? == said;
+        let enough = answer(alloc, situation, kit, least)? == said;
+        Ok(ample && enough && is_least(alloc, situation, kit, least)?)
+    }
+}
+
+/// What the row says: the texts of the steps, or why there is no plan.
+fn said_lines(alloc: Global, row: &Value) -> Result<Lines, Fail> {
+    let mut lines = Vec::new(alloc);
+    match row.get("plan") {
+        Some(Value::String(why)) => lines.push(why.as_bytes().to_vec(alloc)?)?,
+        Some(Value::Array(steps)) => {
+            for step in steps {
+                lines.push(step.to_vec(alloc)?)?;
+            }
+        }
+        _ => return Err(Fail::Row),
+    }
+    Ok(lines)
+}
+
+/// A budget, which is above 0.
+fn budget_of(number: u64) -> Result<u32, Fail>
+    ensures { IfOk result (λ budget. 0 < budget) }
+{
+    match u32::try_from(number) {
+        Ok(budget) if budget > 0 => Ok(budget),
+        _ => Err(Fail::Row),
+    }
+}
+
+/// Whether a budget that is less by one, where there is one, ends the search.
+fn is_least(alloc: Global, situation: &Situation, kit: &mut Kit, least: u32) -> Result<bool, Fail>
+    requires kinds { ⟦<Kit as Boxes>⟧.HasKinds kit.old }
+    requires ready { IsReady situation.now }
+    requires some { 0 < least }
+{
+    if least == 1 {
+        return Ok(true);
+    }
+    let lines = answer(alloc, situation, kit, least - 1)?;
+    Ok(lines == why_line(alloc, "budget")?)
+}
+
+fn why_line(alloc: Global, why: &str) -> Result<Lines, Fail> {
+    let mut lines = Vec::new(alloc);
+    lines.push(why.as_bytes().to_vec(alloc)?)?;
+    Ok(lines)
+}
+
+/// The texts of the steps, or why there is no plan. Fewer configurations are expanded than the budget.
+fn answer(alloc: Global, situation: &Situation, kit: &mut Kit, budget: u32) -> Result<Lines, Fail>
+    requires kinds { ⟦<Kit as Boxes>⟧.HasKinds kit.old }
+    requires ready { IsReady situation.now }
+    requires budget { 0 < budget }
+    ensures kinds { ⟦<Kit as Boxes>⟧.HasKinds kit.new }
+{
+    let mut expanded = 0;
+    let found = find_plan(alloc, situation, kit, budget, &mut expanded);
+    if expanded >= u64::from(budget) {
+        return why_line(alloc, "too many expanded");
+    }
+    match found {
+        Ok(plan) => Ok(move_texts(alloc, plan.items())?),
+        Err(SearchError::Unorderable) => why_line(alloc, "unorderable"),
+        Err(SearchError::Budget(_)) => why_line(alloc, "budget"),
+        Err(SearchError::Memory) => Err(Fail::Memory),
+    }
+}
+
+/// Searches for a plan from `cur` to `goal`, and tells how many configurations are expanded.
+pub fn find_plan(
+    alloc: Global,
+    situation: &Situation,
+    kit: &mut Kit,
+    budget: u32,
+    expanded: &mut u64,
+) -> Result<Plan, SearchError>
+    requires kinds { ⟦<Kit as Boxes>⟧.HasKinds kit.old }
+    requires ready { IsReady situation.now }
+    requires budget { 0 < budget }
+    ensures kinds { ⟦<Kit as Boxes>⟧.HasKinds kit.new }
+{
+    count_steps::<Brand>(alloc, situation, kit, budget, expanded, Blank::new(1))
+}
+
+/// The same, where the steps are counted in a ledger.
+fn count_steps<L: Ledger>(
+    alloc: Global,
+    situation: &Situation,
+    kit: &mut Kit,
+    budget: u32,
+    expanded: &mut u64,
+    blank: Blank,
+) -> Result<Plan, SearchError>
+    requires kinds { ⟦<Kit as Boxes>⟧.HasKinds kit.old }
+    requires ready { IsReady situation.now }
+    requires budget { 0 < budget }
+    requires name { blank.name ≡ L.name }
+    requires parts { blank.parts ≡ L.parts }
+    requires one { blank.parts ≡ 1 }
+    ensures kinds { ⟦<Kit as Boxes>⟧.HasKinds kit.new }
+{
+    let Situation { ctx, cur, goal, .. } = situation;
+    let (book, share) = blank.open::<L>();
+    let mut steps = Steps::new(book, share);
+    let found = search(alloc, ctx, kit, cur, goal, budget, &mut steps);
+    *expanded = steps.count();
+    found
+}

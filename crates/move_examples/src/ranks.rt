@@ -1,0 +1,37 @@
+//! The rank of a listed move, as rows say it.
+use example_rows::{Fail, number_at, text_at};
+use move_core::{Move, Ranked};
+use serde_json::Value;
+
+/// A move with its `tier`, its number of `extensions` and its `class`.
+pub fn ranked_at(row: &Value, mv: Move) -> Result<Ranked, Fail> {
+    let tier = u8::try_from(number_at(row, "tier")?).map_err(|_| Fail::Row)?;
+    let depth = usize::try_from(number_at(row, "extensions")?).map_err(|_| Fail::Row)?;
+    let class = class_named(text_at(row, "class")?)?;
+    Ok(Ranked {
+        tier,
+        depth,
+        class,
+        mv,
+    })
+}
+
+fn class_named(name: &str) -> Result<u8, Fail> {
+    match name {
+        "table" => Ok(0),
+        "key" => Ok(1),
+        "field" => Ok(2),
+        "seed" => Ok(3),
+        _ => Err(Fail::Row),
+    }
+}
+
+/// The name of a class.
+pub fn class_name(class: u8) -> &'static str {
+    match class {
+        0 => "table",
+        1 => "key",
+        2 => "field",
+        _ => "seed",
+    }
+}

@@ -1,0 +1,65 @@
+//! How many entries the first rule checks, where it looks again only at what changed.
+ghost use Rattle.move_core.specs.Contexts.{IsNamed};
+
+use crate::situations::{config_at, ctx_at};
+use conf_doc::Path;
+use example_rows::{Fail, Table, items_at, number_at};
+use move_core::{Ctx, Move, MoveRule};
+use recheck::RecheckRule;
+use serde_json::Value;
+use std::alloc::Global;
+
+/// A row names its `models`, has its `rules` where they aren't those of the inputs, and the configurations
+/// that a rule is `asked` for, one after another. Each is the `config`, whether the rule says yes, which is
+/// `valid`, and how many entries it has `checked` until then. Where it `begins` there, the rule begins anew
+/// before.
+#[derive(Drop)]
+pub struct Rechecks<'a> {
+    /// The models and the rules of the rows.
+    pub inputs: &'a Value,
+}
+
+impl<'a> Table for Rechecks<'a> {
+    fn is_as_said(&self, alloc: Global, row: &Value) -> Result<bool, Fail> {
+        let ctx = ctx_at(alloc, self.inputs, row)?;
+        let mut rule = RecheckRule::new(alloc);
+        rule.begin(&ctx);
+        answers_all(alloc, &ctx, &mut rule, items_at(row, "asked")?)
+    }
+}
+
+/// Whether the rule answers of each configuration in turn what is said.
+fn answers_all(
+    alloc: Global,
+    ctx: &Ctx,
+    rule: &mut RecheckRule,
+    asked: &[Value],
+) -> Result<bool, Fail>
+    requires named { IsNamed ctx.now }
+    requires fits { ⟦<RecheckRule as MoveRule>⟧.fits rule.old ctx.now.models }
+{
+    match asked {
+        [] => Ok(true),
+        [first, rest @ ..] => {
+            Ok(answers(alloc, ctx, rule, first)? && answers_all(alloc, ctx, rule, rest)?)
+        }
+    }
+}
+
+/// Whether the rule answers of a configuration what is said. It is told of a move, and of configurations
+/// beside it, which it doesn't look at.
+fn answers(alloc: Global, ctx: &Ctx, rule: &mut RecheckRule, asked: &Value) -> Result<bool, Fail>
+    requires named { IsNamed ctx.now }
+    requires fits { ⟦<RecheckRule as MoveRule>⟧.fits rule.old ctx.now.models }
+    ensures fits { ⟦<RecheckRule as MoveRule>⟧.fits rule.new ctx.now.models }
+{
+    let config = config_at(alloc, asked, "config")?;
+    let mv = Move::Remove(Path::new(alloc, &["PORT"])?);
+    if asked.get("begins").is_some() {
+        rule.begin(ctx);
+    }
+    let valid = rule.allows(ctx, &config, &config, &config, &mv);
+    let said = asked.get("valid").and_then(Value::as_bool);
+    let count = number_at(asked, "checked")?;
+    Ok(said == Some(valid) && rule.checked() == count)
+}
