@@ -9,7 +9,7 @@ use crate::hosts::{LONGEST_NAME, PICKS, host_at, names_of, pick_of};
 use conf_doc::{file_bytes, tree_bytes};
 use conf_store::{LoadError, Stored, fold, load, load_tree, put_file};
 use example_rows::{Fail, Table, items_at, text_at, text_bytes};
-use host_core::{Failed, Faults, MemHost, Names, Sequence};
+use host_core::{Failed, Faults, MemHost, Sequence};
 use serde_json::Value;
 use std::alloc::Global;
 
@@ -95,36 +95,18 @@ fn is_left(alloc: Global, row: &Value, pick: &str, after: MemHost) -> Result<boo
         return Err(Fail::Row);
     };
     let left = names_of(alloc, &mut host)?;
-    Ok(are_names(names, &left) && is_stored_under(alloc, row, which, &mut host)?)
-}
-
-/// Whether these are the names, in order.
-fn are_names(said: &[Value], names: &Names) -> bool {
-    let mut same = said.len() == names.len();
-    for (word, name) in said.iter().zip(names.items().iter()) {
+    let mut same = names.len() == left.len();
+    for (word, name) in names.iter().zip(left.items().iter()) {
         same = same && word.as_str() == Some(name.as_str());
     }
-    same
-}
-
-/// Whether the stored configuration's text stands under that word.
-fn is_stored_under(
-    alloc: Global,
-    row: &Value,
-    which: &Value,
-    host: &mut MemHost,
-) -> Result<bool, Fail> {
-    let tree = match load_tree(alloc, host) {
-        Ok(tree) => tree,
-        Err(error) => return Err(fail_of(error)),
-    };
-    let bytes = tree_bytes(alloc, &tree)?;
-    let said = text_bytes(alloc, row, word_of(which)?)?;
-    Ok(bytes == said)
-}
-
-fn word_of(value: &Value) -> Result<&str, Fail> {
-    value.as_str().ok_or(Fail::Row)
+    let which = which.as_str().ok_or(Fail::Row)?;
+    match load_tree(alloc, &mut host) {
+        Ok(tree) => {
+            let bytes = tree_bytes(alloc, &tree)?;
+            Ok(same && bytes.as_slice() == text_bytes(alloc, row, which)?.as_slice())
+        }
+        Err(error) => Err(fail_of(error)),
+    }
 }
 
 /// Faults from the call of the row on, counted behind those of `load`.
@@ -140,8 +122,10 @@ fn faults_behind_load(alloc: Global, row: &Value) -> Result<Faults, Fail> {
 }
 
 fn faults_from(alloc: Global, from: Option<u64>) -> Faults {
-    let at = Sequence::new(alloc);
-    Faults { at, from }
+    Faults {
+        at: Sequence::new(alloc),
+        from,
+    }
 }
 
 fn fail_of(error: LoadError) -> Fail {

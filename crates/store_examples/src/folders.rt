@@ -24,8 +24,10 @@ impl Table for Folders {
 
 /// The host of a row, of which no call fails.
 fn calm_host(alloc: Global, row: &Value) -> Result<MemHost, Fail> {
-    let at = Sequence::new(alloc);
-    let faults = Faults { at, from: None };
+    let faults = Faults {
+        at: Sequence::new(alloc),
+        from: None,
+    };
     host_at(alloc, row, faults)
 }
 

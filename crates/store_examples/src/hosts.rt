@@ -39,32 +39,23 @@ fn named_bytes(alloc: Global, row: &Value, name: &str) -> Result<Vec<(Txt, Vec<u
 pub fn faults_at(alloc: Global, row: &Value) -> Result<Faults, Fail> {
     let mut at = Sequence::new(alloc);
     for number in items_at(row, "fails")? {
-        push_number(&mut at, number)?;
+        at.push(number.as_u64().ok_or(Fail::Row)?)?;
     }
     Ok(Faults { at, from: None })
-}
-
-fn push_number(numbers: &mut Sequence<u64>, number: &Value) -> Result<(), Fail> {
-    match number.as_u64() {
-        Some(number) => Ok(numbers.push(number)?),
-        None => Err(Fail::Row),
-    }
 }
 
 /// A pick, whose bytes are the `torn` ones of the row.
 pub fn pick_of(alloc: Global, row: &Value, name: &str) -> Result<Pick, Fail> {
     match name {
         "Gone" => Ok(Pick::Gone),
-        "Bytes" => torn_pick(alloc, row),
+        "Bytes" => {
+            let torn = text_bytes(alloc, row, "torn")?;
+            Ok(Pick::Bytes(Sequence::from_vec(torn)))
+        }
         "Before" => Ok(Pick::Before),
         "After" => Ok(Pick::After),
         _ => Err(Fail::Row),
     }
-}
-
-fn torn_pick(alloc: Global, row: &Value) -> Result<Pick, Fail> {
-    let torn = text_bytes(alloc, row, "torn")?;
-    Ok(Pick::Bytes(Sequence::from_vec(torn)))
 }
 
 /// Whether a host has the files that stand under a name, and no others.
