@@ -3,7 +3,7 @@ ghost use Rattle.std.specs.Prelude.{◌≡◌, ◌≤◌, length, IfOk};
 ghost use Rattle.host_core.specs.Names.{longest_file_name};
 ghost use Rattle.host_core.specs.State.{settled};
 
-use crate::hosts::{LONGEST_NAME, PICKS, faults_at, has_files, host_at, pick_of};
+use crate::hosts::{LONGEST_NAME, PICKS, are_names, faults_at, has_files, host_at, pick_of};
 use example_rows::{Fail, Table, items_at, number_at, text_at, text_bytes};
 use host_core::{Failed, Host, HostError, Input, MemHost, Names};
 use serde_json::Value;
@@ -18,11 +18,7 @@ pub struct Calls;
 
 impl Table for Calls {
     fn is_as_said(&self, alloc: Global, row: &Value) -> Result<bool, Fail> {
-        let mut host = host_at(alloc, row, faults_at(alloc, row)?)?;
-        let answer = act(alloc, row, &mut host)?;
-        let mut as_said = answer.as_str() == text_at(row, "answer")?
-            && came_out(alloc, row, &host)?
-            && has_files(alloc, row, "reads", &mut host)?;
+        let mut as_said = answers(alloc, row)?;
         for pick in PICKS {
             as_said = as_said && leaves(alloc, row, pick)?;
         }
@@ -30,24 +26,69 @@ impl Table for Calls {
     }
 }
 
+/// The host of a row, of which those calls fail that the row tells.
+fn failing_host(alloc: Global, row: &Value) -> Result<MemHost, Fail>
+    ensures { IfOk result (λ m. m.state.pending ≡ settled) }
+{
+    let faults = faults_at(alloc, row)?;
+    host_at(alloc, row, faults)
+}
+
+/// Whether the calls answer as the row says, and have done what it says.
+fn answers(alloc: Global, row: &Value) -> Result<bool, Fail> {
+    let mut host = failing_host(alloc, row)?;
+    does_as_said(alloc, row, &mut host)
+}
+
+fn does_as_said(alloc: Global, row: &Value, host: &mut MemHost) -> Result<bool, Fail>
+    requires { host.old.state.pending ≡ settled }
+{
+    Ok(is_answer(alloc, row, host)? && has_come_out(alloc, row, "reads", host)?)
+}
+
+/// Makes the calls, and tells whether the last one answered as the row says.
+fn is_answer(alloc: Global, row: &Value, host: &mut MemHost) -> Result<bool, Fail>
+    requires { host.old.state.pending ≡ settled }
+{
+    let said = text_at(row, "answer")?;
+    let answer = act(alloc, row, host)?;
+    Ok(answer.as_str() == said)
+}
+
+/// Whether what came out of the host, and the files that stand under a name, are those of the row.
+fn has_come_out(alloc: Global, row: &Value, name: &str, host: &mut MemHost) -> Result<bool, Fail> {
+    Ok(came_out(alloc, row, host)? && has_files(alloc, row, name, host)?)
+}
+
 /// Whether a crash with that pick leaves what the row says, and what came out of the host.
 fn leaves(alloc: Global, row: &Value, pick: &str) -> Result<bool, Fail> {
-    let mut host = host_at(alloc, row, faults_at(alloc, row)?)?;
-    let _ = act(alloc, row, &mut host)?;
-    let mut after = host.crash(alloc, &pick_of(alloc, row, pick)?)?;
-    Ok(came_out(alloc, row, &after)? && has_files(alloc, row, pick, &mut after)?)
+    let mut after = host_after(alloc, row, pick)?;
+    has_come_out(alloc, row, pick, &mut after)
+}
+
+/// The host of a row after its calls and a crash with that pick.
+fn host_after(alloc: Global, row: &Value, pick: &str) -> Result<MemHost, Fail> {
+    let pick = pick_of(alloc, row, pick)?;
+    let host = host_done(alloc, row)?;
+    Ok(host.crash(alloc, &pick)?)
+}
+
+/// The host of a row after its calls.
+fn host_done(alloc: Global, row: &Value) -> Result<MemHost, Fail> {
+    let mut host = failing_host(alloc, row)?;
+    let _ = is_answer(alloc, row, &mut host)?;
+    Ok(host)
 }
 
 /// Whether the output and the restarts are those of the row.
 fn came_out(alloc: Global, row: &Value, host: &MemHost) -> Result<bool, Fail> {
     let printed = text_bytes(alloc, row, "output")?;
+    Ok(host.output() == printed.as_slice() && are_restarts(row, host)?)
+}
+
+fn are_restarts(row: &Value, host: &MemHost) -> Result<bool, Fail> {
     let said = items_at(row, "restarts")?;
-    let restarts = host.restarts().items();
-    let mut same = host.output() == printed.as_slice() && said.len() == restarts.len();
-    for (word, name) in said.iter().zip(restarts.iter()) {
-        same = same && word.as_str() == Some(name.as_str());
-    }
-    Ok(same)
+    Ok(are_names(said, host.restarts()))
 }
 
 /// Makes the calls, and tells what the last one answered.

@@ -1,15 +1,17 @@
 //! Writing calls cut short by a fault, and what is loaded after a crash.
-ghost use Rattle.std.specs.Prelude.{◌≡◌};
+ghost use Rattle.std.specs.Prelude.{◌≡◌, IfOk};
 ghost use Rattle.std.specs.List.{AllPass};
 ghost use Rattle.host_core.specs.State.{settled};
 ghost use Rattle.conf_store.specs.Files.{is_step_name};
 ghost use Rattle.conf_store.specs.Folds.{StandsFor};
 
-use crate::hosts::{LONGEST_NAME, PICKS, host_at, names_of, pick_of};
-use conf_doc::{file_bytes, tree_bytes};
-use conf_store::{LoadError, Stored, fold, load, load_tree, put_file};
+use crate::hosts::{
+    LONGEST_NAME, PICKS, are_names, fail_of, faults_from, host_at, is_tree, names_of, pick_of,
+};
+use conf_doc::file_bytes;
+use conf_store::{Stored, fold, load, load_tree, put_file};
 use example_rows::{Fail, Table, items_at, text_at, text_bytes};
-use host_core::{Failed, Faults, MemHost, Sequence};
+use host_core::{Failed, Faults, MemHost};
 use serde_json::Value;
 use std::alloc::Global;
 
@@ -22,7 +24,7 @@ pub struct Crashes;
 
 impl Table for Crashes {
     fn is_as_said(&self, alloc: Global, row: &Value) -> Result<bool, Fail> {
-        let mut as_said = true;
+        let mut as_said = answers(alloc, row)?;
         for pick in PICKS {
             as_said = as_said && leaves(alloc, row, pick)?;
         }
@@ -30,15 +32,55 @@ impl Table for Crashes {
     }
 }
 
-/// Whether the call answers as said, and a crash with that pick then leaves what the row says.
+/// Whether the call answers as said.
+fn answers(alloc: Global, row: &Value) -> Result<bool, Fail> {
+    let mut host = host_before(alloc, row)?;
+    is_answer(alloc, row, &mut host)
+}
+
+/// Whether a crash with that pick after the call leaves what the row says.
 fn leaves(alloc: Global, row: &Value, pick: &str) -> Result<bool, Fail> {
-    let mut host = host_at(alloc, row, faults_behind_load(alloc, row)?)?;
-    let answer = match load(alloc, &mut host) {
-        Ok(stored) => act(alloc, row, &stored, &mut host)?,
-        Err(error) => return Err(fail_of(error)),
-    };
-    let after = host.crash(alloc, &pick_of(alloc, row, pick)?)?;
-    Ok(answer == text_at(row, "answer")? && is_left(alloc, row, pick, after)?)
+    let mut host = host_after(alloc, row, pick)?;
+    is_left(alloc, row, pick, &mut host)
+}
+
+/// The host of a row after its call and a crash with that pick.
+fn host_after(alloc: Global, row: &Value, pick: &str) -> Result<MemHost, Fail> {
+    let pick = pick_of(alloc, row, pick)?;
+    let host = host_done(alloc, row)?;
+    Ok(host.crash(alloc, &pick)?)
+}
+
+/// The host of a row after its call.
+fn host_done(alloc: Global, row: &Value) -> Result<MemHost, Fail> {
+    let mut host = host_before(alloc, row)?;
+    let _ = is_answer(alloc, row, &mut host)?;
+    Ok(host)
+}
+
+/// The host of a row, with the faults of its call.
+fn host_before(alloc: Global, row: &Value) -> Result<MemHost, Fail>
+    ensures { IfOk result (λ m. m.state.pending ≡ settled) }
+{
+    let faults = faults_behind_load(alloc, row)?;
+    host_at(alloc, row, faults)
+}
+
+/// Makes the call, and tells whether it answers as said.
+fn is_answer(alloc: Global, row: &Value, host: &mut MemHost) -> Result<bool, Fail>
+    requires { host.old.state.pending ≡ settled }
+{
+    Ok(answer_of(alloc, row, host)? == text_at(row, "answer")?)
+}
+
+/// Loads what is stored, makes the call of the row, and tells what it answers.
+fn answer_of(alloc: Global, row: &Value, host: &mut MemHost) -> Result<&'static str, Fail>
+    requires { host.old.state.pending ≡ settled }
+{
+    match load(alloc, host) {
+        Ok(stored) => act(alloc, row, &stored, host),
+        Err(error) => Err(fail_of(error)),
+    }
 }
 
 /// What the call of the row answers.
@@ -53,17 +95,22 @@ fn act(
     requires names { AllPass is_step_name stored.now.steps }
 {
     match text_at(row, "does")? {
-        "put" => {
-            let name = text_at(row, "name")?;
-            if name.len() > LONGEST_NAME {
-                return Err(Fail::Row);
-            }
-            let bytes = text_bytes(alloc, row, "bytes")?;
-            Ok(answer_text(put_file(host, name, &bytes)))
-        }
+        "put" => put(alloc, row, host),
         "fold" => Ok(answer_text(fold_stored(alloc, stored, host)?)),
         _ => Err(Fail::Row),
     }
+}
+
+/// Puts the file of the row.
+fn put(alloc: Global, row: &Value, host: &mut MemHost) -> Result<&'static str, Fail>
+    requires { host.old.state.pending ≡ settled }
+{
+    let name = text_at(row, "name")?;
+    if name.len() > LONGEST_NAME {
+        return Err(Fail::Row);
+    }
+    let bytes = text_bytes(alloc, row, "bytes")?;
+    Ok(answer_text(put_file(host, name, &bytes)))
 }
 
 /// Folds the stored configuration.
@@ -89,48 +136,56 @@ fn answer_text(answer: Result<(), Failed>) -> &'static str {
 }
 
 /// Whether a host after a crash has the files, and the configuration, that stand under a pick.
-fn is_left(alloc: Global, row: &Value, pick: &str, after: MemHost) -> Result<bool, Fail> {
-    let mut host = after;
-    let [which, names @ ..] = items_at(row, pick)? else {
+fn is_left(alloc: Global, row: &Value, pick: &str, host: &mut MemHost) -> Result<bool, Fail> {
+    let [which, said @ ..] = items_at(row, pick)? else {
         return Err(Fail::Row);
     };
-    let left = names_of(alloc, &mut host)?;
-    let mut same = names.len() == left.len();
-    for (word, name) in names.iter().zip(left.items().iter()) {
-        same = same && word.as_str() == Some(name.as_str());
-    }
     let which = which.as_str().ok_or(Fail::Row)?;
-    match load_tree(alloc, &mut host) {
-        Ok(tree) => {
-            let bytes = tree_bytes(alloc, &tree)?;
-            Ok(same && bytes.as_slice() == text_bytes(alloc, row, which)?.as_slice())
-        }
+    Ok(has_names(alloc, said, host)? && is_config_left(alloc, row, which, host)?)
+}
+
+/// Whether a host has the files of those names and no others.
+fn has_names(alloc: Global, said: &[Value], host: &mut MemHost) -> Result<bool, Fail> {
+    let names = names_of(alloc, host)?;
+    Ok(are_names(said, &names))
+}
+
+/// Whether the files of a host stand for the configuration under a name.
+fn is_config_left(
+    alloc: Global,
+    row: &Value,
+    which: &str,
+    host: &mut MemHost,
+) -> Result<bool, Fail> {
+    match load_tree(alloc, host) {
+        Ok(tree) => is_tree(alloc, row, which, &tree),
         Err(error) => Err(fail_of(error)),
     }
 }
 
 /// Faults from the call of the row on, counted behind those of `load`.
 fn faults_behind_load(alloc: Global, row: &Value) -> Result<Faults, Fail> {
-    let Some(from) = row.get("from").and_then(Value::as_u64) else {
-        return Ok(faults_from(alloc, None));
-    };
-    let mut host = host_at(alloc, row, faults_from(alloc, None))?;
-    match load(alloc, &mut host) {
-        Ok(_) => Ok(faults_from(alloc, Some(host.calls().saturating_add(from)))),
+    match row.get("from").and_then(Value::as_u64) {
+        Some(from) => {
+            let calls = load_calls(alloc, row)?;
+            Ok(faults_from(alloc, Some(calls.saturating_add(from))))
+        }
+        None => Ok(faults_from(alloc, None)),
+    }
+}
+
+/// How many calls `load` makes.
+fn load_calls(alloc: Global, row: &Value) -> Result<u64, Fail> {
+    let faults = faults_from(alloc, None);
+    let mut host = host_at(alloc, row, faults)?;
+    calls_behind_load(alloc, &mut host)
+}
+
+fn calls_behind_load(alloc: Global, host: &mut MemHost) -> Result<u64, Fail>
+    requires { host.old.state.pending ≡ settled }
+{
+    match load(alloc, host) {
+        Ok(_) => Ok(host.calls()),
         Err(error) => Err(fail_of(error)),
-    }
-}
-
-fn faults_from(alloc: Global, from: Option<u64>) -> Faults {
-    Faults {
-        at: Sequence::new(alloc),
-        from,
-    }
-}
-
-fn fail_of(error: LoadError) -> Fail {
-    match error {
-        LoadError::Memory => Fail::Memory,
-        LoadError::Bad(_) | LoadError::Disk => Fail::Row,
     }
 }

@@ -1,9 +1,9 @@
 //! Configurations changed at one place.
 ghost use Rattle.std.specs.Prelude.{[], ◌∷◌, ◌<◌, length, IfOk, OnOk};
-ghost use Rattle.conf_doc.specs.Changes.{HasPlace};
+ghost use Rattle.conf_doc.specs.Changes.{Fits, HasParent, HasPlace};
 
 use conf_doc::{
-    Config, Entry, Part, Path, ReadError, ShapeError, Table as Entries, Value as Held,
+    Config, Entry, Part, Path, ReadError, ShapeError, Table as Entries, Tree, Value as Held,
     config_of_tree, read_tree,
 };
 use example_rows::{Fail, Table, items_at};
@@ -17,23 +17,48 @@ pub struct Parts;
 impl Table for Parts {
     fn is_as_said(&self, alloc: Global, row: &Value) -> Result<bool, Fail> {
         let from = config_at(alloc, row, "from")?;
-        let changed = match row.get("put") {
-            Some(_) => put_part(alloc, row, &from, &config_at(alloc, row, "put")?)?,
-            None => remove_part(alloc, row, &from)?,
-        };
-        let stays = from.same(&config_at(alloc, row, "from")?);
-        Ok(stays && changed.same(&config_at(alloc, row, "to")?))
+        changes_and_keeps(alloc, row, &from)
     }
+}
+
+/// Whether the change gives what the row says, and leaves the configuration that it starts from.
+fn changes_and_keeps(alloc: Global, row: &Value, from: &Config) -> Result<bool, Fail> {
+    Ok(changes_as_said(alloc, row, from)? && is_config(alloc, row, "from", from)?)
+}
+
+/// Whether the change of a configuration gives what the row says.
+fn changes_as_said(alloc: Global, row: &Value, from: &Config) -> Result<bool, Fail> {
+    let changed = changed(alloc, row, from)?;
+    is_config(alloc, row, "to", &changed)
+}
+
+/// The configuration with the row's change.
+fn changed(alloc: Global, row: &Value, from: &Config) -> Result<Config, Fail> {
+    if row.get("put").is_none() {
+        return remove_part(alloc, row, from);
+    }
+    let other = config_at(alloc, row, "put")?;
+    put_part(alloc, row, from, &other)
+}
+
+/// Whether a configuration is the one under a name.
+fn is_config(alloc: Global, row: &Value, name: &str, config: &Config) -> Result<bool, Fail> {
+    let said = config_at(alloc, row, name)?;
+    Ok(config.same(&said))
 }
 
 /// The configuration that stands under a name.
 fn config_at(alloc: Global, row: &Value, name: &str) -> Result<Config, Fail> {
     let bytes = row.get(name).ok_or(Fail::Row)?.to_vec(alloc)?;
-    let tree = match read_tree(alloc, &bytes) {
-        Ok(tree) => tree,
-        Err(ReadError::Memory) => return Err(Fail::Memory),
-        Err(_) => return Err(Fail::Row),
-    };
+    match read_tree(alloc, &bytes) {
+        Ok(tree) => config_of(alloc, tree),
+        Err(ReadError::Memory) => Err(Fail::Memory),
+        Err(_) => Err(Fail::Row),
+    }
+}
+
+/// The configuration of a tree.
+fn config_of(alloc: Global, tree: Tree) -> Result<Config, Fail> {
     match config_of_tree(alloc, tree) {
         Ok(config) => Ok(config),
         Err(ShapeError::Memory) => Err(Fail::Memory),
@@ -57,23 +82,19 @@ fn put_part(alloc: Global, row: &Value, from: &Config, other: &Config) -> Result
     match items_at(row, "place")?.len() {
         1 => put_table(alloc, from, other, table),
         2 => put_entry(alloc, from, other, table, name_at(row, 1)?),
-        _ => put_value(
-            alloc,
-            from,
-            other,
-            table,
-            name_at(row, 1)?,
-            name_at(row, 2)?,
-        ),
+        _ => {
+            let (key, field) = (name_at(row, 1)?, name_at(row, 2)?);
+            put_value(alloc, from, other, table, key, field)
+        }
     }
 }
 
 fn put_table(alloc: Global, from: &Config, other: &Config, table: &str) -> Result<Config, Fail>
     requires { 0 < length table.now }
 {
-    let part = Part::Table(table_at(other, table)?.copy(alloc)?);
     let path = Path::new(alloc, &[table])?;
-    Ok(from.with(alloc, &path, Some(&part))?)
+    let entries = table_at(other, table)?.copy(alloc)?;
+    put_at(alloc, from, &path, Part::Table(entries))
 }
 
 fn put_entry(
@@ -86,10 +107,10 @@ fn put_entry(
     requires table { 0 < length table.now }
     requires key { 0 < length key.now }
 {
-    let part = Part::Entry(entry_at(other, table, key)?.copy(alloc)?);
     let _above = table_at(from, table)?;
     let path = Path::new(alloc, &[table, key])?;
-    Ok(from.with(alloc, &path, Some(&part))?)
+    let entry = entry_at(other, table, key)?.copy(alloc)?;
+    put_at(alloc, from, &path, Part::Entry(entry))
 }
 
 fn put_value(
@@ -104,10 +125,18 @@ fn put_value(
     requires key { 0 < length key.now }
     requires field { 0 < length field.now }
 {
-    let part = Part::Value(value_at(other, table, key, field)?.copy(alloc)?);
     let _above = entry_at(from, table, key)?;
     let path = Path::new(alloc, &[table, key, field])?;
-    Ok(from.with(alloc, &path, Some(&part))?)
+    let value = value_at(other, table, key, field)?.copy(alloc)?;
+    put_at(alloc, from, &path, Part::Value(value))
+}
+
+/// The configuration with a part at a path.
+fn put_at(alloc: Global, from: &Config, path: &Path, part: Part) -> Result<Config, Fail>
+    requires fits { Fits path.now part }
+    requires parent { HasParent from.now path.now }
+{
+    Ok(from.with(alloc, path, Some(&part))?)
 }
 
 /// The configuration with nothing at the row's place.
