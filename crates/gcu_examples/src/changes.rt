@@ -1,10 +1,11 @@
 //! Commands that change the folder, one after the other on a host in memory.
-use crate::commands::{faults_at, has_files, obey, words_at};
-use crate::folders::{begin_restarts, host_with, stands_for};
-use example_rows::{Fail, Table, items_at, number_at, written_at};
+use crate::commands::{ends_as_said, faults_at, has_files};
+use crate::folders::{begin_restarts, empty_host, host_with, stands_for};
+use example_rows::{Fail, Table, items_at, written_at};
 use host_core::{MemHost, Pick};
 use serde_json::Value;
 use std::alloc::Global;
+use std::mem;
 
 /// A row has the stored `config`, other `files`, the `patch` that is the input `p.json` and other
 /// `inputs`, and the `words` of a command, with `fails` or `fails_from` as a row of commands has them. It
@@ -19,69 +20,58 @@ pub struct Changes<'a> {
 
 impl<'a> Table for Changes<'a> {
     fn is_as_said(&self, alloc: Global, row: &Value) -> Result<bool, Fail> {
-        let host = host_with(alloc, self.inputs, row, faults_at(alloc, row)?)?;
-        let mut said = Vec::new(alloc);
-        let first = does(alloc, row, host, &mut said)?;
-        if row.get("then").is_none() {
-            return Ok(first.is_some());
-        }
-        do_others(alloc, items_at(row, "then")?, first, &mut said)
+        let faults = faults_at(alloc, row)?;
+        let mut host = host_with(alloc, self.inputs, row, faults)?;
+        do_all(alloc, row, &mut host)
     }
 }
 
-/// Whether the other commands do what their rows say, where the first one did.
+/// Whether the command of a row and those behind it do what is said.
+fn do_all(alloc: Global, row: &Value, host: &mut MemHost) -> Result<bool, Fail> {
+    let mut said = Vec::new(alloc);
+    Ok(does(alloc, row, host, &mut said)? && do_others(alloc, row, host, &mut said)?)
+}
+
+/// Whether the commands behind the first one do what their rows say, where there are any.
 fn do_others(
     alloc: Global,
-    others: &[Value],
-    first: Option<MemHost>,
+    row: &Value,
+    host: &mut MemHost,
     said: &mut Vec<u8>,
 ) -> Result<bool, Fail> {
-    let mut left = first;
-    for row in others {
-        let Some(host) = left else {
-            return Ok(false);
-        };
-        left = does(alloc, row, host, said)?;
+    if row.get("then").is_none() {
+        return Ok(true);
     }
-    Ok(left.is_some())
+    for other in items_at(row, "then")? {
+        if !does(alloc, other, host, said)? {
+            return Ok(false);
+        }
+    }
+    Ok(true)
 }
 
-/// Does one command. Gives the host that it leaves, where all is as said.
-fn does(
-    alloc: Global,
-    row: &Value,
-    host: MemHost,
-    said: &mut Vec<u8>,
-) -> Result<Option<MemHost>, Fail> {
-    let Some(done) = obeyed(alloc, row, host)? else {
-        return Ok(None);
-    };
+/// Does one command, and leaves the host after a crash that loses nothing. Tells whether all is as said.
+fn does(alloc: Global, row: &Value, host: &mut MemHost, said: &mut Vec<u8>) -> Result<bool, Fail> {
+    let same_status = ends_as_said(alloc, row, host)?;
+    push_output(alloc, row, said)?;
+    let same_output = host.output() == said.as_slice();
+    crash(alloc, host)?;
+    Ok(same_status && same_output && leaves(alloc, row, host)?)
+}
+
+/// A crash that loses nothing.
+fn crash(alloc: Global, host: &mut MemHost) -> Result<(), Fail> {
+    let other = empty_host(alloc)?;
+    let done = mem::replace(host, other);
+    *host = done.crash(alloc, &Pick::After)?;
+    Ok(())
+}
+
+/// Adds the output of a row.
+fn push_output(alloc: Global, row: &Value, said: &mut Vec<u8>) -> Result<(), Fail> {
     let text = written_at(alloc, row, "output")?;
     said.extend_from_slice(&text)?;
-    if done.output() != said.as_slice() {
-        return Ok(None);
-    }
-    left_by(alloc, row, done)
-}
-
-/// The host after the command, where it ends with the status that is said.
-fn obeyed(alloc: Global, row: &Value, host: MemHost) -> Result<Option<MemHost>, Fail> {
-    let mut host = host;
-    let words = words_at(alloc, row)?;
-    let outcome = obey(alloc, words.items(), &mut host)?;
-    if u64::from(outcome.status()) != number_at(row, "status")? {
-        return Ok(None);
-    }
-    Ok(Some(host))
-}
-
-/// The host after a crash that loses nothing, where the command has left what its row says.
-fn left_by(alloc: Global, row: &Value, host: MemHost) -> Result<Option<MemHost>, Fail> {
-    let mut left = host.crash(alloc, &Pick::After)?;
-    if !leaves(alloc, row, &mut left)? {
-        return Ok(None);
-    }
-    Ok(Some(left))
+    Ok(())
 }
 
 /// Whether a command has left what its row says.

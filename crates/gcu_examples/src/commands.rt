@@ -1,11 +1,8 @@
 //! Whole commands on a host in memory.
+use crate::boxes::kit;
 use example_rows::{Fail, Table, items_at, number_at, text_bytes, written_at};
-use gcu_engine::{Outcome, kit_extenders, kit_generators, kit_rules, run};
+use gcu_engine::{Outcome, run};
 use host_core::{Faults, MemHost, Memory, Names, Sequence, Txt};
-use move_core::Kit;
-use move_extend::{DeleteExt, ReferrersExt, RequiredExt, UpperExt};
-use move_gen::{FieldGen, KeyGen, SeedGen, TableGen};
-use move_rules::{CreateOnlyRule, FullRule, NoDependencyRule, NoEmptyRule, RequiredRule};
 use serde_json::Value;
 use std::alloc::Global;
 
@@ -22,46 +19,38 @@ pub struct Commands;
 
 impl Table for Commands {
     fn is_as_said(&self, alloc: Global, row: &Value) -> Result<bool, Fail> {
-        let words = words_at(alloc, row)?;
         let mut host = host_at(alloc, row)?;
-        let outcome = obey(alloc, words.items(), &mut host)?;
-        let same_status = u64::from(outcome.status()) == number_at(row, "status")?;
-        let said = written_at(alloc, row, "output")?;
-        let same_output = host.output() == said.as_slice();
-        let same_files = keeps_config(alloc, row, &host)? && has_files(alloc, row, &host)?;
-        Ok(same_status && same_output && same_files)
+        is_done(alloc, row, &mut host)
     }
 }
 
+/// Whether the command does on the host what the row says.
+fn is_done(alloc: Global, row: &Value, host: &mut MemHost) -> Result<bool, Fail> {
+    let same_status = ends_as_said(alloc, row, host)?;
+    let same_files = keeps_config(alloc, row, host)? && has_files(alloc, row, host)?;
+    let same_output = is_written(alloc, row, "output", host.output())?;
+    Ok(same_status && same_files && same_output)
+}
+
+/// Does the command of the row, and tells whether it ends with the status that is said.
+pub fn ends_as_said(alloc: Global, row: &Value, host: &mut MemHost) -> Result<bool, Fail> {
+    let outcome = obey_row(alloc, row, host)?;
+    Ok(u64::from(outcome.status()) == number_at(row, "status")?)
+}
+
+/// Does the command of the row.
+pub fn obey_row(alloc: Global, row: &Value, host: &mut MemHost) -> Result<Outcome, Fail> {
+    let words = words_at(alloc, row)?;
+    Ok(obey(alloc, words.items(), host)?)
+}
+
 /// Does the command with the boxes of a planner.
-pub fn obey(alloc: Global, words: &[Txt], host: &mut MemHost) -> Result<Outcome, Memory> {
-    let gens = kit_generators(
-        alloc,
-        Box::new(alloc, TableGen::new())?,
-        Box::new(alloc, KeyGen::new())?,
-        Box::new(alloc, FieldGen::new())?,
-        Box::new(alloc, SeedGen::new())?,
-    )?;
-    let exts = kit_extenders(
-        alloc,
-        Box::new(alloc, UpperExt::new())?,
-        Box::new(alloc, DeleteExt::new())?,
-        Box::new(alloc, ReferrersExt::new())?,
-        Box::new(alloc, RequiredExt::new())?,
-    )?;
-    let rules = kit_rules(
-        alloc,
-        Box::new(alloc, FullRule::new())?,
-        Box::new(alloc, NoDependencyRule::new())?,
-        Box::new(alloc, NoEmptyRule::new())?,
-        Box::new(alloc, CreateOnlyRule::new())?,
-        Box::new(alloc, RequiredRule::new())?,
-    )?;
-    let mut kit = Kit { gens, exts, rules };
+fn obey(alloc: Global, words: &[Txt], host: &mut MemHost) -> Result<Outcome, Memory> {
+    let mut kit = kit(alloc)?;
     Ok(run(alloc, words, &mut kit, host))
 }
 
-pub fn words_at(alloc: Global, row: &Value) -> Result<Names, Fail> {
+fn words_at(alloc: Global, row: &Value) -> Result<Names, Fail> {
     let mut words = Sequence::new(alloc);
     for word in items_at(row, "words")? {
         let text = word.as_str().ok_or(Fail::Row)?;
@@ -72,22 +61,56 @@ pub fn words_at(alloc: Global, row: &Value) -> Result<Names, Fail> {
 
 /// The host before the command.
 fn host_at(alloc: Global, row: &Value) -> Result<MemHost, Fail> {
+    let inputs = inputs_at(alloc, row)?;
+    let files = files_at(alloc, row)?;
+    let faults = faults_at(alloc, row)?;
+    Ok(MemHost::new(alloc, inputs, files, faults)?)
+}
+
+/// The patch where there is one, and the other inputs.
+pub fn inputs_at(alloc: Global, row: &Value) -> Result<Vec<(Txt, Vec<u8>)>, Fail> {
     let mut inputs = Vec::new(alloc);
+    push_inputs(alloc, row, &mut inputs)?;
+    Ok(inputs)
+}
+
+fn push_inputs(alloc: Global, row: &Value, inputs: &mut Vec<(Txt, Vec<u8>)>) -> Result<(), Fail> {
     if row.get("patch").is_some() {
-        inputs.push((Txt::new(alloc, PATCH_FILE)?, input_at(alloc, row)?))?;
+        let bytes = patch_at(alloc, row)?;
+        push_file(alloc, PATCH_FILE, bytes, inputs)?;
     }
-    push_others(alloc, row, "inputs", &mut inputs)?;
+    push_others(alloc, row, "inputs", inputs)
+}
+
+/// The stored configuration where there is one, and the other files of the folder.
+pub fn files_at(alloc: Global, row: &Value) -> Result<Vec<(Txt, Vec<u8>)>, Fail> {
     let mut files = Vec::new(alloc);
+    push_files(alloc, row, &mut files)?;
+    Ok(files)
+}
+
+fn push_files(alloc: Global, row: &Value, files: &mut Vec<(Txt, Vec<u8>)>) -> Result<(), Fail> {
     if row.get("config").is_some() {
         let bytes = text_bytes(alloc, row, "config")?;
-        files.push((Txt::new(alloc, CONFIG_FILE)?, bytes))?;
+        push_file(alloc, CONFIG_FILE, bytes, files)?;
     }
-    push_others(alloc, row, "files", &mut files)?;
-    Ok(MemHost::new(alloc, inputs, files, faults_at(alloc, row)?)?)
+    push_others(alloc, row, "files", files)
+}
+
+/// Adds a name with its bytes.
+fn push_file(
+    alloc: Global,
+    name: &str,
+    bytes: Vec<u8>,
+    files: &mut Vec<(Txt, Vec<u8>)>,
+) -> Result<(), Fail> {
+    let name = Txt::new(alloc, name)?;
+    files.push((name, bytes))?;
+    Ok(())
 }
 
 /// Adds the other inputs, or the other files of the folder.
-pub fn push_others(
+fn push_others(
     alloc: Global,
     row: &Value,
     which: &str,
@@ -107,13 +130,13 @@ pub fn push_all(
 ) -> Result<(), Fail> {
     for (name, _) in others.as_object().ok_or(Fail::Row)? {
         let bytes = text_bytes(alloc, others, name.as_str())?;
-        files.push((Txt::new(alloc, name.as_str())?, bytes))?;
+        push_file(alloc, name.as_str(), bytes, files)?;
     }
     Ok(())
 }
 
-/// The bytes of the input.
-fn input_at(alloc: Global, row: &Value) -> Result<Vec<u8>, Fail> {
+/// The bytes of the patch, with the blanks behind it.
+fn patch_at(alloc: Global, row: &Value) -> Result<Vec<u8>, Fail> {
     let mut bytes = text_bytes(alloc, row, "patch")?;
     let blanks = row.get("blanks").and_then(Value::as_u64).unwrap_or(0);
     for _ in 0..blanks {
@@ -123,14 +146,20 @@ fn input_at(alloc: Global, row: &Value) -> Result<Vec<u8>, Fail> {
 }
 
 pub fn faults_at(alloc: Global, row: &Value) -> Result<Faults, Fail> {
-    let mut at = Sequence::new(alloc);
-    if row.get("fails").is_some() {
-        for number in items_at(row, "fails")? {
-            push_number(&mut at, number)?;
-        }
-    }
     let from = row.get("fails_from").and_then(Value::as_u64);
+    let mut at = Sequence::new(alloc);
+    push_numbers(row, &mut at)?;
     Ok(Faults { at, from })
+}
+
+fn push_numbers(row: &Value, numbers: &mut Sequence<u64>) -> Result<(), Fail> {
+    if row.get("fails").is_none() {
+        return Ok(());
+    }
+    for number in items_at(row, "fails")? {
+        push_number(numbers, number)?;
+    }
+    Ok(())
 }
 
 fn push_number(numbers: &mut Sequence<u64>, number: &Value) -> Result<(), Fail> {
@@ -156,14 +185,30 @@ pub fn has_files(alloc: Global, row: &Value, host: &MemHost) -> Result<bool, Fai
         return Ok(true);
     };
     for (name, said) in after.as_object().ok_or(Fail::Row)? {
-        let same = match (said, host.file(name.as_str())) {
-            (Value::Null, found) => found.is_none(),
-            (_, None) => false,
-            (_, Some(bytes)) => bytes == written_at(alloc, after, name.as_str())?.as_slice(),
-        };
-        if !same {
+        if !has_file(alloc, after, name.as_str(), said, host)? {
             return Ok(false);
         }
     }
     Ok(true)
+}
+
+/// Whether a file holds what is said under its name, or isn't there where that is null.
+fn has_file(
+    alloc: Global,
+    after: &Value,
+    name: &str,
+    said: &Value,
+    host: &MemHost,
+) -> Result<bool, Fail> {
+    match (said, host.file(name)) {
+        (Value::Null, found) => Ok(found.is_none()),
+        (_, None) => Ok(false),
+        (_, Some(bytes)) => is_written(alloc, after, name, bytes),
+    }
+}
+
+/// Whether the bytes are those that are written under a name.
+pub fn is_written(alloc: Global, row: &Value, name: &str, bytes: &[u8]) -> Result<bool, Fail> {
+    let said = written_at(alloc, row, name)?;
+    Ok(bytes == said.as_slice())
 }

@@ -1,9 +1,10 @@
 //! What a folder stands for, and a host before a command that changes it.
-use crate::commands::{CONFIG_FILE, PATCH_FILE, push_all, push_others};
-use conf_doc::{Config, ReadError, ShapeError, config_of_tree, read_tree};
+use crate::commands::{files_at, inputs_at, push_all};
+use crate::shapes::config_at;
+use conf_doc::{Config, ReadError, read_tree};
 use conf_store::{LoadError, load};
-use example_rows::{Fail, items_at, read_rows, text_bytes};
-use host_core::{Faults, MemHost, Names, Txt};
+use example_rows::{Fail, items_at, read_rows};
+use host_core::{Faults, MemHost, Memory, Names, Sequence, Txt};
 use serde_json::Value;
 use std::alloc::Global;
 use std::rt::Files;
@@ -22,18 +23,23 @@ pub fn host_with(
     row: &Value,
     faults: Faults,
 ) -> Result<MemHost, Fail> {
-    let mut inputs = Vec::new(alloc);
-    if row.get("patch").is_some() {
-        let bytes = text_bytes(alloc, row, "patch")?;
-        inputs.push((Txt::new(alloc, PATCH_FILE)?, bytes))?;
-    }
-    push_others(alloc, row, "inputs", &mut inputs)?;
-    push_all(alloc, shared, &mut inputs)?;
-    let mut files = Vec::new(alloc);
-    let bytes = text_bytes(alloc, row, "config")?;
-    files.push((Txt::new(alloc, CONFIG_FILE)?, bytes))?;
-    push_others(alloc, row, "files", &mut files)?;
+    let files = files_at(alloc, row)?;
+    let inputs = inputs_with(alloc, shared, row)?;
     Ok(MemHost::new(alloc, inputs, files, faults)?)
+}
+
+/// The inputs of a row, and the shared ones.
+fn inputs_with(alloc: Global, shared: &Value, row: &Value) -> Result<Vec<(Txt, Vec<u8>)>, Fail> {
+    let mut inputs = inputs_at(alloc, row)?;
+    push_all(alloc, shared, &mut inputs)?;
+    Ok(inputs)
+}
+
+/// A host with nothing, of which no call fails.
+pub fn empty_host(alloc: Global) -> Result<MemHost, Memory> {
+    let at = Sequence::new(alloc);
+    let faults = Faults { at, from: None };
+    MemHost::new(alloc, Vec::new(alloc), Vec::new(alloc), faults)
 }
 
 /// Whether the folder stands for that configuration.
@@ -49,15 +55,10 @@ pub fn stands_for(alloc: Global, host: &mut MemHost, said: &Value) -> Result<boo
 /// The configuration that a value is.
 fn config_of(alloc: Global, value: &Value) -> Result<Config, Fail> {
     let bytes = value.to_vec(alloc)?;
-    let tree = match read_tree(alloc, &bytes) {
-        Ok(tree) => tree,
-        Err(ReadError::Memory) => return Err(Fail::Memory),
-        Err(_) => return Err(Fail::Row),
-    };
-    match config_of_tree(alloc, tree) {
-        Ok(config) => Ok(config),
-        Err(ShapeError::Memory) => Err(Fail::Memory),
-        Err(ShapeError::Shape { .. }) => Err(Fail::Row),
+    match read_tree(alloc, &bytes) {
+        Ok(tree) => config_at(alloc, tree),
+        Err(ReadError::Memory) => Err(Fail::Memory),
+        Err(_) => Err(Fail::Row),
     }
 }
 

@@ -1,6 +1,7 @@
 //! Examples of documents, patches and commands, asked row by row.
 #![tactic(auto)]
 
+mod boxes;
 mod changes;
 mod commands;
 mod documents;

@@ -1,5 +1,5 @@
 //! Commands that are stopped at each call of a host in memory, and crash then in each way.
-use crate::commands::{has_files, obey, words_at};
+use crate::commands::{has_files, is_written, obey_row};
 use crate::folders::{begin_restarts, host_with, stands_for};
 use example_rows::{Fail, Table, items_at, written_at};
 use host_core::{Faults, MemHost, Pick, Sequence};
@@ -22,11 +22,9 @@ const WAYS: u64 = 4;
 
 impl<'a> Table for Stops<'a> {
     fn is_as_said(&self, alloc: Global, row: &Value) -> Result<bool, Fail> {
-        let host = self.stopped_at(alloc, row, None)?;
-        if host.output() != whole_output(alloc, row)?.as_slice() {
+        let Some(calls) = self.calls_done(alloc, row)? else {
             return Ok(false);
-        }
-        let calls = host.calls();
+        };
         for from in 0..calls.saturating_add(1) {
             if !self.is_safe_at(alloc, row, from)? {
                 return Ok(false);
@@ -42,30 +40,70 @@ impl<'a> Stops<'a> {
         let at = Sequence::new(alloc);
         let faults = Faults { at, from };
         let mut host = host_with(alloc, self.inputs, row, faults)?;
-        let words = words_at(alloc, row)?;
-        let _outcome = obey(alloc, words.items(), &mut host)?;
+        let _outcome = obey_row(alloc, row, &mut host)?;
         Ok(host)
+    }
+
+    /// How many calls the command makes where it is not stopped, if it prints then what the row says.
+    fn calls_done(&self, alloc: Global, row: &Value) -> Result<Option<u64>, Fail> {
+        let host = self.stopped_at(alloc, row, None)?;
+        let as_said = is_whole_output(alloc, row, host.output())?;
+        Ok(if as_said { Some(host.calls()) } else { None })
+    }
+
+    /// The host after the command stopped at that call, and a crash in that way.
+    fn crashed_at(&self, alloc: Global, row: &Value, from: u64, way: u64) -> Result<MemHost, Fail> {
+        let pick = pick(alloc, way)?;
+        let host = self.stopped_at(alloc, row, Some(from))?;
+        Ok(host.crash(alloc, &pick)?)
+    }
+
+    /// How many acknowledgements the command has printed that is stopped at that call.
+    fn acknowledged_at(
+        &self,
+        alloc: Global,
+        row: &Value,
+        from: u64,
+    ) -> Result<Option<usize>, Fail> {
+        let host = self.stopped_at(alloc, row, Some(from))?;
+        acknowledged(alloc, row, host.output())
     }
 
     /// Whether each crash at that call leaves what the row says.
     fn is_safe_at(&self, alloc: Global, row: &Value, from: u64) -> Result<bool, Fail> {
+        let done = self.acknowledged_at(alloc, row, from)?;
         for way in 0..WAYS {
-            let host = self.stopped_at(alloc, row, Some(from))?;
-            if !is_safe(alloc, row, host, way)? {
+            if !self.is_safe_in(alloc, row, from, way, done)? {
                 return Ok(false);
             }
         }
         Ok(true)
     }
+
+    /// Whether a crash in that way at that call leaves what the row says.
+    fn is_safe_in(
+        &self,
+        alloc: Global,
+        row: &Value,
+        from: u64,
+        way: u64,
+        done: Option<usize>,
+    ) -> Result<bool, Fail> {
+        let mut left = self.crashed_at(alloc, row, from, way)?;
+        is_safe(alloc, row, &mut left, done)
+    }
 }
 
-/// Whether a crash leaves what the row says.
-fn is_safe(alloc: Global, row: &Value, host: MemHost, way: u64) -> Result<bool, Fail> {
-    let done = acknowledged(alloc, row, host.output())?;
-    let mut left = host.crash(alloc, &pick(alloc, way)?)?;
+/// Whether a host after a crash has what the row says.
+fn is_safe(
+    alloc: Global,
+    row: &Value,
+    left: &mut MemHost,
+    done: Option<usize>,
+) -> Result<bool, Fail> {
     let restarted = begin_restarts(row, left.restarts())?;
-    let same_files = has_files(alloc, row, &left)? && are_whole(alloc, row, &left)?;
-    let stands = is_one_of(alloc, &mut left, items_at(row, "configs")?, done)?;
+    let same_files = has_files(alloc, row, left)? && are_whole(alloc, row, left)?;
+    let stands = is_one_of(alloc, left, items_at(row, "configs")?, done)?;
     Ok(restarted && same_files && stands)
 }
 
@@ -82,6 +120,12 @@ fn pick(alloc: Global, way: u64) -> Result<Pick, Fail> {
 fn half_pick(alloc: Global) -> Result<Pick, Fail> {
     let half = b"half".to_vec(alloc)?;
     Ok(Pick::Bytes(Sequence::from_vec(half)))
+}
+
+/// Whether that is what the command prints where it is not stopped.
+fn is_whole_output(alloc: Global, row: &Value, output: &[u8]) -> Result<bool, Fail> {
+    let said = whole_output(alloc, row)?;
+    Ok(output == said.as_slice())
 }
 
 /// What the command prints where it is not stopped.
@@ -149,13 +193,10 @@ fn are_whole(alloc: Global, row: &Value, host: &MemHost) -> Result<bool, Fail> {
         return Ok(true);
     };
     for (name, _) in whole.as_object().ok_or(Fail::Row)? {
-        let said = written_at(alloc, whole, name.as_str())?;
-        let torn = match host.file(name.as_str()) {
-            Some(bytes) => bytes != said.as_slice(),
-            None => false,
-        };
-        if torn {
-            return Ok(false);
+        if let Some(bytes) = host.file(name.as_str()) {
+            if !is_written(alloc, whole, name.as_str(), bytes)? {
+                return Ok(false);
+            }
         }
     }
     Ok(true)
