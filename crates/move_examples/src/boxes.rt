@@ -43,15 +43,43 @@ impl<'a> KitTable for Boxes<'a> {
         situation: &Situation,
         row: &Value,
     ) -> Result<bool, Fail> {
-        let generated = generated_lines(alloc, situation, kit)?;
-        let same = are_lines(alloc, generated, items_at(row, "generated")?)?;
-        let moves = listed_moves(alloc, situation, kit)?;
         let said = items_at(row, "moves")?;
-        let followed = are_followed(alloc, situation, kit, moves.items(), said)?;
-        kit.begin(&situation.ctx);
-        let judged = are_judged(alloc, situation, kit, moves.items(), said)?;
-        Ok(same && followed && judged)
+        let same = are_generated(alloc, situation, kit, items_at(row, "generated")?)?;
+        let moves = listed_moves(alloc, situation, kit)?;
+        Ok(are_moves(alloc, situation, kit, moves.items(), said)? && same)
     }
+}
+
+/// Whether the generators give what is said.
+fn are_generated(
+    alloc: Global,
+    situation: &Situation,
+    kit: &mut Kit,
+    said: &[Value],
+) -> Result<bool, Fail>
+    requires kinds { ⟦<Kit as KitBoxes>⟧.HasKinds kit.old }
+    requires ready { IsReady situation.now }
+    ensures kinds { ⟦<Kit as KitBoxes>⟧.HasKinds kit.new }
+{
+    let generated = generated_lines(alloc, situation, kit)?;
+    are_lines(alloc, generated, said)
+}
+
+/// Whether extenders give and rules answer of each move what is said.
+fn are_moves(
+    alloc: Global,
+    situation: &Situation,
+    kit: &mut Kit,
+    moves: &[Move],
+    said: &[Value],
+) -> Result<bool, Fail>
+    requires kinds { ⟦<Kit as KitBoxes>⟧.HasKinds kit.old }
+    requires ready { IsReady situation.now }
+    requires defined { All (IsDefined situation.now.cur) moves.now }
+{
+    let followed = are_followed(alloc, situation, kit, moves, said)?;
+    kit.begin(&situation.ctx);
+    Ok(are_judged(alloc, situation, kit, moves, said)? && followed)
 }
 
 /// The moves of all generators, a line each.
@@ -61,11 +89,25 @@ fn generated_lines(alloc: Global, situation: &Situation, kit: &mut Kit) -> Resul
     ensures kinds { ⟦<Kit as KitBoxes>⟧.HasKinds kit.new }
 {
     let mut lines = Vec::new(alloc);
-    generate(alloc, situation, kit, 0, &mut lines)?;
-    generate(alloc, situation, kit, 1, &mut lines)?;
-    generate(alloc, situation, kit, 2, &mut lines)?;
-    generate(alloc, situation, kit, 3, &mut lines)?;
+    generate_all(alloc, situation, kit, &mut lines)?;
     Ok(lines)
+}
+
+/// Adds the moves of all generators.
+fn generate_all(
+    alloc: Global,
+    situation: &Situation,
+    kit: &mut Kit,
+    lines: &mut Lines,
+) -> Result<(), Fail>
+    requires kinds { ⟦<Kit as KitBoxes>⟧.HasKinds kit.old }
+    requires ready { IsReady situation.now }
+    ensures kinds { ⟦<Kit as KitBoxes>⟧.HasKinds kit.new }
+{
+    generate(alloc, situation, kit, 0, lines)?;
+    generate(alloc, situation, kit, 1, lines)?;
+    generate(alloc, situation, kit, 2, lines)?;
+    generate(alloc, situation, kit, 3, lines)
 }
 
 /// Adds the moves of the generator at an index.
@@ -153,18 +195,58 @@ fn is_followed(
     requires defined { IsDefined situation.now.cur mv.now }
     ensures kinds { ⟦<Kit as KitBoxes>⟧.HasKinds kit.new }
 {
-    if move_text(alloc, mv)? != text_bytes(alloc, row, "move")? {
+    if !is_move(alloc, mv, row)? {
         return Ok(false);
     }
     if row.get("extensions").is_none() {
         return Ok(true);
     }
+    let said = items_at(row, "extensions")?;
+    let lines = extension_lines(alloc, situation, kit, mv)?;
+    are_lines(alloc, lines, said)
+}
+
+/// Whether a move is that of a row.
+fn is_move(alloc: Global, mv: &Move, row: &Value) -> Result<bool, Fail> {
+    let said = text_bytes(alloc, row, "move")?;
+    let text = move_text(alloc, mv)?;
+    Ok(text == said)
+}
+
+/// What all extenders give, a line each.
+fn extension_lines(
+    alloc: Global,
+    situation: &Situation,
+    kit: &mut Kit,
+    mv: &Move,
+) -> Result<Lines, Fail>
+    requires kinds { ⟦<Kit as KitBoxes>⟧.HasKinds kit.old }
+    requires ready { IsReady situation.now }
+    requires defined { IsDefined situation.now.cur mv.now }
+    ensures kinds { ⟦<Kit as KitBoxes>⟧.HasKinds kit.new }
+{
     let mut lines = Vec::new(alloc);
-    extend(alloc, situation, kit, 0, mv, &mut lines)?;
-    extend(alloc, situation, kit, 1, mv, &mut lines)?;
-    extend(alloc, situation, kit, 2, mv, &mut lines)?;
-    extend(alloc, situation, kit, 3, mv, &mut lines)?;
-    are_lines(alloc, lines, items_at(row, "extensions")?)
+    extend_all(alloc, situation, kit, mv, &mut lines)?;
+    Ok(lines)
+}
+
+/// Adds what all extenders give.
+fn extend_all(
+    alloc: Global,
+    situation: &Situation,
+    kit: &mut Kit,
+    mv: &Move,
+    lines: &mut Lines,
+) -> Result<(), Fail>
+    requires kinds { ⟦<Kit as KitBoxes>⟧.HasKinds kit.old }
+    requires ready { IsReady situation.now }
+    requires defined { IsDefined situation.now.cur mv.now }
+    ensures kinds { ⟦<Kit as KitBoxes>⟧.HasKinds kit.new }
+{
+    extend(alloc, situation, kit, 0, mv, lines)?;
+    extend(alloc, situation, kit, 1, mv, lines)?;
+    extend(alloc, situation, kit, 2, mv, lines)?;
+    extend(alloc, situation, kit, 3, mv, lines)
 }
 
 /// Adds what the extender at an index gives.
@@ -236,14 +318,51 @@ fn is_judged(
 {
     let next = step(alloc, &situation.cur, mv)?;
     let same = next.same(&situation.cur) == row.get("same").is_some();
+    Ok(are_refusals(alloc, situation, kit, &next, mv, row)? && same)
+}
+
+/// Whether the rules that refuse a move with that result are those of its row.
+fn are_refusals(
+    alloc: Global,
+    situation: &Situation,
+    kit: &mut Kit,
+    next: &Config,
+    mv: &Move,
+    row: &Value,
+) -> Result<bool, Fail>
+    requires kinds { ⟦<Kit as KitBoxes>⟧.HasKinds kit.old }
+    requires fits { ⟦<Kit as KitBoxes>⟧.IsFit kit.old situation.now.ctx.models }
+    requires ready { IsReady situation.now }
+    requires next { IsResult situation.now.cur mv.now next.now }
+    ensures kinds { ⟦<Kit as KitBoxes>⟧.HasKinds kit.new }
+    ensures fits { ⟦<Kit as KitBoxes>⟧.IsFit kit.new situation.now.ctx.models }
+{
     let mut refused = Vec::new(alloc);
-    judge(situation, kit, 0, &next, mv, &mut refused)?;
-    judge(situation, kit, 1, &next, mv, &mut refused)?;
-    judge(situation, kit, 2, &next, mv, &mut refused)?;
-    judge(situation, kit, 3, &next, mv, &mut refused)?;
-    judge(situation, kit, 4, &next, mv, &mut refused)?;
+    judge_all(situation, kit, next, mv, &mut refused)?;
     let said = line_of(alloc, row.get("refused").ok_or(Fail::Row)?)?;
-    Ok(same && refused == said)
+    Ok(refused == said)
+}
+
+/// Adds the numbers of the rules that say no.
+fn judge_all(
+    situation: &Situation,
+    kit: &mut Kit,
+    next: &Config,
+    mv: &Move,
+    refused: &mut Vec<u8>,
+) -> Result<(), Fail>
+    requires kinds { ⟦<Kit as KitBoxes>⟧.HasKinds kit.old }
+    requires fits { ⟦<Kit as KitBoxes>⟧.IsFit kit.old situation.now.ctx.models }
+    requires ready { IsReady situation.now }
+    requires next { IsResult situation.now.cur mv.now next.now }
+    ensures kinds { ⟦<Kit as KitBoxes>⟧.HasKinds kit.new }
+    ensures fits { ⟦<Kit as KitBoxes>⟧.IsFit kit.new situation.now.ctx.models }
+{
+    judge(situation, kit, 0, next, mv, refused)?;
+    judge(situation, kit, 1, next, mv, refused)?;
+    judge(situation, kit, 2, next, mv, refused)?;
+    judge(situation, kit, 3, next, mv, refused)?;
+    judge(situation, kit, 4, next, mv, refused)
 }
 
 /// Adds the number of the rule at an index, where it says no.

@@ -1,4 +1,6 @@
 //! How many configurations a search expands, and how often it asks each rule.
+ghost use Rattle.std.specs.Prelude.{IfOk};
+ghost use Rattle.move_core.specs.Kinds.{AreOfKinds, rule_kinds};
 ghost use Rattle.move_examples.specs.Situations.{IsReady};
 
 use crate::kits::{KitTable, ask_rules, kit_rules};
@@ -28,10 +30,23 @@ pub struct Counts<'a> {
 impl<'a> Table for Counts<'a> {
     fn is_as_said(&self, alloc: Global, row: &Value) -> Result<bool, Fail> {
         let situation = situation_at(alloc, self.inputs, row)?;
+        self.counts_as_said(alloc, &situation, row)
+    }
+}
+
+impl<'a> Counts<'a> {
+    /// Whether a kit counts in the situation of a row what the row says.
+    fn counts_as_said(
+        &self,
+        alloc: Global,
+        situation: &Situation,
+        row: &Value,
+    ) -> Result<bool, Fail>
+        requires { IsReady situation.now }
+    {
         let tally = Tally::new(alloc)?;
-        let expanded = ask_counted(alloc, &tally, self, &situation, row)?;
-        let said = line_of(alloc, row.get("asked").ok_or(Fail::Row)?)?;
-        Ok(expanded && tally.line(alloc)? == said)
+        let expanded = ask_counted(alloc, &tally, self, situation, row)?;
+        Ok(expanded && tally.is_said(alloc, row)?)
     }
 }
 
@@ -73,15 +88,26 @@ impl Tally {
         })
     }
 
+    /// Whether the rules were asked as often as the row says.
+    fn is_said(&self, alloc: Global, row: &Value) -> Result<bool, Fail> {
+        let said = line_of(alloc, row.get("asked").ok_or(Fail::Row)?)?;
+        let line = self.line(alloc)?;
+        Ok(line == said)
+    }
+
     /// The counts in the order of the rules' numbers.
     fn line(&self, alloc: Global) -> Result<Vec<u8>, Fail> {
         let mut line = Vec::new(alloc);
-        push_count(alloc, &mut line, self.full.get())?;
-        push_count(alloc, &mut line, self.no_dependency.get())?;
-        push_count(alloc, &mut line, self.no_empty.get())?;
-        push_count(alloc, &mut line, self.create_only.get())?;
-        push_count(alloc, &mut line, self.required.get())?;
+        self.push_counts(alloc, &mut line)?;
         Ok(line)
+    }
+
+    fn push_counts(&self, alloc: Global, line: &mut Vec<u8>) -> Result<(), Fail> {
+        push_count(alloc, line, self.full.get())?;
+        push_count(alloc, line, self.no_dependency.get())?;
+        push_count(alloc, line, self.no_empty.get())?;
+        push_count(alloc, line, self.create_only.get())?;
+        push_count(alloc, line, self.required.get())
     }
 }
 
@@ -136,18 +162,31 @@ fn ask_counted(
 ) -> Result<bool, Fail>
     requires { IsReady situation.now }
 {
-    let full = Counted::new(FullRule::new(), &tally.full)?;
-    let no_dependency = Counted::new(NoDependencyRule::new(), &tally.no_dependency)?;
-    let no_empty = Counted::new(NoEmptyRule::new(), &tally.no_empty)?;
-    let create_only = Counted::new(CreateOnlyRule::new(), &tally.create_only)?;
-    let required = Counted::new(RequiredRule::new(), &tally.required)?;
-    let rules = kit_rules(
-        alloc,
-        Box::new(alloc, full)?,
-        Box::new(alloc, no_dependency)?,
-        Box::new(alloc, no_empty)?,
-        Box::new(alloc, create_only)?,
-        Box::new(alloc, required)?,
-    )?;
+    let rules = counted_rules(alloc, tally)?;
     ask_rules(alloc, rules, table, situation, row)
+}
+
+/// The rules, which count in a tally.
+fn counted_rules(alloc: Global, tally: &Tally) -> Result<Vec<Box<dyn MoveRule>>, Memory>
+    ensures { IfOk result (λ boxes.
+        AreOfKinds (λ b. (MoveRule-box b).rule_kind b.value) rule_kinds boxes.items) }
+{
+    kit_rules(
+        alloc,
+        boxed_rule(alloc, FullRule::new(), &tally.full)?,
+        boxed_rule(alloc, NoDependencyRule::new(), &tally.no_dependency)?,
+        boxed_rule(alloc, NoEmptyRule::new(), &tally.no_empty)?,
+        boxed_rule(alloc, CreateOnlyRule::new(), &tally.create_only)?,
+        boxed_rule(alloc, RequiredRule::new(), &tally.required)?,
+    )
+}
+
+/// A rule that counts in a place that is shared.
+fn boxed_rule<R: MoveRule>(
+    alloc: Global,
+    rule: R,
+    asked: &Rc<Cell<u64>>,
+) -> Result<Box<Counted<R>>, Memory> {
+    let rule = Counted::new(rule, asked)?;
+    Ok(Box::new(alloc, rule)?)
 }

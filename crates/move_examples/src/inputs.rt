@@ -1,5 +1,5 @@
 //! The models and the rules that rows share.
-ghost use Rattle.std.specs.Prelude.{IfOk};
+ghost use Rattle.std.specs.Prelude.{IfOk, OnOk};
 ghost use Rattle.move_examples.specs.Situations.{AreSmall, IsSmall};
 
 use example_rows::{Fail, items_at, read_rows, text_at, written_at};
@@ -31,6 +31,13 @@ pub fn models_at(alloc: Global, inputs: &Value, row: &Value) -> Result<Models, F
     let names = items_at(lists, text_at(row, "models")?)?;
     let texts = inputs.get("texts").ok_or(Fail::Row)?;
     let texts = read_texts(alloc, texts, Sequence::new(alloc), names)?;
+    models_of(alloc, &texts)
+}
+
+/// The models of some texts.
+fn models_of(alloc: Global, texts: &Texts) -> Result<Models, Fail>
+    requires { AreSmall texts.now }
+{
     if texts.len() > MOST_FILES {
         return Err(Fail::Row);
     }
@@ -49,12 +56,22 @@ fn read_texts(alloc: Global, texts: &Value, mut read: Texts, names: &[Value]) ->
     match names {
         [] => Ok(read),
         [name, rest @ ..] => {
-            let name = name.as_str().ok_or(Fail::Row)?;
-            let statements = read_text(alloc, texts, name)?;
-            read.push((Txt::new(alloc, name)?, statements))?;
+            push_text(alloc, texts, &mut read, name)?;
             read_texts(alloc, texts, read, rest)
         }
     }
+}
+
+/// Adds the statements of the text of a name.
+fn push_text(alloc: Global, texts: &Value, read: &mut Texts, name: &Value) -> Result<(), Fail>
+    requires { AreSmall read.old }
+    ensures { OnOk result (AreSmall read.new) }
+{
+    let name = name.as_str().ok_or(Fail::Row)?;
+    let statements = read_text(alloc, texts, name)?;
+    let name = Txt::new(alloc, name)?;
+    read.push((name, statements))?;
+    Ok(())
 }
 
 /// The statements of the text of a name.

@@ -8,7 +8,7 @@ use crate::orders::are_in_order;
 use crate::ranks::ranked_at;
 use crate::situations::{Situation, situation_at};
 use example_rows::{Fail, Table, items_at, number_at, text_bytes};
-use move_core::{Boxes, Kit, Move};
+use move_core::{Boxes, Kit, Move, Ranked};
 use plan_lists::{listed, listed_in_tier};
 use serde_json::Value;
 use std::alloc::Global;
@@ -66,7 +66,7 @@ fn is_tier(
         goal,
     } = situation;
     let moves = listed_in_tier(alloc, ctx, kit, start, cur, goal, tier)?;
-    Ok(move_texts(alloc, &moves)? == said_texts(alloc, said, Some(u64::from(tier)))?)
+    are_texts(alloc, &moves, said, Some(u64::from(tier)))
 }
 
 /// Whether the whole list is what is said, and so are the ranks.
@@ -86,8 +86,23 @@ fn is_list(
         goal,
     } = situation;
     let moves = listed(alloc, ctx, kit, start, cur, goal)?;
-    let same = move_texts(alloc, moves.items())? == said_texts(alloc, said, None)?;
-    Ok(same && are_ranked(alloc, moves.items(), said)?)
+    are_listed(alloc, moves.items(), said)
+}
+
+fn are_listed(alloc: Global, moves: &[Move], said: &[Value]) -> Result<bool, Fail> {
+    Ok(are_texts(alloc, moves, said, None)? && are_ranked(alloc, moves, said)?)
+}
+
+/// Whether the texts of moves are those that are said, of one tier or of all.
+fn are_texts(
+    alloc: Global,
+    moves: &[Move],
+    said: &[Value],
+    tier: Option<u64>,
+) -> Result<bool, Fail> {
+    let said = said_texts(alloc, said, tier)?;
+    let texts = move_texts(alloc, moves)?;
+    Ok(texts == said)
 }
 
 /// The texts of the moves that are said, of one tier or of all.
@@ -105,7 +120,12 @@ fn said_texts(alloc: Global, said: &[Value], tier: Option<u64>) -> Result<Lines,
 fn are_ranked(alloc: Global, moves: &[Move], said: &[Value]) -> Result<bool, Fail> {
     let mut ranked = Vec::new(alloc);
     for (mv, row) in moves.iter().zip(said) {
-        ranked.push(ranked_at(row, mv.copy(alloc)?)?)?;
+        ranked.push(ranked_copy(alloc, mv, row)?)?;
     }
     Ok(are_in_order(&ranked))
+}
+
+fn ranked_copy(alloc: Global, mv: &Move, row: &Value) -> Result<Ranked, Fail> {
+    let mv = mv.copy(alloc)?;
+    ranked_at(row, mv)
 }

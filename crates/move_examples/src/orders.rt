@@ -3,7 +3,7 @@ ghost use Rattle.std.specs.Prelude.{◌<◌, IfOk, length};
 
 use crate::ranks::ranked_at;
 use crate::situations::config_at;
-use conf_doc::{Config, Entry, Part, Path, Table as Entries};
+use conf_doc::{Config, Entry, Part, Path, Table as Entries, Value as Held};
 use example_rows::{Fail, Table, items_at, text_at};
 use move_core::{Move, Ranked, cmp_listed};
 use serde_json::Value;
@@ -18,11 +18,15 @@ impl Table for Orders {
     fn is_as_said(&self, alloc: Global, row: &Value) -> Result<bool, Fail> {
         let mut ranked = Vec::new(alloc);
         for item in items_at(row, "moves")? {
-            let mv = move_at(alloc, item)?;
-            ranked.push(ranked_at(item, mv)?)?;
+            ranked.push(ranked_move(alloc, item)?)?;
         }
         Ok(are_in_order(&ranked))
     }
+}
+
+fn ranked_move(alloc: Global, item: &Value) -> Result<Ranked, Fail> {
+    let mv = move_at(alloc, item)?;
+    ranked_at(item, mv)
 }
 
 /// Whether each two compare as their numbers do.
@@ -47,11 +51,20 @@ fn stands_at(ranked: &[Ranked], i: usize, one: &Ranked) -> bool {
 
 fn move_at(alloc: Global, item: &Value) -> Result<Move, Fail> {
     let place = items_at(item, "place")?;
+    let action = text_at(item, "action")?;
     let path = path_of(alloc, place)?;
-    match text_at(item, "action")? {
-        "add" => Ok(Move::Add(path, part_at(alloc, item, place)?)),
-        "replace" => Ok(Move::Replace(path, part_at(alloc, item, place)?)),
-        "remove" => Ok(Move::Remove(path)),
+    if action == "remove" {
+        return Ok(Move::Remove(path));
+    }
+    let part = part_at(alloc, item, place)?;
+    put_move(action, path, part)
+}
+
+/// The move that puts a part at a path, by what it does.
+fn put_move(action: &str, path: Path, part: Part) -> Result<Move, Fail> {
+    match action {
+        "add" => Ok(Move::Add(path, part)),
+        "replace" => Ok(Move::Replace(path, part)),
         _ => Err(Fail::Row),
     }
 }
@@ -81,15 +94,30 @@ fn name_of(value: &Value) -> Result<&str, Fail>
 /// What stands at the place in the configuration of the row.
 fn part_at(alloc: Global, item: &Value, place: &[Value]) -> Result<Part, Fail> {
     let within = config_at(alloc, item, "within")?;
+    part_of(alloc, &within, place)
+}
+
+/// What stands at a place in a configuration.
+fn part_of(alloc: Global, within: &Config, place: &[Value]) -> Result<Part, Fail> {
     match place {
-        [table] => Ok(Part::Table(entries(&within, table)?.copy(alloc)?)),
-        [table, key] => Ok(Part::Entry(fields(&within, table, key)?.copy(alloc)?)),
+        [table] => Ok(Part::Table(entries(within, table)?.copy(alloc)?)),
+        [table, key] => Ok(Part::Entry(fields(within, table, key)?.copy(alloc)?)),
         [table, key, field] => {
-            let found = fields(&within, table, key)?.field(name_of(field)?);
-            Ok(Part::Value(found.ok_or(Fail::Row)?.copy(alloc)?))
+            let value = value_of(within, table, key, field)?;
+            Ok(Part::Value(value.copy(alloc)?))
         }
         _ => Err(Fail::Row),
     }
+}
+
+fn value_of<'a>(
+    config: &'a Config,
+    table: &Value,
+    key: &Value,
+    field: &Value,
+) -> Result<&'a Held, Fail> {
+    let found = fields(config, table, key)?.field(name_of(field)?);
+    found.ok_or(Fail::Row)
 }
 
 fn entries<'a>(config: &'a Config, table: &Value) -> Result<&'a Entries, Fail> {

@@ -30,8 +30,17 @@ pub const AMPLE: u32 = 10_000;
 impl<'a> Table for Plans<'a> {
     fn is_as_said(&self, alloc: Global, row: &Value) -> Result<bool, Fail> {
         let situation = situation_at(alloc, self.inputs, row)?;
-        let full = ask_full(alloc, self, &situation, row)?;
-        Ok(full && ask_recheck(alloc, self, &situation, row)?)
+        self.ask_both(alloc, &situation, row)
+    }
+}
+
+impl<'a> Plans<'a> {
+    /// Asks both kits.
+    fn ask_both(&self, alloc: Global, situation: &Situation, row: &Value) -> Result<bool, Fail>
+        requires { IsReady situation.now }
+    {
+        let full = ask_full(alloc, self, situation, row)?;
+        Ok(full && ask_recheck(alloc, self, situation, row)?)
     }
 }
 
@@ -44,28 +53,61 @@ impl<'a> KitTable for Plans<'a> {
         row: &Value,
     ) -> Result<bool, Fail> {
         let said = said_lines(alloc, row)?;
-        if row.get("budget").is_some() {
-            let budget = budget_of(number_at(row, "budget")?)?;
-            return Ok(answer(alloc, situation, kit, budget)? == said);
-        }
-        let least = budget_of(number_at(row, "least_budget")?)?;
-        let ample = answer(alloc, situation, kit, AMPLE)? == said;
-        let enough = answer(alloc, situation, kit, least)? == said;
-        Ok(ample && enough && is_least(alloc, situation, kit, least)?)
+        answers_as_said(alloc, situation, kit, row, &said)
     }
+}
+
+/// Whether the searches with the budgets of a row answer what is said.
+fn answers_as_said(
+    alloc: Global,
+    situation: &Situation,
+    kit: &mut Kit,
+    row: &Value,
+    said: &Lines,
+) -> Result<bool, Fail>
+    requires kinds { ⟦<Kit as Boxes>⟧.HasKinds kit.old }
+    requires ready { IsReady situation.now }
+{
+    if row.get("budget").is_some() {
+        let budget = budget_of(number_at(row, "budget")?)?;
+        return is_answer(alloc, situation, kit, budget, said);
+    }
+    let least = budget_of(number_at(row, "least_budget")?)?;
+    let ample = is_answer(alloc, situation, kit, AMPLE, said)?;
+    let enough = is_answer(alloc, situation, kit, least, said)?;
+    Ok(ample && enough && is_least(alloc, situation, kit, least)?)
+}
+
+/// Whether a search with a budget answers what is said.
+fn is_answer(
+    alloc: Global,
+    situation: &Situation,
+    kit: &mut Kit,
+    budget: u32,
+    said: &Lines,
+) -> Result<bool, Fail>
+    requires kinds { ⟦<Kit as Boxes>⟧.HasKinds kit.old }
+    requires ready { IsReady situation.now }
+    requires budget { 0 < budget }
+    ensures kinds { ⟦<Kit as Boxes>⟧.HasKinds kit.new }
+{
+    let lines = answer(alloc, situation, kit, budget)?;
+    Ok(lines == *said)
 }
 
 /// What the row says: the texts of the steps, or why there is no plan.
 fn said_lines(alloc: Global, row: &Value) -> Result<Lines, Fail> {
-    let mut lines = Vec::new(alloc);
     match row.get("plan") {
-        Some(Value::String(why)) => lines.push(why.as_bytes().to_vec(alloc)?)?,
-        Some(Value::Array(steps)) => {
-            for step in steps {
-                lines.push(step.to_vec(alloc)?)?;
-            }
-        }
-        _ => return Err(Fail::Row),
+        Some(Value::String(why)) => why_line(alloc, why.as_str()),
+        Some(Value::Array(steps)) => step_lines(alloc, steps.as_slice()),
+        _ => Err(Fail::Row),
+    }
+}
+
+fn step_lines(alloc: Global, steps: &[Value]) -> Result<Lines, Fail> {
+    let mut lines = Vec::new(alloc);
+    for step in steps {
+        lines.push(step.to_vec(alloc)?)?;
     }
     Ok(lines)
 }
@@ -89,8 +131,8 @@ fn is_least(alloc: Global, situation: &Situation, kit: &mut Kit, least: u32) -> 
     if least == 1 {
         return Ok(true);
     }
-    let lines = answer(alloc, situation, kit, least - 1)?;
-    Ok(lines == why_line(alloc, "budget")?)
+    let said = why_line(alloc, "budget")?;
+    is_answer(alloc, situation, kit, least - 1, &said)
 }
 
 fn why_line(alloc: Global, why: &str) -> Result<Lines, Fail> {

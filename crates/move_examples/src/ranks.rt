@@ -5,15 +5,19 @@ use serde_json::Value;
 
 /// A move with its `tier`, its number of `extensions` and its `class`.
 pub fn ranked_at(row: &Value, mv: Move) -> Result<Ranked, Fail> {
-    let tier = u8::try_from(number_at(row, "tier")?).map_err(|_| Fail::Row)?;
-    let depth = usize::try_from(number_at(row, "extensions")?).map_err(|_| Fail::Row)?;
-    let class = class_named(text_at(row, "class")?)?;
+    let (tier, depth, class) = rank_at(row)?;
     Ok(Ranked {
         tier,
         depth,
         class,
         mv,
     })
+}
+
+fn rank_at(row: &Value) -> Result<(u8, usize, u8), Fail> {
+    let tier = u8::try_from(number_at(row, "tier")?).map_err(|_| Fail::Row)?;
+    let depth = usize::try_from(number_at(row, "extensions")?).map_err(|_| Fail::Row)?;
+    Ok((tier, depth, class_named(text_at(row, "class")?)?))
 }
 
 fn class_named(name: &str) -> Result<u8, Fail> {

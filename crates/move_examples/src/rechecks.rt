@@ -2,7 +2,7 @@
 ghost use Rattle.move_core.specs.Contexts.{IsNamed};
 
 use crate::situations::{config_at, ctx_at};
-use conf_doc::Path;
+use conf_doc::{Config, Path};
 use example_rows::{Fail, Table, items_at, number_at};
 use move_core::{Ctx, Move, MoveRule};
 use recheck::RecheckRule;
@@ -53,13 +53,22 @@ fn answers(alloc: Global, ctx: &Ctx, rule: &mut RecheckRule, asked: &Value) -> R
     requires fits { ⟦<RecheckRule as MoveRule>⟧.fits rule.old ctx.now.models }
     ensures fits { ⟦<RecheckRule as MoveRule>⟧.fits rule.new ctx.now.models }
 {
-    let config = config_at(alloc, asked, "config")?;
-    let mv = Move::Remove(Path::new(alloc, &["PORT"])?);
+    let said = asked.get("valid").and_then(Value::as_bool);
+    let count = number_at(asked, "checked")?;
     if asked.get("begins").is_some() {
         rule.begin(ctx);
     }
-    let valid = rule.allows(ctx, &config, &config, &config, &mv);
-    let said = asked.get("valid").and_then(Value::as_bool);
-    let count = number_at(asked, "checked")?;
+    let config = config_at(alloc, asked, "config")?;
+    let valid = allows(alloc, ctx, rule, &config)?;
     Ok(said == Some(valid) && rule.checked() == count)
+}
+
+/// What the rule answers of a configuration.
+fn allows(alloc: Global, ctx: &Ctx, rule: &mut RecheckRule, config: &Config) -> Result<bool, Fail>
+    requires named { IsNamed ctx.now }
+    requires fits { ⟦<RecheckRule as MoveRule>⟧.fits rule.old ctx.now.models }
+    ensures fits { ⟦<RecheckRule as MoveRule>⟧.fits rule.new ctx.now.models }
+{
+    let mv = Move::Remove(Path::new(alloc, &["PORT"])?);
+    Ok(rule.allows(ctx, config, config, config, &mv))
 }

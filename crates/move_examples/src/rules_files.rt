@@ -14,16 +14,19 @@ impl Table for RulesFiles {
         let bytes = bytes_at(alloc, row, "text")?;
         let fault = row.get("fault").and_then(Value::as_str);
         match read_rules(alloc, &bytes) {
-            Ok(settings) => {
-                let lines = settings_lines(alloc, &settings)?;
-                let said = written_at(alloc, row, "settings")?;
-                Ok(lines.as_str().as_bytes() == said.as_slice())
-            }
+            Ok(settings) => are_settings(alloc, row, &settings),
             Err(RulesError::BadJson) => Ok(fault == Some("BadJson")),
             Err(RulesError::Bad { why }) => Ok(fault == Some(name_of(why))),
             Err(RulesError::Memory) => Err(Fail::Memory),
         }
     }
+}
+
+/// Whether the settings are those of the row.
+fn are_settings(alloc: Global, row: &Value, settings: &Settings) -> Result<bool, Fail> {
+    let said = written_at(alloc, row, "settings")?;
+    let lines = settings_lines(alloc, settings)?;
+    Ok(lines.as_str().as_bytes() == said.as_slice())
 }
 
 fn name_of(why: RulesWhy) -> &'static str {

@@ -6,7 +6,7 @@ ghost use Rattle.move_examples.specs.Situations.{IsReady};
 
 use crate::inputs::models_at;
 use conf_check::check;
-use conf_doc::{Config, ReadError, ShapeError, config_of_tree, read_tree};
+use conf_doc::{Config, ReadError, ShapeError, Tree, config_of_tree, read_tree};
 use example_rows::{Fail, text_bytes};
 use move_core::{Ctx, RulesError, Settings, read_rules};
 use serde_json::Value;
@@ -27,15 +27,25 @@ pub fn situation_at(alloc: Global, inputs: &Value, row: &Value) -> Result<Situat
     ensures { IfOk result IsReady }
 {
     let ctx = ctx_at(alloc, inputs, row)?;
-    let cur = valid_at(alloc, &ctx, row, "cur")?;
-    let goal = valid_at(alloc, &ctx, row, "goal")?;
-    let start = valid_at(alloc, &ctx, row, start_name(row))?;
+    let (start, cur, goal) = configs_at(alloc, &ctx, row)?;
     Ok(Situation {
         ctx,
         start,
         cur,
         goal,
     })
+}
+
+/// The three configurations of a row.
+fn configs_at(alloc: Global, ctx: &Ctx, row: &Value) -> Result<(Config, Config, Config), Fail>
+    ensures start { IfOk result (λ configs. IsValidIn ctx.now configs.0) }
+    ensures cur { IfOk result (λ configs. IsValidIn ctx.now configs.1) }
+    ensures goal { IfOk result (λ configs. IsValidIn ctx.now configs.2) }
+{
+    let cur = valid_at(alloc, ctx, row, "cur")?;
+    let goal = valid_at(alloc, ctx, row, "goal")?;
+    let start = valid_at(alloc, ctx, row, start_name(row))?;
+    Ok((start, cur, goal))
 }
 
 fn start_name(row: &Value) -> &'static str {
@@ -50,13 +60,20 @@ fn start_name(row: &Value) -> &'static str {
 pub fn ctx_at(alloc: Global, inputs: &Value, row: &Value) -> Result<Ctx, Fail>
     ensures { IfOk result IsNamed }
 {
+    let settings = rules_at(alloc, inputs, row)?;
     let models = models_at(alloc, inputs, row)?;
-    let settings = if row.get("rules").is_some() {
-        settings_at(alloc, row)?
-    } else {
-        settings_at(alloc, inputs)?
-    };
     Ok(Ctx { models, settings })
+}
+
+/// The rules of a row, or those of the inputs.
+fn rules_at(alloc: Global, inputs: &Value, row: &Value) -> Result<Settings, Fail>
+    ensures { IfOk result HasNames }
+{
+    if row.get("rules").is_some() {
+        settings_at(alloc, row)
+    } else {
+        settings_at(alloc, inputs)
+    }
 }
 
 fn settings_at(alloc: Global, row: &Value) -> Result<Settings, Fail>
@@ -84,11 +101,15 @@ fn valid_at(alloc: Global, ctx: &Ctx, row: &Value, name: &str) -> Result<Config,
 /// The configuration under a name.
 pub fn config_at(alloc: Global, row: &Value, name: &str) -> Result<Config, Fail> {
     let bytes = text_bytes(alloc, row, name)?;
-    let tree = match read_tree(alloc, &bytes) {
-        Ok(tree) => tree,
-        Err(ReadError::Memory) => return Err(Fail::Memory),
-        Err(_) => return Err(Fail::Row),
-    };
+    match read_tree(alloc, &bytes) {
+        Ok(tree) => config_of(alloc, tree),
+        Err(ReadError::Memory) => Err(Fail::Memory),
+        Err(_) => Err(Fail::Row),
+    }
+}
+
+/// The configuration of a tree.
+fn config_of(alloc: Global, tree: Tree) -> Result<Config, Fail> {
     match config_of_tree(alloc, tree) {
         Ok(config) => Ok(config),
         Err(ShapeError::Memory) => Err(Fail::Memory),
