@@ -1,8 +1,8 @@
 //! Whole commands on a host in memory.
-use crate::boxes::kit;
+use crate::boxes::obey;
 use example_rows::{Fail, Table, items_at, number_at, text_bytes, written_at};
-use gcu_engine::{Outcome, run};
-use host_core::{Faults, MemHost, Memory, Names, Sequence, Txt};
+use gcu_engine::Outcome;
+use host_core::{Faults, MemHost, Names, Sequence, Txt};
 use serde_json::Value;
 use std::alloc::Global;
 
@@ -42,12 +42,6 @@ pub fn ends_as_said(alloc: Global, row: &Value, host: &mut MemHost) -> Result<bo
 pub fn obey_row(alloc: Global, row: &Value, host: &mut MemHost) -> Result<Outcome, Fail> {
     let words = words_at(alloc, row)?;
     Ok(obey(alloc, words.items(), host)?)
-}
-
-/// Does the command with the boxes of a planner.
-fn obey(alloc: Global, words: &[Txt], host: &mut MemHost) -> Result<Outcome, Memory> {
-    let mut kit = kit(alloc)?;
-    Ok(run(alloc, words, &mut kit, host))
 }
 
 fn words_at(alloc: Global, row: &Value) -> Result<Names, Fail> {

@@ -1,6 +1,4 @@
 //! How many configurations a search expands, and how often it asks each rule.
-ghost use Rattle.std.specs.Prelude.{IfOk};
-ghost use Rattle.move_core.specs.Kinds.{AreOfKinds, rule_kinds};
 ghost use Rattle.move_examples.specs.Situations.{IsReady};
 
 use crate::kits::{KitTable, ask_rules, kit_rules};
@@ -162,23 +160,15 @@ fn ask_counted(
 ) -> Result<bool, Fail>
     requires { IsReady situation.now }
 {
-    let rules = counted_rules(alloc, tally)?;
-    ask_rules(alloc, rules, table, situation, row)
-}
-
-/// The rules, which count in a tally.
-fn counted_rules(alloc: Global, tally: &Tally) -> Result<Vec<Box<dyn MoveRule>>, Memory>
-    ensures { IfOk result (λ boxes.
-        AreOfKinds (λ b. (MoveRule-box b).rule_kind b.value) rule_kinds boxes.items) }
-{
-    kit_rules(
+    let rules = kit_rules(
         alloc,
         boxed_rule(alloc, FullRule::new(), &tally.full)?,
         boxed_rule(alloc, NoDependencyRule::new(), &tally.no_dependency)?,
         boxed_rule(alloc, NoEmptyRule::new(), &tally.no_empty)?,
         boxed_rule(alloc, CreateOnlyRule::new(), &tally.create_only)?,
         boxed_rule(alloc, RequiredRule::new(), &tally.required)?,
-    )
+    )?;
+    ask_rules(alloc, rules, table, situation, row)
 }
 
 /// A rule that counts in a place that is shared.

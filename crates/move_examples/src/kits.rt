@@ -79,38 +79,38 @@ pub fn ask_rules<T: KitTable>(
     requires rules { AreOfKinds (λ b. (MoveRule-box b).rule_kind b.value) rule_kinds rules.items }
     requires ready { IsReady situation.now }
 {
-    let gens = generators(alloc)?;
-    let exts = extenders(alloc)?;
-    let mut kit = Kit { gens, exts, rules };
-    table.is_said_by(alloc, &mut kit, situation, row)
-}
-
-/// The generators.
-fn generators(alloc: Global) -> Result<Vec<Box<dyn MoveGen>>, Memory>
-    ensures { IfOk result (λ boxes.
-        AreOfKinds (λ b. (MoveGen-box b).gen_kind b.value) generator_kinds boxes.items) }
-{
-    kit_generators(
+    let gens = kit_generators(
         alloc,
         Box::new(alloc, TableGen::new())?,
         Box::new(alloc, KeyGen::new())?,
         Box::new(alloc, FieldGen::new())?,
         Box::new(alloc, SeedGen::new())?,
-    )
+    )?;
+    ask_both(alloc, gens, rules, table, situation, row)
 }
 
-/// The extenders.
-fn extenders(alloc: Global) -> Result<Vec<Box<dyn MoveExt>>, Memory>
-    ensures { IfOk result (λ boxes.
-        AreOfKinds (λ b. (MoveExt-box b).ext_kind b.value) extender_kinds boxes.items) }
+/// Asks a kit with these generators and rules.
+fn ask_both<T: KitTable>(
+    alloc: Global,
+    gens: Vec<Box<dyn MoveGen>>,
+    rules: Vec<Box<dyn MoveRule>>,
+    table: &T,
+    situation: &Situation,
+    row: &Value,
+) -> Result<bool, Fail>
+    requires gens { AreOfKinds (λ b. (MoveGen-box b).gen_kind b.value) generator_kinds gens.items }
+    requires rules { AreOfKinds (λ b. (MoveRule-box b).rule_kind b.value) rule_kinds rules.items }
+    requires ready { IsReady situation.now }
 {
-    kit_extenders(
+    let exts = kit_extenders(
         alloc,
         Box::new(alloc, UpperExt::new())?,
         Box::new(alloc, DeleteExt::new())?,
         Box::new(alloc, ReferrersExt::new())?,
         Box::new(alloc, RequiredExt::new())?,
-    )
+    )?;
+    let mut kit = Kit { gens, exts, rules };
+    table.is_said_by(alloc, &mut kit, situation, row)
 }
 
 /// The generators in the order of their kinds.
