@@ -194,11 +194,10 @@ pub(crate) fn settle(alloc: Global, phase: Phase) -> Result<Option<Tested>, Memo
         Phase::Name(level, named) => tested_of(alloc, with_name(level, named)?),
         Phase::Whole(whole) => tested_of(alloc, whole),
         Phase::Tested(tested) => Ok(Some(tested)),
-        Phase::Due(_, _) => Ok(None),
-        Phase::Step(_, _) => Ok(None),
-        Phase::Current(_, _) => Ok(None),
-        Phase::Comparison(_, _) => Ok(None),
-        Phase::Number(_, _, _) => Ok(None),
+        other => {
+            drop(other);
+            Ok(None)
+        }
     }
 }
 
@@ -235,11 +234,9 @@ pub(crate) fn step_due(alloc: Global, phase: Phase) -> Option<(Level, Place)>
             Some((level, Place { role, walk }))
         }
         Phase::Step(level, place) => Some((level, place)),
-        Phase::Name(_, _) => None,
-        Phase::Whole(_) => None,
-        Phase::Current(_, _) => None,
-        Phase::Tested(_) => None,
-        Phase::Comparison(_, _) => None,
-        Phase::Number(_, _, _) => None,
+        other => {
+            drop(other);
+            None
+        }
     }
 }
