@@ -5,7 +5,7 @@ ghost use Rattle.xpath_part.specs.Expressions.{step_of};
 
 use crate::phases::{
     Level, Named, Phase, Place, Role, Tested, Whole, end_name, join_or, settle, start, step_due,
-    with_test,
+    with_stride, with_test,
 };
 use crate::sought::Relation;
 use crate::{Branch, Cmp, Expr, Operand, Origin, Step, Tests, Walk};
@@ -72,13 +72,18 @@ fn with_step(level: Level, place: Place, step: Step) -> Result<Phase, Memory>
     ensures { IfOk result (λ p. p ≡ with_step level place (step_of step)) }
 {
     let Place { role, walk } = place;
-    let Walk { origin, mut steps } = walk;
-    steps.push(step)?;
-    Ok(Phase::Whole(Whole {
-        level,
-        role,
-        operand: Operand::Walk(Walk { origin, steps }),
-    }))
+    match with_stride(walk, step) {
+        Ok(walk) => Ok(Phase::Whole(Whole {
+            level,
+            role,
+            operand: Operand::Walk(walk),
+        })),
+        Err(memory) => {
+            drop(level);
+            drop(role);
+            Err(memory)
+        }
+    }
 }
 
 /// A `..`.

@@ -96,7 +96,10 @@ fn call(level: Level, role: Role, function: Function) -> Option<Opened>
             level,
             opening: Opening::Negation,
         })),
-        (Function::Count, Role::Left) => Some(Opened::Flat(Phase::Due(level, Role::Counted(false)))),
+        (Function::Count, Role::Left) => Some(Opened::Flat(Phase::Due(
+            level,
+            Role::Counted(false),
+        ))),
         (_, other) => {
             drop(level);
             drop(other);
