@@ -1,4 +1,7 @@
 //! What has been read of an expression, between two of its tokens.
+//!
+//! What can't go on is given whole to `drop`. That is one call to the prover, where a removal at the end
+//! of a block has an end for each part of each kind.
 ghost use Rattle.std.specs.Prelude.{◌≡◌, IfOk};
 ghost use Rattle.xpath_part.specs.Expressions.{step_of};
 ghost use Rattle.xpath_part.specs.Phases.{joined_or, joined_and, with_test, behind_name, with_stride, with_name, ended, test_of, tested_of, settled, value_of, start_walk, step_due};
