@@ -139,7 +139,10 @@ impl Branch {
     {
         match Box::new(alloc, expr) {
             Ok(expr) => Ok(Branch { expr }),
-            Err(_) => Err(Memory),
+            Err(failed) => {
+                drop(failed);
+                Err(Memory)
+            }
         }
     }
 
@@ -198,7 +201,10 @@ impl Steps {
     {
         match self.steps.push(step) {
             Ok(()) => Ok(()),
-            Err(_) => Err(Memory),
+            Err(failed) => {
+                drop(failed);
+                Err(Memory)
+            }
         }
     }
 }
@@ -242,7 +248,10 @@ impl Tests {
     {
         match self.tests.push(test) {
             Ok(()) => Ok(()),
-            Err(_) => Err(Memory),
+            Err(failed) => {
+                drop(failed);
+                Err(Memory)
+            }
         }
     }
 }

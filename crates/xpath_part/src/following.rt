@@ -5,7 +5,7 @@ ghost use Rattle.xpath_part.specs.Expressions.{step_of};
 
 use crate::phases::{
     Level, Named, Phase, Place, Role, Tested, Whole, end_name, join_or, settle, start, step_due,
-    with_test,
+    with_stride, with_test,
 };
 use crate::sought::Relation;
 use crate::{Branch, Cmp, Expr, Operand, Origin, Step, Tests, Walk};
@@ -30,7 +30,12 @@ fn behind_operand(whole: Whole) -> Option<Phase>
     } = whole;
     match operand {
         Operand::Walk(walk) => Some(Phase::Step(level, Place { role, walk })),
-        Operand::Literal(_) => None,
+        other => {
+            drop(level);
+            drop(role);
+            drop(other);
+            None
+        }
     }
 }
 
@@ -44,12 +49,10 @@ pub(crate) fn slash(alloc: Global, phase: Phase) -> Result<Option<Phase>, Memory
             Ok(Some(Phase::Step(level, Place { role, walk })))
         }
         Phase::Whole(whole) => Ok(behind_operand(whole)),
-        Phase::Step(_, _) => Ok(None),
-        Phase::Name(_, _) => Ok(None),
-        Phase::Current(_, _) => Ok(None),
-        Phase::Tested(_) => Ok(None),
-        Phase::Comparison(_, _) => Ok(None),
-        Phase::Number(_, _, _) => Ok(None),
+        other => {
+            drop(other);
+            Ok(None)
+        }
     }
 }
 
@@ -69,13 +72,18 @@ fn with_step(level: Level, place: Place, step: Step) -> Result<Phase, Memory>
     ensures { IfOk result (λ p. p ≡ with_step level place (step_of step)) }
 {
     let Place { role, walk } = place;
-    let Walk { origin, mut steps } = walk;
-    steps.push(step)?;
-    Ok(Phase::Whole(Whole {
-        level,
-        role,
-        operand: Operand::Walk(Walk { origin, steps }),
-    }))
+    match with_stride(walk, step) {
+        Ok(walk) => Ok(Phase::Whole(Whole {
+            level,
+            role,
+            operand: Operand::Walk(walk),
+        })),
+        Err(memory) => {
+            drop(level);
+            drop(role);
+            Err(memory)
+        }
+    }
 }
 
 /// A `..`.
@@ -85,6 +93,8 @@ pub(crate) fn up(alloc: Global, phase: Phase) -> Result<Option<Phase>, Memory>
     match step_due(alloc, phase) {
         Some((level, place)) => {
             if is_past_name(&place.role) {
+                drop(level);
+                drop(place);
                 return Ok(None);
             }
             Ok(Some(with_step(level, place, Step::Up)?))
@@ -153,7 +163,10 @@ fn operator(
             Some(tested) => Ok(Some(connect(alloc, connective, tested)?)),
             None => Ok(None),
         },
-        None => Ok(None),
+        None => {
+            drop(phase);
+            Ok(None)
+        }
     }
 }
 
@@ -178,9 +191,10 @@ pub(crate) fn word(
         Phase::Name(level, open) => operator(alloc, Phase::Name(level, open), prefix, name),
         Phase::Whole(whole) => operator(alloc, Phase::Whole(whole), prefix, name),
         Phase::Tested(tested) => operator(alloc, Phase::Tested(tested), prefix, name),
-        Phase::Current(_, _) => Ok(None),
-        Phase::Comparison(_, _) => Ok(None),
-        Phase::Number(_, _, _) => Ok(None),
+        other => {
+            drop(other);
+            Ok(None)
+        }
     }
 }
 
@@ -225,13 +239,10 @@ pub(crate) fn literal(phase: Phase, text: Txt) -> Option<Phase>
 {
     match phase {
         Phase::Due(level, role) => literal_due(level, role, text),
-        Phase::Step(_, _) => None,
-        Phase::Name(_, _) => None,
-        Phase::Whole(_) => None,
-        Phase::Current(_, _) => None,
-        Phase::Tested(_) => None,
-        Phase::Comparison(_, _) => None,
-        Phase::Number(_, _, _) => None,
+        other => {
+            drop(other);
+            None
+        }
     }
 }
 
@@ -253,18 +264,19 @@ fn relation_of(cmp: Cmp) -> Option<Relation>
 fn compare_operand(whole: Whole, cmp: Cmp) -> Option<Phase>
     ensures { result ≡ compared whole cmp }
 {
-    let Whole {
-        level,
-        role,
-        operand,
-    } = whole;
-    match role {
-        Role::Left => match relation_of(cmp) {
-            Some(relation) => Some(Phase::Due(level, Role::Right(relation, operand))),
-            None => None,
-        },
-        Role::Right(_, _) => None,
-        Role::Counted(_) => None,
+    match (relation_of(cmp), whole) {
+        (
+            Some(relation),
+            Whole {
+                level,
+                role: Role::Left,
+                operand,
+            },
+        ) => Some(Phase::Due(level, Role::Right(relation, operand))),
+        (_, other) => {
+            drop(other);
+            None
+        }
     }
 }
 
@@ -275,12 +287,10 @@ pub(crate) fn comparison(phase: Phase, cmp: Cmp) -> Result<Option<Phase>, Memory
     match end_name(phase)? {
         Phase::Whole(whole) => Ok(compare_operand(whole, cmp)),
         Phase::Comparison(level, walk) => Ok(Some(Phase::Number(level, walk, cmp))),
-        Phase::Due(_, _) => Ok(None),
-        Phase::Step(_, _) => Ok(None),
-        Phase::Name(_, _) => Ok(None),
-        Phase::Current(_, _) => Ok(None),
-        Phase::Tested(_) => Ok(None),
-        Phase::Number(_, _, _) => Ok(None),
+        other => {
+            drop(other);
+            Ok(None)
+        }
     }
 }
 
@@ -293,12 +303,9 @@ pub(crate) fn number(alloc: Global, phase: Phase, n: u32) -> Result<Option<Phase
             let test = Branch::new(alloc, Expr::Count(walk, cmp, n))?;
             Ok(Some(Phase::Tested(with_test(alloc, level, test)?)))
         }
-        Phase::Due(_, _) => Ok(None),
-        Phase::Step(_, _) => Ok(None),
-        Phase::Name(_, _) => Ok(None),
-        Phase::Whole(_) => Ok(None),
-        Phase::Current(_, _) => Ok(None),
-        Phase::Tested(_) => Ok(None),
-        Phase::Comparison(_, _) => Ok(None),
+        other => {
+            drop(other);
+            Ok(None)
+        }
     }
 }

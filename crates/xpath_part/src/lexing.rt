@@ -293,6 +293,9 @@ pub(crate) fn lex(alloc: Global, text: &str) -> Result<Vec<Token>, ExprError>
             push_ended(&mut tokens, ended)?;
             Ok(tokens)
         }
-        _ => Err(ExprError::Bad { at: bytes.len() }),
+        other => {
+            drop(other);
+            Err(ExprError::Bad { at: bytes.len() })
+        }
     }
 }

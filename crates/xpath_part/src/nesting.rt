@@ -90,21 +90,21 @@ fn first_name(named: &Named) -> Option<Function>
 fn call(level: Level, role: Role, function: Function) -> Option<Opened>
     ensures { result ≡ called function level role }
 {
-    match function {
-        Function::Current => Some(Opened::Flat(Phase::Current(level, role))),
-        Function::Not => match role {
-            Role::Left => Some(Opened::Nested(Frame {
-                level,
-                opening: Opening::Negation,
-            })),
-            Role::Right(_, _) => None,
-            Role::Counted(_) => None,
-        },
-        Function::Count => match role {
-            Role::Left => Some(Opened::Flat(Phase::Due(level, Role::Counted(false)))),
-            Role::Right(_, _) => None,
-            Role::Counted(_) => None,
-        },
+    match (function, role) {
+        (Function::Current, role) => Some(Opened::Flat(Phase::Current(level, role))),
+        (Function::Not, Role::Left) => Some(Opened::Nested(Frame {
+            level,
+            opening: Opening::Negation,
+        })),
+        (Function::Count, Role::Left) => Some(Opened::Flat(Phase::Due(
+            level,
+            Role::Counted(false),
+        ))),
+        (_, other) => {
+            drop(level);
+            drop(other);
+            None
+        }
     }
 }
 
@@ -117,9 +117,19 @@ fn open_group(level: Level, role: Role) -> Option<Opened>
             level,
             opening: Opening::Group,
         })),
-        Role::Right(_, _) => None,
-        Role::Counted(_) => None,
+        other => {
+            drop(level);
+            drop(other);
+            None
+        }
     }
+}
+
+/// What the path of a step is for.
+fn role_of(named: Named) -> Role
+    ensures { result ≡ named.place.role }
+{
+    named.place.role
 }
 
 /// A name before a parenthesis.
@@ -127,8 +137,12 @@ fn call_named(level: Level, named: Named) -> Option<Opened>
     ensures { result ≡ called_name level named }
 {
     match first_name(&named) {
-        Some(function) => call(level, named.place.role, function),
-        None => None,
+        Some(function) => call(level, role_of(named), function),
+        None => {
+            drop(level);
+            drop(named);
+            None
+        }
     }
 }
 
@@ -139,12 +153,10 @@ pub(crate) fn open(phase: Phase) -> Option<Opened>
     match phase {
         Phase::Due(level, role) => open_group(level, role),
         Phase::Name(level, named) => call_named(level, named),
-        Phase::Step(_, _) => None,
-        Phase::Whole(_) => None,
-        Phase::Current(_, _) => None,
-        Phase::Tested(_) => None,
-        Phase::Comparison(_, _) => None,
-        Phase::Number(_, _, _) => None,
+        other => {
+            drop(other);
+            None
+        }
     }
 }
 
@@ -157,13 +169,10 @@ pub(crate) fn open_predicate(phase: Phase) -> Option<Frame>
             level,
             opening: Opening::Predicate(named),
         }),
-        Phase::Due(_, _) => None,
-        Phase::Step(_, _) => None,
-        Phase::Whole(_) => None,
-        Phase::Current(_, _) => None,
-        Phase::Tested(_) => None,
-        Phase::Comparison(_, _) => None,
-        Phase::Number(_, _, _) => None,
+        other => {
+            drop(other);
+            None
+        }
     }
 }
 
@@ -222,11 +231,10 @@ pub(crate) fn close(alloc: Global, phase: Phase) -> Result<Option<Closed>, Memor
             role,
             operand: Operand::Walk(start(alloc, Origin::Current)),
         })))),
-        Phase::Due(_, _) => Ok(None),
-        Phase::Step(_, _) => Ok(None),
-        Phase::Name(_, _) => Ok(None),
-        Phase::Comparison(_, _) => Ok(None),
-        Phase::Number(_, _, _) => Ok(None),
+        other => {
+            drop(other);
+            Ok(None)
+        }
     }
 }
 
@@ -245,7 +253,12 @@ pub(crate) fn leave_group(
             let test = Branch::new(alloc, Expr::Not(value))?;
             Ok(Some(Phase::Tested(with_test(alloc, level, test)?)))
         }
-        Opening::Predicate(_) => Ok(None),
+        Opening::Predicate(named) => {
+            drop(level);
+            drop(named);
+            drop(value);
+            Ok(None)
+        }
     }
 }
 
@@ -256,8 +269,12 @@ pub(crate) fn leave_predicate(frame: Frame, value: Branch) -> Result<Option<Phas
     let Frame { level, opening } = frame;
     match opening {
         Opening::Predicate(named) => Ok(Some(Phase::Name(level, with_predicate(named, value)?))),
-        Opening::Group => Ok(None),
-        Opening::Negation => Ok(None),
+        other => {
+            drop(level);
+            drop(other);
+            drop(value);
+            Ok(None)
+        }
     }
 }
 
@@ -265,17 +282,12 @@ pub(crate) fn leave_predicate(frame: Frame, value: Branch) -> Result<Option<Phas
 fn with_predicate(named: Named, value: Branch) -> Result<Named, Memory>
     ensures { IfOk result (λ n. n ≡ with_predicate named value) }
 {
-    let Named {
-        place,
-        prefix,
-        name,
-        mut tests,
-    } = named;
-    tests.push(value.into_expr())?;
-    Ok(Named {
-        place,
-        prefix,
-        name,
-        tests,
-    })
+    let mut named = named;
+    match named.tests.push(value.into_expr()) {
+        Ok(()) => Ok(named),
+        Err(memory) => {
+            drop(named);
+            Err(memory)
+        }
+    }
 }

@@ -1,6 +1,10 @@
 //! What has been read of an expression, between two of its tokens.
+//!
+//! What can't go on is given whole to `drop`. That is one call to the prover, where a removal at the end
+//! of a block has an end for each part of each kind.
 ghost use Rattle.std.specs.Prelude.{◌≡◌, IfOk};
-ghost use Rattle.xpath_part.specs.Phases.{joined_or, joined_and, with_test, behind_name, with_name, ended, test_of, tested_of, settled, value_of, start_walk, step_due};
+ghost use Rattle.xpath_part.specs.Expressions.{step_of};
+ghost use Rattle.xpath_part.specs.Phases.{joined_or, joined_and, with_test, behind_name, with_stride, with_name, ended, test_of, tested_of, settled, value_of, start_walk, step_due};
 
 use crate::sought::Relation;
 use crate::{Branch, Cmp, Expr, Operand, Origin, Step, Steps, Tests, Walk};
@@ -115,6 +119,15 @@ fn behind_name(role: Role) -> Role
     }
 }
 
+/// A path with one step more.
+pub(crate) fn with_stride(walk: Walk, step: Step) -> Result<Walk, Memory>
+    ensures { IfOk result (λ w. w ≡ with_stride walk (step_of step)) }
+{
+    let Walk { origin, mut steps } = walk;
+    steps.push(step)?;
+    Ok(Walk { origin, steps })
+}
+
 /// The path with its last step.
 fn with_name(level: Level, named: Named) -> Result<Whole, Memory>
     ensures { IfOk result (λ w. w ≡ with_name level named) }
@@ -126,17 +139,23 @@ fn with_name(level: Level, named: Named) -> Result<Whole, Memory>
         tests,
     } = named;
     let Place { role, walk } = place;
-    let Walk { origin, mut steps } = walk;
-    steps.push(Step::Child {
+    let step = Step::Child {
         prefix,
         name,
         tests,
-    })?;
-    Ok(Whole {
-        level,
-        role: behind_name(role),
-        operand: Operand::Walk(Walk { origin, steps }),
-    })
+    };
+    match with_stride(walk, step) {
+        Ok(walk) => Ok(Whole {
+            level,
+            role: behind_name(role),
+            operand: Operand::Walk(walk),
+        }),
+        Err(memory) => {
+            drop(level);
+            drop(role);
+            Err(memory)
+        }
+    }
 }
 
 /// A name or predicate that no predicate follows.
@@ -180,9 +199,16 @@ fn tested_of(alloc: Global, whole: Whole) -> Result<Option<Tested>, Memory>
         role,
         operand,
     } = whole;
-    match test_of(alloc, role, operand)? {
-        Some(test) => Ok(Some(with_test(alloc, level, test)?)),
-        None => Ok(None),
+    match test_of(alloc, role, operand) {
+        Ok(Some(test)) => Ok(Some(with_test(alloc, level, test)?)),
+        Ok(None) => {
+            drop(level);
+            Ok(None)
+        }
+        Err(memory) => {
+            drop(level);
+            Err(memory)
+        }
     }
 }
 
@@ -194,11 +220,10 @@ pub(crate) fn settle(alloc: Global, phase: Phase) -> Result<Option<Tested>, Memo
         Phase::Name(level, named) => tested_of(alloc, with_name(level, named)?),
         Phase::Whole(whole) => tested_of(alloc, whole),
         Phase::Tested(tested) => Ok(Some(tested)),
-        Phase::Due(_, _) => Ok(None),
-        Phase::Step(_, _) => Ok(None),
-        Phase::Current(_, _) => Ok(None),
-        Phase::Comparison(_, _) => Ok(None),
-        Phase::Number(_, _, _) => Ok(None),
+        other => {
+            drop(other);
+            Ok(None)
+        }
     }
 }
 
@@ -235,11 +260,9 @@ pub(crate) fn step_due(alloc: Global, phase: Phase) -> Option<(Level, Place)>
             Some((level, Place { role, walk }))
         }
         Phase::Step(level, place) => Some((level, place)),
-        Phase::Name(_, _) => None,
-        Phase::Whole(_) => None,
-        Phase::Current(_, _) => None,
-        Phase::Tested(_) => None,
-        Phase::Comparison(_, _) => None,
-        Phase::Number(_, _, _) => None,
+        other => {
+            drop(other);
+            None
+        }
     }
 }

@@ -1,5 +1,5 @@
 //! An expression from its text.
-ghost use Rattle.std.specs.Prelude.{◌≡◌, [], length, IfOk, IfErr, Some, None, option_map};
+ghost use Rattle.std.specs.Prelude.{◌≡◌, [], ◌∷◌, length, IfOk, IfErr, Some, None, option_map};
 ghost use Rattle.xpath_part.specs.Errors.{IfBad, IsPlaceUpTo};
 ghost use Rattle.xpath_part.specs.Expressions.{expression};
 ghost use Rattle.xpath_part.specs.Grammar.{IsExpression, SpellsNothing};
@@ -44,29 +44,26 @@ fn at_level(phase: Option<Phase>, frames: Stack<Frame>, depth: u8) -> Option<Rea
     }
 }
 
+/// The innermost nesting, which has just opened.
+fn nest(frame: Frame, frames: Stack<Frame>, depth: u8) -> Result<Option<Reader>, Memory>
+    ensures { IfOk result (λ r. r ≡ reader_at (Some fresh) (frame ∷ frames) depth) }
+{
+    let mut frames = frames;
+    frames.push(frame)?;
+    Ok(at_level(Some(fresh()), frames, depth))
+}
+
 /// What a parenthesis or a bracket opens.
 fn enter(opened: Option<Opened>, frames: Stack<Frame>, depth: u8) -> Result<Option<Reader>, Memory>
     ensures { IfOk result (λ r. r ≡ entered opened frames depth) }
 {
     if depth >= LEVELS {
+        drop(opened);
         return Ok(None);
     }
-    let mut frames = frames;
     match opened {
-        Some(Opened::Nested(frame)) => {
-            frames.push(frame)?;
-            let phase = fresh();
-            Ok(Some(Reader {
-                phase,
-                frames,
-                depth: depth + 1,
-            }))
-        }
-        Some(Opened::Flat(phase)) => Ok(Some(Reader {
-            phase,
-            frames,
-            depth: depth + 1,
-        })),
+        Some(Opened::Nested(frame)) => nest(frame, frames, depth + 1),
+        Some(Opened::Flat(phase)) => Ok(at_level(Some(phase), frames, depth + 1)),
         None => Ok(None),
     }
 }
@@ -208,7 +205,11 @@ fn finish(alloc: Global, reader: Reader) -> Result<Option<Branch>, Memory>
         depth: _,
     } = reader;
     match frames.pop() {
-        Some(_) => Ok(None),
+        Some(frame) => {
+            drop(frame);
+            drop(phase);
+            Ok(None)
+        }
         None => value_of(alloc, phase),
     }
 }

@@ -56,7 +56,10 @@ impl<X: Drop> Stack<X> {
     {
         match self.items.push(item) {
             Ok(()) => Ok(()),
-            Err(_) => Err(Memory),
+            Err(failed) => {
+                drop(failed);
+                Err(Memory)
+            }
         }
     }
 }
