@@ -52,10 +52,20 @@ impl Read for Reads<'_> {
 }
 
 // A file that comes in two parts, with an interruption between them.
-const PARTS: [Turn; 3] = [Turn::Gives(b"ab"), Turn::Interrupted, Turn::Gives(b"cd")];
+fn file_in_parts() -> Reads<'static> {
+    Reads {
+        all: &[Turn::Gives(b"ab"), Turn::Interrupted, Turn::Gives(b"cd")],
+        done: 0,
+    }
+}
 
 // A file that fails after its first bytes.
-const BROKEN: [Turn; 2] = [Turn::Gives(b"abcd"), Turn::Broken];
+fn file_cut_off() -> Reads<'static> {
+    Reads {
+        all: &[Turn::Gives(b"abcd"), Turn::Broken],
+        done: 0,
+    }
+}
 
 // The lines of two restarts in a row.
 const TWO_RESTARTS: &[u8] = b"restart bgp\nrestart snmp\n";
@@ -128,30 +138,29 @@ fn name_of_listing(names: &[Txt], wanted: &str) -> &'static str {
     "not there"
 }
 
-// What an input is that these reads give.
-fn input_of(alloc: Global, reads: &[Turn], limit: u64) -> &'static str {
-    let mut file = Reads {
-        all: reads,
-        done: 0,
-    };
+// What an input is that a file holds.
+fn input_of(alloc: Global, mut file: Reads<'_>, limit: u64) -> &'static str {
     name_of_input(&read_input(alloc, &mut file, limit))
 }
 
-// What is read in so many turns where these reads are given.
-fn read_of(alloc: Global, reads: &[Turn], most: u64, turns: u64) -> &'static str {
-    let mut file = Reads {
-        all: reads,
-        done: 0,
-    };
+// What is read of a file in so many turns.
+fn read_of(alloc: Global, mut file: Reads<'_>, most: u64, turns: u64) -> &'static str {
     name_of_read(&read_in_turns(alloc, &mut file, most, turns))
+}
+
+// Compares a text with the one that is wanted in a case.
+fn expect_text(rt: &impl Abort, case: &[u64], got: &str, want: &str) {
+    assert_eq!(*rt; got, want, "in the case {case:?}");
 }
 
 #[test]
 fn a_file_is_read_in_parts_and_a_fault_in_mid_stream_is_told(rt: HostRuntime) {
     for (limit, want) in [(5, "abcd"), (4, "abcd"), (3, "too big")] {
-        assert_eq!(rt; input_of(rt.alloc(), &PARTS, limit), want, "up to {limit}");
+        let got = input_of(rt.alloc(), file_in_parts(), limit);
+        expect_text(&rt, &[limit], got, want);
     }
-    assert_eq!(rt; input_of(rt.alloc(), &BROKEN, 4), "failed");
+    let got = input_of(rt.alloc(), file_cut_off(), 4);
+    expect_text(&rt, &[4], got, "failed");
 }
 
 #[test]
@@ -164,8 +173,8 @@ fn a_file_that_goes_on_after_the_last_turn_is_a_failed_call(rt: HostRuntime) {
         (3, 4, "abcd"),
         (3, 2, "other bytes"),
     ] {
-        let got = read_of(rt.alloc(), &PARTS, most, turns);
-        assert_eq!(rt; got, want, "{most} bytes in {turns} turns");
+        let got = read_of(rt.alloc(), file_in_parts(), most, turns);
+        expect_text(&rt, &[turns, most], got, want);
     }
 }
 
