@@ -4,6 +4,7 @@ ghost use Rattle.std.specs.IoError.{error_kind};
 ghost use Rattle.std.specs.Vec.Iter.{into_iter_items};
 ghost use Rattle.std.specs.declared.io.ErrorKind.TheVariants.{OutOfMemory as no_memory};
 
+use crate::reading::is_kind;
 use host_core::{Memory, Names, Sequence, Txt};
 use std::alloc::Global;
 use std::env::{Args, Env};
@@ -25,7 +26,7 @@ pub(crate) fn words_of(alloc: Global, line: io::Result<Args>) -> Result<Names, M
 {
     match line {
         Ok(all) => after_the_first(alloc, all),
-        Err(error) if error.kind() == ErrorKind::OutOfMemory => Err(Memory),
+        Err(error) if is_kind(&error, ErrorKind::OutOfMemory) => Err(Memory),
         Err(_) => Ok(Sequence::new(alloc)),
     }
 }

@@ -13,7 +13,7 @@ ghost use Rattle.real_host.specs.Requests.{restart_request};
 ghost use Rattle.real_host.specs.Turns.{IsInterrupted, AnswersInTurns};
 
 use crate::listing::{listed_names, sorted_names};
-use crate::reading::{host_error, read_input, read_whole};
+use crate::reading::{host_error, is_kind, read_input, read_whole};
 use host_core::{Failed, HostError, Input, Names, Txt};
 use std::alloc::Global;
 use std::fs::{File, OpenFile, OpenOptions, ReadDir};
@@ -233,7 +233,7 @@ fn is_interrupted<T>(answer: &io::Result<T>) -> bool
 {
     match answer {
         Ok(_) => false,
-        Err(error) => error.kind() == ErrorKind::Interrupted,
+        Err(error) => is_kind(error, ErrorKind::Interrupted),
     }
 }
 
@@ -272,5 +272,5 @@ fn is_scratch(name: &str) -> bool
 fn is_missing(error: &io::Error) -> bool
     ensures { IsTrue result ↔ IsMissing (error_kind error.now) }
 {
-    error.kind() == ErrorKind::NotFound || error.kind() == ErrorKind::NotADirectory
+    is_kind(error, ErrorKind::NotFound) || is_kind(error, ErrorKind::NotADirectory)
 }

@@ -5,7 +5,7 @@ ghost use Rattle.host_core.specs.Names.{name_cmp};
 ghost use Rattle.host_core.specs.declared.errors.HostError.TheVariants.{Failed as call_failed};
 ghost use Rattle.real_host.specs.Listings.{item_name as name_in, item_names, IsEntry, IsFault, GivesFault};
 
-use crate::reading::host_error;
+use crate::reading::{host_error, is_kind};
 use host_core::{HostError, Names, Sequence, Txt};
 use std::alloc::Global;
 use std::fs::DirEntry;
@@ -61,7 +61,7 @@ fn item_name<R: Files + Drop>(
 {
     match item {
         Ok(entry) => Ok(Some(Txt::new(alloc, entry.file_name())?)),
-        Err(error) if error.kind() == ErrorKind::InvalidFilename => Ok(None),
+        Err(error) if is_kind(&error, ErrorKind::InvalidFilename) => Ok(None),
         Err(error) => Err(host_error(&error)),
     }
 }

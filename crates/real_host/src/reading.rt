@@ -1,5 +1,5 @@
 //! Reading the bytes of a file, up to a limit.
-ghost use Rattle.std.specs.Prelude.{◌≡◌, ◌≢◌, ◌≤◌, ◌<◌, ◌*◌, ◌+◌, ◌++◌, ◌⊎◌, ℕ, List, true, false, length, take, IfOk, IfErr, IfSome, OnOk, Some, vec_len};
+ghost use Rattle.std.specs.Prelude.{◌≡◌, ◌≢◌, ◌↔◌, IsTrue, ◌≤◌, ◌<◌, ◌*◌, ◌+◌, ◌++◌, ◌⊎◌, ℕ, List, true, false, length, take, IfOk, IfErr, IfSome, OnOk, Some, vec_len};
 ghost use Rattle.std.specs.Io.{ReadsAtMost};
 ghost use Rattle.std.specs.Io.KnownBytes.{Consumes, IsAtEnd};
 ghost use Rattle.std.specs.IoError.{error_kind};
@@ -118,7 +118,7 @@ fn read_once<F: Read>(file: &mut F, piece: &mut [u8]) -> Result<usize, HostError
     for _ in 0..u64::MAX {
         match file.read(piece) {
             Ok(count) => return Ok(count),
-            Err(error) if error.kind() == ErrorKind::Interrupted => {}
+            Err(error) if is_kind(&error, ErrorKind::Interrupted) => {}
             Err(_) => return Err(HostError::Failed),
         }
     }
@@ -129,9 +129,17 @@ fn read_once<F: Read>(file: &mut F, piece: &mut [u8]) -> Result<usize, HostError
 pub(crate) fn host_error(error: &io::Error) -> HostError
     ensures { TellsError (error_kind error.now) result }
 {
-    if error.kind() == ErrorKind::OutOfMemory {
+    if is_kind(error, ErrorKind::OutOfMemory) {
         HostError::Memory
     } else {
         HostError::Failed
     }
+}
+
+/// Whether an error is of a kind. Two kinds are compared here alone: there are 42 of them, and a proof
+/// that compares them is long.
+pub(crate) fn is_kind(error: &io::Error, kind: ErrorKind) -> bool
+    ensures { IsTrue result ↔ (error_kind error.now ≡ kind) }
+{
+    error.kind() == kind
 }

@@ -1,8 +1,12 @@
 //! Reading, the words of the command line and the host, over fakes of the system and in a real folder.
+//! What owns a file, a host or an answer has one end, since a function is proved at each of its ends.
+ghost use Rattle.std.specs.Prelude.{◌≤◌, length};
+ghost use Rattle.host_core.specs.Names.{longest_file_name};
+
 use crate::as_host::RealHost;
 use crate::command_line::{words, words_of};
 use crate::reading::{read_in_turns, read_input};
-use host_core::{Host, HostError, Input, Names};
+use host_core::{Failed, Host, HostError, Input, Memory, Names, Txt};
 use std::alloc::{Allocator, Global};
 use std::cell::Cell;
 use std::env::{Env, FillError};
@@ -15,10 +19,18 @@ use std::rt::Files;
 use std::test::Fail;
 use std::{env, fs, io};
 
-// A file whose reads end as listed: with some bytes, or with an error.
+// How a read ends.
+#[derive(Clone, Copy)]
+enum Turn {
+    Gives(&'static [u8]),
+    Interrupted,
+    Broken,
+}
+
+// A file whose reads end as listed.
 #[derive(Drop)]
 struct Reads<'a> {
-    all: &'a [Result<&'a [u8], ErrorKind>],
+    all: &'a [Turn],
     done: usize,
 }
 
@@ -28,19 +40,41 @@ impl Read for Reads<'_> {
         self.done = self.done.saturating_add(1);
         match next {
             None => Ok(0),
-            Some(Ok(bytes)) => {
+            Some(Turn::Gives(bytes)) => {
                 let count = bytes.len().min(buffer.len());
                 buffer[..count].copy_from_slice(&bytes[..count]);
                 Ok(count)
             }
-            Some(Err(kind)) => Err(io::Error::from(kind)),
+            Some(Turn::Interrupted) => Err(io::Error::from(ErrorKind::Interrupted)),
+            Some(Turn::Broken) => Err(io::Error::from(ErrorKind::IsADirectory)),
         }
     }
 }
 
+// A file that comes in two parts, with an interruption between them.
+fn file_in_parts() -> Reads<'static> {
+    Reads {
+        all: &[Turn::Gives(b"ab"), Turn::Interrupted, Turn::Gives(b"cd")],
+        done: 0,
+    }
+}
+
+// A file that fails after its first bytes.
+fn file_cut_off() -> Reads<'static> {
+    Reads {
+        all: &[Turn::Gives(b"abcd"), Turn::Broken],
+        done: 0,
+    }
+}
+
+// The lines of two restarts in a row.
+const TWO_RESTARTS: &[u8] = b"restart bgp\nrestart snmp\n";
+
 fn name_of_bytes(bytes: &[u8]) -> &'static str {
     if bytes == b"abcd".as_slice() {
         "abcd"
+    } else if bytes.ends_with(TWO_RESTARTS) {
+        "two restarts"
     } else {
         "other bytes"
     }
@@ -53,46 +87,84 @@ fn name_of_error(error: HostError) -> &'static str {
     }
 }
 
-fn name_of(input: Result<Input, HostError>) -> &'static str {
+fn name_of_input(input: &Result<Input, HostError>) -> &'static str {
     match input {
         Ok(Input::Absent) => "absent",
         Ok(Input::TooBig) => "too big",
         Ok(Input::Bytes(bytes)) => name_of_bytes(bytes.items()),
-        Err(error) => name_of_error(error),
+        Err(error) => name_of_error(*error),
     }
 }
 
-#[test]
-fn a_file_is_read_in_parts_and_a_fault_in_mid_stream_is_told(rt: HostRuntime) -> Result<(), Fail> {
-    let parts = [
-        Ok(b"ab".as_slice()),
-        Err(ErrorKind::Interrupted),
-        Ok(b"cd".as_slice()),
-    ];
-    let broken = [Ok(b"abcd".as_slice()), Err(ErrorKind::IsADirectory)];
-    for (reads, limit, want) in [
-        (parts.as_slice(), 5, "abcd"),
-        (parts.as_slice(), 4, "abcd"),
-        (parts.as_slice(), 3, "too big"),
-        (broken.as_slice(), 4, "failed"),
-    ] {
-        let mut file = Reads {
-            all: reads,
-            done: 0,
-        };
-        let got = name_of(read_input(rt.alloc(), &mut file, limit));
-        assert_eq!(rt; got, want, "up to {limit}");
+fn name_of_read(read: &Result<Vec<u8>, HostError>) -> &'static str {
+    match read {
+        Ok(bytes) => name_of_bytes(bytes),
+        Err(error) => name_of_error(*error),
     }
-    Ok(())
+}
+
+fn name_of_file(file: &Result<Option<Vec<u8>>, HostError>) -> &'static str {
+    match file {
+        Ok(None) => "absent",
+        Ok(Some(bytes)) => name_of_bytes(bytes),
+        Err(error) => name_of_error(*error),
+    }
+}
+
+fn name_of_done(done: Result<(), Failed>) -> &'static str {
+    match done {
+        Ok(()) => "done",
+        Err(_) => "failed",
+    }
+}
+
+fn name_of_names(names: &Result<Names, HostError>, wanted: &str) -> &'static str {
+    match names {
+        Ok(names) => name_of_listing(names.items(), wanted),
+        Err(error) => name_of_error(*error),
+    }
+}
+
+fn name_of_listing(names: &[Txt], wanted: &str) -> &'static str {
+    for name in names {
+        if name.as_str() == wanted {
+            return if names.len() == 1 {
+                "alone"
+            } else {
+                "among others"
+            };
+        }
+    }
+    "not there"
+}
+
+// What an input is that a file holds.
+fn input_of(alloc: Global, mut file: Reads<'_>, limit: u64) -> &'static str {
+    name_of_input(&read_input(alloc, &mut file, limit))
+}
+
+// What is read of a file in so many turns.
+fn read_of(alloc: Global, mut file: Reads<'_>, most: u64, turns: u64) -> &'static str {
+    name_of_read(&read_in_turns(alloc, &mut file, most, turns))
+}
+
+// Compares a text with the one that is wanted in a case.
+fn expect_text(rt: &impl Abort, case: &[u64], got: &str, want: &str) {
+    assert_eq!(*rt; got, want, "in the case {case:?}");
+}
+
+#[test]
+fn a_file_is_read_in_parts_and_a_fault_in_mid_stream_is_told(rt: HostRuntime) {
+    for (limit, want) in [(5, "abcd"), (4, "abcd"), (3, "too big")] {
+        let got = input_of(rt.alloc(), file_in_parts(), limit);
+        expect_text(&rt, &[limit], got, want);
+    }
+    let got = input_of(rt.alloc(), file_cut_off(), 4);
+    expect_text(&rt, &[4], got, "failed");
 }
 
 #[test]
 fn a_file_that_goes_on_after_the_last_turn_is_a_failed_call(rt: HostRuntime) {
-    let parts = [
-        Ok(b"ab".as_slice()),
-        Err(ErrorKind::Interrupted),
-        Ok(b"cd".as_slice()),
-    ];
     for (turns, most, want) in [
         (0, 9, "failed"),
         (1, 9, "failed"),
@@ -101,15 +173,8 @@ fn a_file_that_goes_on_after_the_last_turn_is_a_failed_call(rt: HostRuntime) {
         (3, 4, "abcd"),
         (3, 2, "other bytes"),
     ] {
-        let mut file = Reads {
-            all: parts.as_slice(),
-            done: 0,
-        };
-        let got = match read_in_turns(rt.alloc(), &mut file, most, turns) {
-            Ok(bytes) => name_of_bytes(&bytes),
-            Err(error) => name_of_error(error),
-        };
-        assert_eq!(rt; got, want, "{most} bytes in {turns} turns");
+        let got = read_of(rt.alloc(), file_in_parts(), most, turns);
+        expect_text(&rt, &[turns, most], got, want);
     }
 }
 
@@ -140,31 +205,43 @@ impl Env for CommandLine<'_> {
     }
 }
 
-// Finds these words on a command line.
-fn finds(rt: &impl Abort, alloc: Global, line: &[&[u8]], want: &[&str]) -> Result<(), Fail> {
-    let got = words(&(CommandLine { words: line }, alloc))?;
-    assert_eq!(rt; got.len(), want.len());
-    for (word, text) in got.items().iter().zip(want) {
-        assert_eq!(rt; word.as_str(), *text);
+// Whether these words are found on a command line.
+fn finds(alloc: Global, line: &[&[u8]], want: &[&str]) -> bool {
+    are_words(&words(&(CommandLine { words: line }, alloc)), want)
+}
+
+fn are_words(found: &Result<Names, Memory>, want: &[&str]) -> bool {
+    match found {
+        Ok(words) => are_texts(words.items(), want),
+        Err(Memory) => false,
     }
-    Ok(())
+}
+
+fn are_texts(words: &[Txt], want: &[&str]) -> bool {
+    for (word, text) in words.iter().zip(want) {
+        if word.as_str() != *text {
+            return false;
+        }
+    }
+    words.len() == want.len()
 }
 
 #[test]
-fn words_are_those_behind_the_name(rt: HostRuntime) -> Result<(), Fail> {
-    let alloc = rt.alloc();
-    finds(&rt, alloc, &[], &[])?;
-    finds(&rt, alloc, &[b"gcu"], &[])?;
-    finds(
-        &rt,
-        alloc,
-        &[b"gcu", b"preview", b"p.json"],
-        &["preview", "p.json"],
-    )?;
-    finds(&rt, alloc, &[b"gcu", b"", "ä".as_bytes()], &["", "ä"])?;
-    // with one that is no UTF-8 there are none
-    finds(&rt, alloc, &[b"gcu", b"preview", b"\xff"], &[])?;
-    Ok(())
+fn words_are_those_behind_the_name(rt: HostRuntime) {
+    let none: &[&str] = &[];
+    for (line, want) in [
+        ([].as_slice(), none),
+        (&[b"gcu".as_slice()], none),
+        (
+            &[b"gcu".as_slice(), b"preview", b"p.json"],
+            &["preview", "p.json"],
+        ),
+        (&[b"gcu".as_slice(), b"", "ä".as_bytes()], &["", "ä"]),
+        // with one that is no UTF-8 there are none
+        (&[b"gcu".as_slice(), b"preview", b"\xff"], none),
+    ] {
+        assert!(rt; finds(rt.alloc(), line, want), "{want:?}");
+    }
 }
 
 #[test]
@@ -251,24 +328,96 @@ impl Print for Broken<'_> {
     }
 }
 
-fn name_of_file(file: Result<Option<Vec<u8>>, HostError>) -> &'static str {
-    match file {
-        Ok(None) => "absent",
-        Ok(Some(bytes)) => name_of_bytes(&bytes),
-        Err(error) => name_of_error(error),
+// A call of the host.
+#[derive(Clone, Copy)]
+enum Call<'a> {
+    Input(&'a str, u64),
+    // what a listing says of the name
+    List(&'a str),
+    Read(&'a str),
+    Write(&'a str),
+    Sync(&'a str),
+    Rename(&'a str, &'a str),
+    Remove(&'a str),
+    Settle,
+    Print,
+    Restart(&'a str),
+}
+
+// How many bytes a name may have.
+const LONGEST_NAME: usize = 96;
+
+// The name, or none where it is longer than the host takes.
+fn short(name: &str) -> &str
+    ensures { length result.now ≤ longest_file_name }
+{
+    if name.len() > LONGEST_NAME { "" } else { name }
+}
+
+fn input<R: Files + Print + AllocGlobal + Clone + Drop>(
+    host: &mut RealHost<R>,
+    alloc: Global,
+    path: &str,
+    limit: u64,
+) -> &'static str {
+    name_of_input(&host.input(alloc, path, limit))
+}
+
+fn listing<R: Files + Print + AllocGlobal + Clone + Drop>(
+    host: &mut RealHost<R>,
+    alloc: Global,
+    wanted: &str,
+) -> &'static str {
+    name_of_names(&host.list(alloc), wanted)
+}
+
+fn file<R: Files + Print + AllocGlobal + Clone + Drop>(
+    host: &mut RealHost<R>,
+    alloc: Global,
+    name: &str,
+) -> &'static str {
+    name_of_file(&host.read(alloc, short(name)))
+}
+
+// What a call answers.
+fn answer<R: Files + Print + AllocGlobal + Clone + Drop>(
+    host: &mut RealHost<R>,
+    alloc: Global,
+    call: Call<'_>,
+) -> &'static str {
+    match call {
+        Call::Input(path, limit) => input(host, alloc, path, limit),
+        Call::List(wanted) => listing(host, alloc, wanted),
+        Call::Read(name) => file(host, alloc, name),
+        Call::Write(name) => name_of_done(host.write(short(name), b"abcd")),
+        Call::Sync(name) => name_of_done(host.sync(short(name))),
+        Call::Rename(from, to) => name_of_done(host.rename(short(from), short(to))),
+        Call::Remove(name) => name_of_done(host.remove(short(name))),
+        Call::Settle => name_of_done(host.settle()),
+        Call::Print => name_of_done(host.print(b"abcd")),
+        Call::Restart(service) => name_of_done(host.restart(service)),
     }
 }
 
-fn name_of_names(names: Result<Names, HostError>) -> &'static str {
-    match names {
-        Ok(_) => "names",
-        Err(error) => name_of_error(error),
+// Makes calls one after another, and compares what they answer.
+fn expect<R: Files + Print + AllocGlobal + Clone + Drop>(
+    rt: &impl Abort,
+    alloc: Global,
+    host: &mut RealHost<R>,
+    table: &[(Call<'_>, &str)],
+) {
+    for (number, (call, want)) in table.iter().enumerate() {
+        assert_eq!(*rt; answer(host, alloc, *call), *want, "call {number}");
     }
+}
+
+// The same in the real folder.
+fn expect_really<R: Files + Print + AllocGlobal + Abort>(rt: &R, table: &[(Call<'_>, &str)]) {
+    expect(rt, rt.alloc(), &mut RealHost::new(rt), table);
 }
 
 #[test]
 fn an_error_of_the_system_is_a_missing_file_or_a_failed_call(rt: HostRuntime) {
-    let alloc = rt.alloc();
     for (kind, file, names) in [
         (ErrorKind::NotFound, "absent", "failed"),
         (ErrorKind::NotADirectory, "absent", "failed"),
@@ -277,127 +426,139 @@ fn an_error_of_the_system_is_a_missing_file_or_a_failed_call(rt: HostRuntime) {
         (ErrorKind::StorageFull, "failed", "failed"),
         (ErrorKind::OutOfMemory, "failed", "memory"),
     ] {
-        let count = Cell::new(0);
-        let system = Broken {
-            kind,
-            interruptions: &count,
-        };
-        let mut host = RealHost::new((system, alloc));
-        assert_eq!(rt; name_of(host.input(alloc, "p.json", 4)), file);
-        assert_eq!(rt; name_of_file(host.read(alloc, "a")), file);
-        count.set(2);
-        assert_eq!(rt; name_of_names(host.list(alloc)), names);
+        let table = [(Call::Input("p.json", 4), file), (Call::Read("a"), file)];
+        expect_broken(&rt, kind, 0, &table);
+        expect_broken(&rt, kind, 2, &[(Call::List("a"), names)]);
     }
+}
+
+// Makes calls of a system that fails with an error after some interruptions, and compares what they
+// answer. At the end there were all the interruptions.
+fn expect_broken<R: AllocGlobal + Abort>(
+    rt: &R,
+    kind: ErrorKind,
+    interruptions: u8,
+    table: &[(Call<'_>, &str)],
+) {
+    let count = Cell::new(interruptions);
+    let system = Broken {
+        kind,
+        interruptions: &count,
+    };
+    let mut host = RealHost::new((system, rt.alloc()));
+    expect(rt, rt.alloc(), &mut host, table);
+    assert_eq!(*rt; count.get(), 0);
 }
 
 #[test]
 fn each_call_that_changes_something_fails_with_the_system(rt: HostRuntime) {
-    let count = Cell::new(0);
-    let system = Broken {
-        kind: ErrorKind::PermissionDenied,
-        interruptions: &count,
-    };
-    let mut host = RealHost::new((system, rt.alloc()));
-    assert!(rt; host.write("a", b"abcd").is_err());
-    assert!(rt; host.sync("a").is_err());
-    count.set(1);
-    assert!(rt; host.rename("a", "b").is_err());
-    assert_eq!(rt; count.get(), 0);
-    count.set(1);
-    assert!(rt; host.remove("a").is_err());
-    assert_eq!(rt; count.get(), 0);
-    assert!(rt; host.settle().is_err());
-    assert!(rt; host.print(b"abcd").is_err());
-    assert!(rt; host.restart("bgp").is_err());
+    for (interruptions, call) in [
+        (0, Call::Write("a")),
+        (0, Call::Sync("a")),
+        (1, Call::Rename("a", "b")),
+        (1, Call::Remove("a")),
+        (0, Call::Settle),
+        (0, Call::Print),
+        (0, Call::Restart("bgp")),
+    ] {
+        let kind = ErrorKind::PermissionDenied;
+        expect_broken(&rt, kind, interruptions, &[(call, "failed")]);
+    }
 }
 
 #[test]
 fn names_of_other_folders_are_refused(rt: HostRuntime) {
-    let alloc = rt.alloc();
-    let mut host = RealHost::new(&rt);
     for name in ["", ".", "..", "/tmp/a", "a/b"] {
-        assert_eq!(rt; name_of_file(host.read(alloc, name)), "failed");
-        assert!(rt; host.write(name, b"abcd").is_err());
-        assert!(rt; host.sync(name).is_err());
-        assert!(rt; host.rename(name, "a").is_err());
-        assert!(rt; host.rename("a", name).is_err());
-        assert!(rt; host.remove(name).is_err());
+        let table = [
+            (Call::Read(name), "failed"),
+            (Call::Write(name), "failed"),
+            (Call::Sync(name), "failed"),
+            (Call::Rename(name, "a"), "failed"),
+            (Call::Rename("a", name), "failed"),
+            (Call::Remove(name), "failed"),
+        ];
+        expect_really(&rt, &table);
     }
 }
 
 #[test]
-fn a_file_of_a_real_folder_is_written_renamed_and_removed(rt: HostRuntime) -> Result<(), Fail> {
-    let alloc = rt.alloc();
-    let mut host = RealHost::new(&rt);
-    host.write("edge.tmp.new", b"abcd")?;
-    host.sync("edge.tmp.new")?;
-    assert_eq!(rt; name_of(host.input(alloc, "edge.tmp.new", 3)), "too big");
-    assert_eq!(rt; name_of(host.input(alloc, "./edge.tmp.new", 4)), "abcd");
-    host.settle()?;
-    host.rename("edge.tmp.new", "edge.json")?;
-    assert_eq!(rt; name_of_file(host.read(alloc, "edge.tmp.new")), "absent");
-    assert_eq!(rt; name_of_file(host.read(alloc, "edge.json")), "abcd");
-    let names = host.list(alloc)?;
-    assert!(rt;
-        names
-            .items()
-            .iter()
-            .any(|name| name.as_str() == "edge.json")
-    );
-    assert!(rt; host.sync("edge.tmp.new").is_err());
-    host.remove("edge.json")?;
-    assert!(rt; host.remove("edge.json").is_err());
-    assert!(rt; host.rename("edge.json", "edge.tmp.new").is_err());
-    Ok(())
+fn a_file_of_a_real_folder_is_written_renamed_and_removed(rt: HostRuntime) {
+    let table = [
+        (Call::Write("edge.tmp.new"), "done"),
+        (Call::Sync("edge.tmp.new"), "done"),
+        (Call::Input("edge.tmp.new", 3), "too big"),
+        (Call::Input("./edge.tmp.new", 4), "abcd"),
+        (Call::Settle, "done"),
+        (Call::Rename("edge.tmp.new", "edge.json"), "done"),
+        (Call::Read("edge.tmp.new"), "absent"),
+        (Call::Read("edge.json"), "abcd"),
+        (Call::Write("edge.other"), "done"),
+        (Call::List("edge.json"), "among others"),
+        (Call::Remove("edge.other"), "done"),
+        (Call::Sync("edge.tmp.new"), "failed"),
+        (Call::Remove("edge.json"), "done"),
+        (Call::Remove("edge.json"), "failed"),
+        (Call::Rename("edge.json", "edge.tmp.new"), "failed"),
+    ];
+    expect_really(&rt, &table);
 }
 
 #[test]
-fn restarts_are_appended_to_their_log(rt: HostRuntime) -> Result<(), Fail> {
-    let alloc = rt.alloc();
-    let mut host = RealHost::new(&rt);
-    host.restart("bgp")?;
-    host.restart("snmp")?;
-    let log = host.read(alloc, "restarts.log")?;
-    host.remove("restarts.log")?;
-    let lines = log.ok_or("no log")?;
-    assert!(rt; lines.as_slice().ends_with(b"restart bgp\nrestart snmp\n"));
-    Ok(())
+fn restarts_are_appended_to_their_log(rt: HostRuntime) {
+    let table = [
+        (Call::Restart("bgp"), "done"),
+        (Call::Restart("snmp"), "done"),
+        (Call::Read("restarts.log"), "two restarts"),
+        (Call::Remove("restarts.log"), "done"),
+    ];
+    expect_really(&rt, &table);
 }
 
-// The folder that is sealed has mode 0555. Root writes there all the same, so for root nothing is shown;
-// rt ci runs the tests as nobody.
+// Makes a folder of mode 0555 that holds one file the working folder.
+fn enter_sealed(rt: &HostRuntime) -> io::Result<()> {
+    rt.create_dir("sealed")?;
+    fs::write(rt, "sealed/edge.json", b"abcd")?;
+    fs::set_permissions(rt, "sealed", Permissions::from_mode(0o555))?;
+    env::set_current_dir(rt, "sealed")
+}
+
+// Goes back, and removes that folder.
+fn leave_sealed(rt: &HostRuntime) -> io::Result<()> {
+    env::set_current_dir(rt, "..")?;
+    fs::set_permissions(rt, "sealed", Permissions::from_mode(0o755))?;
+    fs::remove_dir_all(rt, "sealed")
+}
+
+// Root writes in such a folder all the same, so for root nothing is shown; rt ci runs the tests as nobody.
 #[test]
 fn in_a_folder_that_is_not_writable_what_changes_it_fails(rt: HostRuntime) -> Result<(), Fail> {
-    let alloc = rt.alloc();
-    rt.create_dir("sealed")?;
-    fs::write(&rt, "sealed/edge.json", b"abcd")?;
-    fs::set_permissions(&rt, "sealed", Permissions::from_mode(0o555))?;
-    env::set_current_dir(&rt, "sealed")?;
-    let mut host = RealHost::new(&rt);
-    if host.write("edge.tmp.new", b"abcd").is_err() {
-        assert!(rt; host.rename("edge.json", "other.json").is_err());
-        assert!(rt; host.remove("edge.json").is_err());
-        assert!(rt; host.restart("bgp").is_err());
-        assert_eq!(rt; host.list(alloc)?.len(), 1);
-        assert_eq!(rt; name_of_file(host.read(alloc, "edge.json")), "abcd");
-        host.sync("edge.json")?;
-        host.settle()?;
+    enter_sealed(&rt)?;
+    let table = [
+        (Call::Rename("edge.json", "other.json"), "failed"),
+        (Call::Remove("edge.json"), "failed"),
+        (Call::Restart("bgp"), "failed"),
+        (Call::List("edge.json"), "alone"),
+        (Call::Read("edge.json"), "abcd"),
+        (Call::Sync("edge.json"), "done"),
+        (Call::Settle, "done"),
+    ];
+    if RealHost::new(&rt).write("edge.tmp.new", b"abcd").is_err() {
+        expect_really(&rt, &table);
     }
-    env::set_current_dir(&rt, "..")?;
-    fs::set_permissions(&rt, "sealed", Permissions::from_mode(0o755))?;
-    fs::remove_dir_all(&rt, "sealed")?;
+    leave_sealed(&rt)?;
     Ok(())
 }
 
 #[test]
 fn what_is_no_file_is_a_failed_call(rt: HostRuntime) -> Result<(), Fail> {
-    let alloc = rt.alloc();
     rt.create_dir("edge_folder")?;
-    let mut host = RealHost::new(&rt);
-    assert_eq!(rt; name_of(host.input(alloc, "edge_folder", 4)), "failed");
-    assert_eq!(rt; name_of_file(host.read(alloc, "edge_folder")), "failed");
-    assert!(rt; host.write("edge_folder", b"abcd").is_err());
-    assert!(rt; host.remove("edge_folder").is_err());
+    let table = [
+        (Call::Input("edge_folder", 4), "failed"),
+        (Call::Read("edge_folder"), "failed"),
+        (Call::Write("edge_folder"), "failed"),
+        (Call::Remove("edge_folder"), "failed"),
+    ];
+    expect_really(&rt, &table);
     rt.remove_dir("edge_folder")?;
     Ok(())
 }
