@@ -2,7 +2,9 @@ use Rattle.std.proofs.Common.{◌≡◌, ℕ, ◌+◌, List, [], ◌∷◌, ◌+
 use Rattle.std.specs.Bool.{⊤}
 use Rattle.std.specs.Str.Iter.{chars_rest}
 use Rattle.std.proofs.lemmas.Option.{MatchOption-at_some}
+use Rattle.std.proofs.lemmas.Result.{IfOk-from_err}
 use Rattle.yang_pattern.specs.declared.faults.Scan.{Scan}
+use Rattle.yang_pattern.specs.Errors.{IsFaultFree}
 use Rattle.yang_pattern.specs.Scans.{IsScanned}
 use Rattle.yang_pattern.proofs.Scanning.{IsAt, begin_at, next_at, whole_free}
 use Rattle.yang_pattern.proofs.faults.find_fault.Goals as goal
@@ -34,3 +36,6 @@ loop-c-preserved c =
 pub returns : goal.returns
 returns c =
     whole_free c.args.text.now (chars_rest c.loop-c.c-iterator) c.loop-c.at c.loop-c.whole c.last_whole.result c.loop-c.scan c.loop-c.invariant c.last_whole.ensures
+
+pub returns-in_err-with : goal.returns-in_err-with
+returns-in_err-with c = IfOk-from_err c.from_residual.result (IsFaultFree c.args.text.now) c.from_residual.ensures.0
