@@ -33,11 +33,11 @@ module _ (inputs : Files) (output : List ℕ) (restarts : List (List ℕ)) where
       ((λ i. with_file (same i) (had i) (with_file name (Some bytes) files)) ∙ content_back name (Some bytes) files)
 
   -- the folder's names change
-  pub lists : (files new : Files) (pending : Pending) (steps longer : List Step) (undo : Undo) (change : Files → Files)
-      → undone undo new ≡ files → new ≡ change files → pending_of pending files ≡ state.settled → longer ≡ Lists ∷ steps
-      → history_in new (Listing undo) longer ≡ moved_to (after_listing change (state_in files (pending_of pending files))) [] (history_in files pending steps)
-  lists files new pending steps longer undo change undoes is settles step =
-      ap (history_in new (Listing undo)) step
+  pub lists : (files new : Files) (pending after : Pending) (steps longer : List Step) (undo : Undo) (change : Files → Files)
+      → undone undo new ≡ files → new ≡ change files → pending_of pending files ≡ state.settled → after ≡ Listing undo → longer ≡ Lists ∷ steps
+      → history_in new after longer ≡ moved_to (after_listing change (state_in files (pending_of pending files))) [] (history_in files pending steps)
+  lists files new pending after steps longer undo change undoes is settles listed step =
+      (λ i. history_in new (listed i) (step i))
       ∙ (λ i. let s : History = record {
         state = state_in new (state.listing (undoes i));
         past = moments steps (state_in (undoes i) state.settled) ++ (state_in (undoes i) state.settled, []) ∷ [];

@@ -4,13 +4,16 @@ ghost use Rattle.std.specs.FinMap.{get};
 ghost use Rattle.std.specs.VecDeque.{deque_len, deque_capacity};
 ghost use Rattle.host_core.specs.Names.{longest_file_name};
 ghost use Rattle.host_core.specs.Steps.{undone};
+ghost use Rattle.host_core.specs.declared.pending.Pending.TheVariants.{Listing};
+ghost use Rattle.host_core.specs.declared.pending.Step.TheVariants.{List as Lists};
 ghost use Rattle.host_core.specs.State.{State, dirty, settled, file, names as names_of, with_file, rename as with_name, CanWrite, after_write, with_pending, after_listing, printed, after_restart};
 
 use crate::images::pick_files;
 use crate::named_bytes::NamedBytes;
 use crate::pending::{Pending, Step, Undo};
 use crate::short_names::ShortName;
-use crate::{Memory, Names, Pick, Sequence, Txt};
+use crate::texts::add_copy;
+use crate::{Memory, Names, Pick, Txt};
 use std::alloc::Global;
 use std::collections::VecDeque;
 use std::marker::Model;
@@ -50,12 +53,14 @@ impl Model for History {
     ghost invariant = { λ h. IsTrue (is_tied h.pending h.steps.items) };
 }
 
-/// Adds a step, for which there is room.
-fn add(steps: &mut VecDeque<Step>, step: Step)
+/// Takes the step that changes the folder's names, for which there is room.
+fn list(pending: &mut Pending, steps: &mut VecDeque<Step>, undo: Undo)
     requires { deque_len steps.old < deque_capacity steps.old }
-    ensures { steps.new.items ≡ step ∷ steps.old.items }
+    ensures pending { pending.new ≡ Listing undo }
+    ensures steps { steps.new.items ≡ Lists ∷ steps.old.items }
 {
-    let _ = steps.push_front(step);
+    *pending = Pending::Listing(undo);
+    steps.push_front_reserved(Step::List);
 }
 
 /// Removes the file of a name, and tells how the files were before.
@@ -79,15 +84,10 @@ fn rename_in(alloc: Global, files: &mut NamedBytes, from: &str, to: &str) -> Res
     if from == to {
         return Ok(Undo::Same);
     }
-    let Some(bytes) = files.get(from) else {
-        return Ok(Undo::Same);
-    };
-    let bytes = bytes.to_vec(alloc)?;
-    let key = Txt::new(alloc, to)?;
     let old = Txt::new(alloc, from)?;
     let new = Txt::new(alloc, to)?;
-    let replaced = files.put(key, bytes)?;
-    let _ = files.take(from);
+    let replaced = files.copy_to(alloc, from, to)?;
+    files.discard(from);
     Ok(Undo::Renamed {
         from: old,
         to: new,
@@ -163,18 +163,15 @@ impl History {
             [] self.old) }
         ensures err { OnErr result (self.new ≡ self.old) }
     {
-        let key = Txt::new(self.alloc, name)?;
-        let again = Txt::new(self.alloc, name)?;
-        let bytes = bytes.to_vec(self.alloc)?;
         self.steps.reserve(1)?;
-        let content = self.files.put(key, bytes)?;
+        let again = Txt::new(self.alloc, name)?;
+        let content = self.files.put_copy(self.alloc, name, bytes)?;
         let pending = replace(&mut self.pending, Pending::Dirty(ShortName::new(name)));
-        let step = Step::Write {
+        self.steps.push_front_reserved(Step::Write {
             pending,
             name: again,
             content,
-        };
-        add(&mut self.steps, step);
+        });
         Ok(())
     }
 
@@ -186,7 +183,7 @@ impl History {
     {
         self.steps.reserve(1)?;
         let pending = replace(&mut self.pending, Pending::Settled);
-        add(&mut self.steps, Step::Settle { pending });
+        self.steps.push_front_reserved(Step::Settle { pending });
         Ok(())
     }
 
@@ -215,11 +212,10 @@ impl History {
             [] self.old) }
         ensures err { OnErr result (self.new ≡ self.old) }
     {
-        let key = Txt::new(self.alloc, name)?;
         self.steps.reserve(1)?;
+        let key = Txt::new(self.alloc, name)?;
         let undo = remove_in(&mut self.files, key);
-        self.pending = Pending::Listing(undo);
-        add(&mut self.steps, Step::List);
+        list(&mut self.pending, &mut self.steps, undo);
         Ok(())
     }
 
@@ -234,8 +230,7 @@ impl History {
     {
         self.steps.reserve(1)?;
         let undo = rename_in(self.alloc, &mut self.files, from, to)?;
-        self.pending = Pending::Listing(undo);
-        add(&mut self.steps, Step::List);
+        list(&mut self.pending, &mut self.steps, undo);
         Ok(())
     }
 
@@ -249,7 +244,7 @@ impl History {
         let len = self.output.len();
         self.output.extend_from_slice(bytes)?;
         let pending = self.pending.copy_unless_listing();
-        add(&mut self.steps, Step::Print { pending, len });
+        self.steps.push_front_reserved(Step::Print { pending, len });
         Ok(())
     }
 
@@ -259,34 +254,25 @@ impl History {
             (self.new ≡ moved_to (after_restart service.now self.old.state) [] self.old) }
         ensures err { OnErr result (self.new ≡ self.old) }
     {
-        let service = Txt::new(self.alloc, service)?;
         self.steps.reserve(1)?;
-        self.restarts.push(service)?;
+        add_copy(&mut self.restarts, self.alloc, service)?;
         let pending = self.pending.copy_unless_listing();
-        add(&mut self.steps, Step::Restart { pending });
+        self.steps.push_front_reserved(Step::Restart { pending });
         Ok(())
     }
 
-    /// The history that begins with the picked image.
-    pub(crate) fn restarted(self, alloc: Global, pick: &Pick) -> Result<History, Memory>
-        ensures { IfOk result (λ h. h ≡ record {
-          state = record self.state {
-            files = picked pick.now self.state.pending self.state.files;
+    /// Begins again with the picked image.
+    pub(crate) fn begin_again(&mut self, alloc: Global, pick: &Pick) -> Result<(), Memory>
+        ensures { OnOk result (self.new ≡ record {
+          state = record self.old.state {
+            files = picked pick.now self.old.state.pending self.old.state.files;
             pending = settled;
           };
           past = [];
         }) }
     {
-        let History {
-            alloc: _,
-            inputs,
-            mut files,
-            pending,
-            output,
-            restarts,
-            steps: _,
-        } = self;
-        pick_files(alloc, pick, pending, &mut files)?;
-        Ok(History::new(alloc, inputs, files, output, restarts))
+        self.steps = VecDeque::new(alloc);
+        let pending = replace(&mut self.pending, Pending::Settled);
+        pick_files(alloc, pick, pending, &mut self.files)
     }
 }

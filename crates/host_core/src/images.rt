@@ -40,13 +40,12 @@ fn pick_bytes(
 {
     match pick {
         Pick::Gone => {
-            let _ = files.take(name.as_str());
+            files.discard(name.as_str());
             Ok(())
         }
         Pick::Bytes(bytes) => {
-            let bytes = bytes.items().to_vec(alloc)?;
-            let name = Txt::new(alloc, name.as_str())?;
-            set_content(files, name, Some(bytes))
+            let _ = files.put_copy(alloc, name.as_str(), bytes.items())?;
+            Ok(())
         }
         Pick::Before | Pick::After => Ok(()),
     }
@@ -72,9 +71,7 @@ fn set_content(files: &mut NamedBytes, name: Txt, content: Option<Vec<u8>>) -> R
     ensures { OnOk result (files.new ≡ with_file name (bytes_in content) files.old) }
 {
     match content {
-        None => {
-            let _ = files.take(name.as_str());
-        }
+        None => files.discard(name.as_str()),
         Some(bytes) => {
             let _ = files.put(name, bytes)?;
         }

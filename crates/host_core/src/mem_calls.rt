@@ -32,10 +32,10 @@ impl MemHost {
         match self.history.input(path) {
             None => Ok(Input::Absent),
             Some(bytes) if bytes.len() as u64 > limit => Ok(Input::TooBig),
-            Some(bytes) => {
-                let bytes = copy_bytes(alloc, bytes)?;
-                Ok(Input::Bytes(Sequence::from_vec(bytes)))
-            }
+            Some(bytes) => match bytes.to_vec(alloc) {
+                Ok(copy) => Ok(Input::Bytes(Sequence::from_vec(copy))),
+                Err(_) => Err(HostError::Memory),
+            },
         }
     }
 
@@ -78,10 +78,10 @@ impl MemHost {
         }
         match self.history.file(name) {
             None => Ok(None),
-            Some(bytes) => {
-                let bytes = copy_bytes(alloc, bytes)?;
-                Ok(Some(bytes))
-            }
+            Some(bytes) => match bytes.to_vec(alloc) {
+                Ok(copy) => Ok(Some(copy)),
+                Err(_) => Err(HostError::Memory),
+            },
         }
     }
 
@@ -256,16 +256,5 @@ impl MemHost {
             return Err(Failed);
         }
         Ok(())
-    }
-}
-
-/// A copy of bytes that a call hands out.
-fn copy_bytes(alloc: Global, bytes: &[u8]) -> Result<Vec<u8>, HostError>
-    ensures ok { IfOk result (λ v. v.items ≡ bytes.now) }
-    ensures err { ¬ IsErrOf result call_failed }
-{
-    match bytes.to_vec(alloc) {
-        Ok(bytes) => Ok(bytes),
-        Err(_) => Err(HostError::Memory),
     }
 }

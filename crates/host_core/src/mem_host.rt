@@ -126,13 +126,13 @@ impl MemHost {
         ensures image { IfOk result (λ m. Image self.state.pending self.state.files m.state.files) }
     {
         let MemHost {
-            history,
+            mut history,
             counts,
             faults: _,
             calls: _,
             starved,
         } = self;
-        let history = history.restarted(alloc, pick)?;
+        history.begin_again(alloc, pick)?;
         let faults = Faults {
             at: Sequence::new(alloc),
             from: None,

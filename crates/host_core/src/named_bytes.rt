@@ -1,9 +1,10 @@
 //! Byte strings by name, as inputs and as files.
-ghost use Rattle.std.specs.Prelude.{◌≡◌, option_map, IfOk, OnOk, OnErr, Some, None};
+ghost use Rattle.std.specs.Prelude.{◌≡◌, option_map, IsSome, IfOk, OnOk, OnErr, Some, None};
 ghost use Rattle.std.specs.FinMap as finmap;
 ghost use Rattle.host_core.specs.MemoryHost.{files_of};
 ghost use Rattle.host_core.specs.State.{with_file};
 
+use crate::texts::add_copy;
 use crate::{Memory, Names, Sequence, Txt};
 use std::alloc::Global;
 use std::collections::BTreeMap;
@@ -69,6 +70,44 @@ impl NamedBytes {
         Ok(self.entries.insert(name.into_string(), bytes)?)
     }
 
+    /// Puts a copy of bytes at a name, and gives those that were there.
+    pub(crate) fn put_copy(
+        &mut self,
+        alloc: Global,
+        name: &str,
+        bytes: &[u8],
+    ) -> Result<Option<Vec<u8>>, Memory>
+        ensures old { IfOk result
+            (λ o. option_map (λ v. v.items) o ≡ finmap.get self.old name.now) }
+        ensures ok { OnOk result (self.new ≡ with_file name.now (Some bytes.now) self.old) }
+        ensures err { OnErr result (self.new ≡ self.old) }
+    {
+        let key = Txt::new(alloc, name)?;
+        let bytes = bytes.to_vec(alloc)?;
+        self.put(key, bytes)
+    }
+
+    /// Puts a copy of the bytes at the one name at the other, and gives those that were there.
+    pub(crate) fn copy_to(
+        &mut self,
+        alloc: Global,
+        from: &str,
+        to: &str,
+    ) -> Result<Option<Vec<u8>>, Memory>
+        requires { IsSome (finmap.get self.old from.now) }
+        ensures old { IfOk result (λ o. option_map (λ v. v.items) o ≡ finmap.get self.old to.now) }
+        ensures ok { OnOk result
+            (self.new ≡ with_file to.now (finmap.get self.old from.now) self.old) }
+        ensures err { OnErr result (self.new ≡ self.old) }
+    {
+        let Some(bytes) = self.get(from) else {
+            return Ok(None);
+        };
+        let bytes = bytes.to_vec(alloc)?;
+        let key = Txt::new(alloc, to)?;
+        self.put(key, bytes)
+    }
+
     /// Takes the bytes at a name out.
     pub(crate) fn take(&mut self, name: &str) -> Option<Vec<u8>>
         ensures old { option_map (λ v. v.items) result ≡ finmap.get self.old name.now }
@@ -78,13 +117,20 @@ impl NamedBytes {
         self.entries.remove(name)
     }
 
+    /// Removes the bytes at a name, where there are some.
+    pub(crate) fn discard(&mut self, name: &str)
+        ensures { self.new ≡ with_file name.now None self.old }
+    {
+        let _ = self.take(name);
+    }
+
     /// The names, in the order of their bytes.
     pub(crate) fn names(&self, alloc: Global) -> Result<Names, Memory>
         ensures { IfOk result (λ all. all ≡ finmap.keys self.now) }
     {
         let mut all = Sequence::new(alloc);
         for name in self.entries.keys() {
-            all.push(Txt::new(alloc, name.as_str())?)?;
+            add_copy(&mut all, alloc, name.as_str())?;
         }
         Ok(all)
     }

@@ -1,5 +1,5 @@
 //! A text that owns its bytes.
-ghost use Rattle.std.specs.Prelude.{◌≡◌, IfOk, IsUtf8, string_bytes};
+ghost use Rattle.std.specs.Prelude.{◌≡◌, ◌++◌, ◌∷◌, [], IfOk, OnOk, OnErr, IsUtf8, string_bytes};
 
 use crate::{Memory, Sequence};
 use std::alloc::Global;
@@ -13,6 +13,15 @@ pub struct Txt {
 
 /// A list of texts.
 pub type Names = Sequence<Txt>;
+
+/// Adds a copy of a text.
+pub(crate) fn add_copy(names: &mut Names, alloc: Global, text: &str) -> Result<(), Memory>
+    ensures ok { OnOk result (names.new ≡ names.old ++ text.now ∷ []) }
+    ensures err { OnErr result (names.new ≡ names.old) }
+{
+    let text = Txt::new(alloc, text)?;
+    names.push(text)
+}
 
 impl Model for Txt {
     ghost use Rattle.std.specs.Prelude.{List, ℕ, string_bytes};

@@ -1,13 +1,14 @@
 -- Frames and what they stand for, by cases.
-use Rattle.std.proofs.Common.{◌≡◌, ◌<◌, ◌≤◌, ℕ, suc, Bool, List, [], ◌∷◌, ◌++◌, reverse, Option, Some, None, refl, sym, ap, ◌∙◌, subst, IsSomeAnd, length}
+use Rattle.std.proofs.Common.{◌≡◌, ◌<◌, ◌≤◌, ℕ, suc, Bool, List, [], ◌∷◌, ◌++◌, reverse, Option, Some, None, refl, sym, ap, ◌∙◌, subst, IsSomeAnd, length, arith}
 use Rattle.std.proofs.lemmas.List.{reverse-append, length-reverse}
 use Rattle.std.proofs.lemmas.Bool.{le-ltb, lt-ltb}
 use Rattle.yang_pattern.specs.declared.symbols.Quantifier.{Quantifier}
 use Rattle.yang_pattern.specs.declared.parts.Part.{Part}
 use Rattle.yang_pattern.specs.declared.frames.Frame.{Frame}
-use Rattle.yang_pattern.specs.Pattern.{Branches, Branch, times, Atom, followed}
+use Rattle.yang_pattern.specs.declared.frames.Reader.{Reader}
+use Rattle.yang_pattern.specs.Pattern.{Branches, Branch, times, Atom, followed, group}
 use Rattle.yang_pattern.specs.Parts.{IsPatternPart, IsBranchPart, IsAtomPart}
-use Rattle.yang_pattern.specs.Reading.{Opened, Progress, join_branches, quantify, fresh, enter, finish, AreChoices, IsLast, IsFrame, AreFrames}
+use Rattle.yang_pattern.specs.Reading.{Opened, Progress, join_branches, quantify, fresh, with_atom, close, enter, leave, finish, AreChoices, IsLast, IsFrame, AreFrames, IsReader}
 
 pub joined_none : (r : ℕ → ℕ → Bool) (cs : Option Part) (os : Option Branches) (part : Part) (b : Branch) → cs ≡ None → AreChoices r cs os → IsBranchPart r part b
     → IsPatternPart r part (join_branches os b)
@@ -43,3 +44,16 @@ stack_push r fs new f os o e is h = rw (e, reverse-append fs (f ∷ [])) (is, h)
 pub finish_open : (r : ℕ → ℕ → Bool) (fs : List Frame) (os : List Opened) (o : Opened) → (length fs ≡ 0 → ⊥) → AreFrames r (reverse fs) os → finish o os ≡ None
 finish_open r fs [] o full h = absurd (full (stack_length r fs [] h))
 finish_open r fs (p ∷ os) o full h = refl
+
+pub leave_none : (r : ℕ → ℕ → Bool) (fs : List Frame) (os : List Opened) (o : Opened) → length fs ≡ 0 → AreFrames r (reverse fs) os → leave o os ≡ None
+leave_none r fs [] o none h = refl
+leave_none r fs (p ∷ os) o none h = absurd (omega (arith, none, stack_length r fs (p ∷ os) h))
+
+pub leave_some : (r : ℕ → ℕ → Bool) (fs : List Frame) (os : List Opened) (o : Opened) (frame : Frame) (reader : Reader) → fs ≡ reader.outer.items ++ frame ∷ []
+    → ((p : Opened) → IsFrame r frame p → IsFrame r reader.current (with_atom p (group (close o)))) → AreFrames r (reverse fs) os
+    → IsSomeAnd (leave o os) (λ n. IsReader r reader n)
+leave_some r fs [] o frame reader e more h =
+    absurd (subst (λ xs. AreFrames r xs []) (ap reverse e ∙ reverse-append reader.outer.items (frame ∷ [])) h)
+leave_some r fs (p ∷ os) o frame reader e more h =
+    let (f, outer) = subst (λ xs. AreFrames r xs (p ∷ os)) (ap reverse e ∙ reverse-append reader.outer.items (frame ∷ [])) h in
+    record { current = more p f; outer = outer }

@@ -1,5 +1,5 @@
 -- What is read of a text whose reading stops can be ended: its groups are closed.
-use Rattle.std.proofs.Common.{◌≡◌, ◌≢◌, inl, inr, ℕ, zero, suc, ◌+◌, ◌-◌, ◌<◌, Bool, true, false, List, [], ◌∷◌, ◌++◌, length, take, replicate, Option, Some, None, option_map, option_and_then, option_to_list, IsSomeAnd, refl, sym, ap, ◌∙◌, subst, arith, append_assoc, append-nil, chars, IsUtf8}
+use Rattle.std.proofs.Common.{◌≡◌, ◌≤◌, ◌≢◌, inl, inr, ℕ, zero, suc, ◌+◌, ◌-◌, ◌<◌, Bool, true, false, List, [], ◌∷◌, ◌++◌, length, take, replicate, Option, Some, None, option_map, option_and_then, option_to_list, IsSomeAnd, refl, sym, ap, ◌∙◌, subst, arith, append_assoc, append-nil, chars, IsUtf8}
 use Rattle.std.proofs.Math.Seq.{take-append_seam}
 use Rattle.std.proofs.Math.Utf8.{encode}
 use Rattle.std.specs.Char.{len_utf8}
@@ -202,6 +202,15 @@ one_char : (c : ℕ) (rest next : List ℕ) → rest ≡ encode c ++ next → Is
 one_char c rest next e r n =
     let utf8 = front_utf8 rest (encode c) next e r n in
     chars_past_char (encode c) [] c utf8 (sym (append-nil (encode c))) ∙ ap (λ v. c ∷ v) chars-nil
+
+-- where the character ends
+pub next_within : (text rest next : List ℕ) (at before c : ℕ) (scan : Scan) → IsAt text rest at before scan → rest ≡ encode c ++ next → at + len_utf8 c ≤ length text
+next_within text rest next at before c scan is e =
+    let long = is.long in
+    let width = length-encode c in
+    let all = ap length is.text_is ∙ length-append is.front rest in
+    let ahead = ap length e ∙ length-append (encode c) next in
+    omega arith
 
 pub next_at : (text rest next : List ℕ) (at before place c : ℕ) (scan after : Scan) → IsAt text rest at before scan → IsFaultFree text place
     → rest ≡ encode c ++ next → ((cs : List ℕ) → IsScanned cs scan → IsScanned (cs ++ c ∷ []) after) → IsAt text next (at + len_utf8 c) place after

@@ -1,11 +1,17 @@
 -- One step of a walk: what may follow the places that read a character.
-use Rattle.std.proofs.Common.{◌≡◌, ℕ, ◌+◌, ◌<◌, Bool, ◌||◌, ◌⊎◌, List, [], ◌∷◌, sym, ◌∙◌, subst, inl, inr, arith, ◌↔◌, IsTrue}
-use Rattle.std.proofs.lemmas.Bool.{cases_lt, or_cases, or_left, or_right}
+use Rattle.std.proofs.Common.{◌≡◌, ℕ, ◌+◌, ◌<◌, Bool, false, ◌||◌, ◌⊎◌, List, [], ◌∷◌, sym, ◌∙◌, subst, inl, inr, arith, ◌↔◌, IsTrue}
+use Rattle.std.proofs.lemmas.Bool.{cases_lt, false≢true, or_cases, or_left, or_right}
 use Rattle.yang_pattern.specs.Machine.{Machine, After, From}
 
 -- the places below i that read the character, each with what follows it
 abbrev pub Visited : Machine → (ℕ → Bool) → ℕ → ℕ → List ℕ → Type 0
 Visited m next c i u = (p : ℕ) × (p < i) × IsTrue (next p) × IsTrue (m.reads p c) × After m p u
+
+-- before the first place
+pub visited_none : (m : Machine) (next none : ℕ → Bool) (c : ℕ) → ((q : ℕ) → none q ≡ false) → (u : List ℕ) → From m none false u ↔ Visited m next c 0 u
+visited_none m next none c empty [] = (λ h. absurd (false≢true h), λ (p, low, here, reads, ends). absurd (omega (arith, low)))
+visited_none m next none c empty (d ∷ u) =
+    (λ (q, within, here, reads, more). absurd (false≢true (sym (empty q) ∙ here)), λ (p, low, here, reads, more). absurd (omega (arith, low)))
 
 -- what follows one place more
 from_more : (m : Machine) (old new : ℕ → Bool) (e : Bool) (p : ℕ) → ((q : ℕ) → q < m.count → new q ≡ (old q || m.follow p q))

@@ -2,7 +2,7 @@
 
 ghost use Rattle.std.specs.Prelude.{◌≡◌, ℕ, Bool, List, Option, IfOk, MatchOption, IsSomeAnd, Some, None};
 ghost use Rattle.yang_pattern.specs.Symbols.{symbol_accepts, accepts};
-ghost use Rattle.yang_pattern.specs.Pattern.{Branch, Atom, followed, times, symbol};
+ghost use Rattle.yang_pattern.specs.Pattern.{Branch, Atom, followed, times, symbol, group};
 ghost use Rattle.yang_pattern.specs.Parts.{IsPatternPart, IsBranchPart, IsAtomPart};
 ghost use Rattle.yang_pattern.specs.Reading.{Opened, Progress, fresh, settle, close, with_atom, with_bar, with_times, enter, leave, read, finish, start, IsLast, IsFrame, IsReader, FrameFollows, ReaderFollows};
 
@@ -89,6 +89,16 @@ impl Frame {
         })
     }
 
+    /// The group of the other frame ends, and is an atom of this one.
+    fn with_group(self, inner: Frame) -> Result<Frame, AllocError>
+        ensures { IfOk result (λ frame. (r : ℕ → ℕ → Bool) (o p : Opened)
+            → IsFrame r self o → IsFrame r inner p
+            → IsFrame r frame (with_atom o (group (close p)))) }
+    {
+        let atom = inner.close()?;
+        self.with_atom(atom)
+    }
+
     fn with_bar(self, alloc: Global) -> Result<Frame, AllocError>
         ensures { IfOk result (λ frame. (r : ℕ → ℕ → Bool) (o : Opened)
             → IsFrame r self o → IsFrame r frame (with_bar o)) }
@@ -156,11 +166,8 @@ impl Reader {
         match outer.pop() {
             None => Ok(None),
             Some(frame) => {
-                let group = current.close()?;
-                Ok(Some(Reader {
-                    outer,
-                    current: frame.with_atom(group)?,
-                }))
+                let current = frame.with_group(current)?;
+                Ok(Some(Reader { outer, current }))
             }
         }
     }

@@ -1,10 +1,12 @@
-use Rattle.std.proofs.Common.{◌≡◌, ℕ, ◌+◌, List, [], ◌∷◌, ◌++◌, sym, subst, rules}
+use Rattle.std.proofs.Common.{◌≡◌, ℕ, ◌+◌, List, [], ◌∷◌, ◌++◌, sym, subst, rules, arith}
 use Rattle.std.specs.Bool.{⊤}
 use Rattle.std.specs.Str.Iter.{chars_rest}
 use Rattle.std.proofs.lemmas.Option.{MatchOption-at_some}
+use Rattle.std.proofs.lemmas.Result.{IfOk-from_err}
 use Rattle.yang_pattern.specs.declared.faults.Scan.{Scan}
+use Rattle.yang_pattern.specs.Errors.{IsFaultFree}
 use Rattle.yang_pattern.specs.Scans.{IsScanned}
-use Rattle.yang_pattern.proofs.Scanning.{IsAt, begin_at, next_at, whole_free}
+use Rattle.yang_pattern.proofs.Scanning.{IsAt, begin_at, next_at, next_within, whole_free}
 use Rattle.yang_pattern.proofs.faults.find_fault.Goals as goal
 
 pub loop-c-init : goal.loop-c-init
@@ -34,3 +36,12 @@ loop-c-preserved c =
 pub returns : goal.returns
 returns c =
     whole_free c.args.text.now (chars_rest c.loop-c.c-iterator) c.loop-c.at c.loop-c.whole c.last_whole.result c.loop-c.scan c.loop-c.invariant c.last_whole.ensures
+
+pub returns-in_err-with : goal.returns-in_err-with
+returns-in_err-with c = IfOk-from_err c.from_residual.result (IsFaultFree c.args.text.now) c.from_residual.ensures.0
+
+pub overflow_add-at : goal.overflow_add-at
+overflow_add-at c =
+    let within = next_within c.args.text.now (chars_rest c.loop-c.c-iterator) (chars_rest c.next.new.self) c.loop-c.at c.loop-c.whole c.in-Some.c c.loop-c.scan c.loop-c.invariant c.in-Some.ensures.steps.0 in
+    let width = c.len_utf8-at.ensures.value in
+    omega arith

@@ -1,4 +1,4 @@
-use Rattle.std.proofs.Common.{◌≡◌, ℕ, ◌+◌, ◌≤◌, ◌<◌, ◌∙◌, sym, ap, subst, length, arith, ◌||◌, IsTrue, ◌↔◌}
+use Rattle.std.proofs.Common.{◌≡◌, ℕ, ◌+◌, ◌≤◌, ◌<◌, ◌∙◌, sym, ap, subst, length, arith, ◌||◌, IsTrue, ◌↔◌, List}
 use Rattle.std.proofs.lemmas.Bool.{false≢true}
 use Rattle.std.proofs.lemmas.List.{get_or_read}
 use Rattle.yang_pattern.specs.declared.fragments.Place.{Place}
@@ -6,7 +6,7 @@ use Rattle.yang_pattern.specs.declared.walks.Reached.{Reached}
 use Rattle.yang_pattern.specs.PlaceSets.{contains, place_at, nowhere}
 use Rattle.yang_pattern.specs.Machine.{machine_of, From}
 use Rattle.yang_pattern.specs.Symbols.{reads_token}
-use Rattle.yang_pattern.proofs.Walking.{visited_in, visited_out, Visited}
+use Rattle.yang_pattern.proofs.Walking.{visited_none, visited_in, visited_out, Visited}
 use Rattle.yang_pattern.proofs.walks.step.Goals as goal
 use Rattle.yang_pattern.proofs.walks.step.Goals.{then-contains+then-reads_token, else-contains, else-contains-via-then-contains+else-reads_token, else-contains-via-else-contains}
 
@@ -44,3 +44,16 @@ loop-number-preserved c =
           let P : Reached → Type 0 = λ x. From m (contains x.next) x.ended u ↔ Visited m next d (i + 1) u in
           subst P (sym w.reached-is) (visited_out m next (contains old.next) old.ended d i c.loop-number.invariant unseen u)
     ]
+
+pub loop-number-init : goal.loop-number-init
+loop-number-init c =
+    visited_none (machine_of (reads_token c.args.tokens.now) c.args.fragment.now) (contains c.args.next.now) (contains c.new.result) c.args.c c.new.ensures
+
+pub returns : goal.returns
+returns c =
+    let f = c.args.fragment.now in
+    let m = machine_of (reads_token c.args.tokens.now) f in
+    let reached = c.loop-number.reached in
+    let items_are : c.deref-place-items.result.now ≡ f.places.items = c.deref-place-items.ensures.value in
+    let end : c.loop-number.number ≡ length f.places.items = omega (arith, ap (λ (xs : List Place). length xs) items_are) in
+    subst (λ n. (u : List ℕ) → From m (contains reached.next) reached.ended u ↔ Visited m (contains c.args.next.now) c.args.c n u) end c.loop-number.invariant

@@ -1,7 +1,6 @@
-use Rattle.std.proofs.Common.{rules, ◌≡◌, [], ◌∷◌, Some, ap, ◌∙◌}
-use Rattle.std.specs.FinMap.{get}
+use Rattle.std.proofs.Common.{[], ◌∷◌, Some, ap, ◌∙◌}
 use Rattle.host_core.specs.Steps.{moved_to}
-use Rattle.host_core.specs.State.{with_file, after_write}
+use Rattle.host_core.specs.State.{after_write}
 use Rattle.host_core.specs.declared.pending.Pending.TheVariants.{Dirty}
 use Rattle.host_core.specs.declared.pending.Step.TheVariants.{Write}
 use Rattle.host_core.proofs.Stepping.{writes}
@@ -10,12 +9,11 @@ use Rattle.host_core.proofs.history.History.write.Goals as goal
 pub returns-clause-ok : goal.returns-clause-ok
 returns-clause-ok c =
     let h = c.self.inside in
-    let same : c.in_ok-bytes.bytes.items ≡ c.args.bytes.now = search rules in
-    writes h.inputs h.output.items h.restarts h.files c.put.new.self h.pending c.replace-pending.new.dest h.steps.items c.add.new.steps.items
+    writes h.inputs h.output.items h.restarts h.files c.put_copy.new.self h.pending c.replace-pending.new.dest h.steps.items c.push_front_reserved.new.self.items
     c.args.name.now c.in_ok-again.again c.args.bytes.now c.in_ok-content.content
-    (c.in_ok-content.ensures.old ∙ ap (get h.files) c.in_ok-key.ensures)
-    (c.in_ok-content.ensures.ok ∙ (λ i. with_file (c.in_ok-key.ensures i) (Some (same i)) h.files))
-    (c.replace-pending.ensures.after ∙ ap Dirty c.new-3.ensures)
+    c.in_ok-content.ensures.old
+    c.in_ok-content.ensures.ok
+    (c.replace-pending.ensures.after ∙ ap Dirty c.new-2.ensures)
     c.in_ok-again.ensures
-    (c.add.ensures ∙ (λ i. Write (c.replace-pending.ensures.value i) c.in_ok-again.again c.in_ok-content.content ∷ c.in_ok-reserve.ensures.items i))
+    (c.push_front_reserved.ensures.items ∙ (λ i. Write (c.replace-pending.ensures.value i) c.in_ok-again.again c.in_ok-content.content ∷ c.in_ok-reserve.ensures.items i))
     ∙ ap (λ m. moved_to (after_write c.args.name.now (Some c.args.bytes.now) m.state) [] m) c.self.view_is

@@ -9,5 +9,5 @@ returns-clause-image c =
     let pick = c.args.pick.now in
     let s = c.args.self.state in
     subst (λ f. Image s.pending s.files f)
-    (sym (ap (λ h. h.state.files) c.in_ok-history.ensures ∙ ap (λ m. picked pick m.state.pending m.state.files) c.self.view_is))
+    (sym (ap (λ h. h.state.files) c.in_ok-begin_again.ensures ∙ ap (λ m. picked pick m.state.pending m.state.files) c.self.view_is))
     (picked_image pick s.pending s.files)
