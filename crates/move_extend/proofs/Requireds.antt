@@ -1,6 +1,10 @@
 -- The required values that a move has cases of, from the places that are looked at to all.
-use Rattle.std.proofs.Common.{◌≡◌, ◌≢◌, ◌⊎◌, ◌↔◌, inl, inr, ℕ, List, ◌∷◌, Bool, true, false, Option, Some, None, is_some, option_and_then, IsSome, slice_get, refl, sym, ◌∙◌, subst}
+use Rattle.std.proofs.Common.{◌≡◌, ◌≢◌, ◌⊎◌, ◌↔◌, inl, inr, ℕ, List, ◌∷◌, Bool, true, false, true≢false, Option, Some, None, is_some, option_and_then, IsSome, slice_get, refl, sym, ◌∙◌, subst}
+use Rattle.std.specs.Cmp.Lexicographic.{bytes_decides}
+use Rattle.std.specs.List.{list_any}
 use Rattle.std.specs.Option.{option_to_list}
+use Rattle.std.specs.Str.{bytes_eq}
+use Rattle.std.proofs.lemmas.List.Folds.{list_any-from_Any}
 use Rattle.conf_doc.specs.Changes.{part_at, HasPlace}
 use Rattle.conf_doc.specs.Pairs.{find}
 use Rattle.conf_doc.specs.declared.configuration.Config.{Config}
@@ -17,7 +21,7 @@ use Rattle.move_core.specs.declared.settings.Required.{Required}
 use Rattle.move_core.specs.declared.settings.Requiring.{Requiring}
 use Rattle.move_extend.specs.Entries.{entry_of, requiring_place}
 use Rattle.move_extend.specs.Found.{Finds}
-use Rattle.move_extend.specs.Requireds.{Differs, GivesAt, GivesValue, LacksValue, RulesGive, TableGives}
+use Rattle.move_extend.specs.Requireds.{Differs, GivesAt, GivesValue, LacksValue, RulesGive, TableGives, has_requiring}
 use Rattle.move_extend.specs.declared.changes.Change.{Change}
 use Rattle.move_extend.proofs.AtKeys.{by_key, by_table, found_key, same_entry, same_field, second_name}
 use Rattle.move_extend.proofs.Finding.{finds_as}
@@ -26,6 +30,25 @@ same_place : (a b : Config) (t key : List ℕ) (field : Option (List ℕ)) → e
     → part_at a (t ∷ key ∷ option_to_list field) ≡ part_at b (t ∷ key ∷ option_to_list field)
 same_place a b t key None e = same_entry a b t key e
 same_place a b t key (Some f) e = same_field a b t key f e
+
+-- in a table with no requiring place nothing is required
+pub requires_none : (ctx : Ctx) (cur : Config) (m x : Move) (t : List ℕ) → t ≡ table_of (place m)
+    → list_any (has_requiring t) ctx.settings.required ≡ false → ¬ IsRequired (rulebook ctx) cur m x
+requires_none ctx cur m x t at none required =
+    let q : Requiring = required.changes.requires.requiring in
+    let key : List ℕ = required.changes.requires.key in
+    let of : List Requiring = required.rule.requiring in
+    let listed = required.changes.requires.listed in
+    elim (by_table cur (step cur m) m t refl at q.table key) [
+      | inl same ↦
+          subst (λ p. part_at cur p ≢ part_at (step cur m) p) required.changes.requires.is required.changes.differs
+          (same_place cur (step cur m) q.table key q.field same)
+      | inr table ↦
+          let has : has_requiring t required.rule ≡ true =
+          list_any-from_Any (λ p. bytes_eq p.table t) of (listed.0, q, listed.1, listed.2, (bytes_decides q.table t).1 table) in
+          true≢false
+          (sym (list_any-from_Any (has_requiring t) ctx.settings.required (required.listed.0, required.rule, required.listed.1, required.listed.2, has)) ∙ none)
+    ]
 
 none_is : {A : Type 0} (o : Option A) → is_some o ≡ false → o ≡ None
 none_is None e = refl

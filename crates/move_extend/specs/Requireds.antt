@@ -1,5 +1,7 @@
 -- The moves that give fields their required values.
-use Rattle.std.specs.Prelude.{◌≡◌, ◌≢◌, ℕ, List, Option, Some, None, map, slice_get}
+use Rattle.std.specs.Prelude.{◌≡◌, ◌≢◌, ℕ, Bool, List, Option, Some, None, map, slice_get}
+use Rattle.std.specs.List.{list_any}
+use Rattle.std.specs.Str.{bytes_eq}
 use Rattle.conf_doc.specs.Changes.{part_at, HasPlace}
 use Rattle.conf_doc.specs.declared.configuration.Table.{Table}
 use Rattle.key_split.specs.Key.{key_parts}
@@ -11,6 +13,10 @@ use Rattle.move_core.specs.declared.settings.Requiring.{Requiring}
 use Rattle.move_extend.specs.Entries.{requiring_place}
 use Rattle.move_extend.specs.Found.{GivenByOne}
 use Rattle.move_extend.specs.declared.changes.Change.{Change}
+
+-- some requiring place of a rule is in the table
+abbrev pub has_requiring : List ℕ → Required → Bool
+has_requiring table rule = list_any (λ q. bytes_eq q.table table) rule.requiring
 
 -- the requiring place at a key differs between the two configurations
 abbrev pub Differs : Change → Requiring → List ℕ → Type 0

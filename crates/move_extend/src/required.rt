@@ -1,5 +1,6 @@
 //! The extender of required values.
 ghost use Rattle.std.specs.Prelude.{◌≡◌, [], All, IfOk, OnOk, Some};
+ghost use Rattle.std.specs.List.{list_any};
 ghost use Rattle.conf_doc.specs.Pairs.{find};
 ghost use Rattle.move_core.specs.Appends.{Appends};
 ghost use Rattle.move_core.specs.Contexts.{IsNamed, rulebook};
@@ -7,7 +8,7 @@ ghost use Rattle.move_core.specs.Extensions.{IsRequired};
 ghost use Rattle.move_core.specs.Moves.{IsDefined, step};
 ghost use Rattle.move_core.specs.Named.{HasRequiredNames};
 ghost use Rattle.move_extend.specs.Found.{Finds, GivenByOne};
-ghost use Rattle.move_extend.specs.Requireds.{GivesAt, GivesIn, GivesValue, RuleGives, RulesGive, TableGives};
+ghost use Rattle.move_extend.specs.Requireds.{GivesAt, GivesIn, GivesValue, RuleGives, RulesGive, TableGives, has_requiring};
 
 use crate::changes::Change;
 use crate::entries::table_of;
@@ -226,12 +227,33 @@ fn add_values(
     }
 }
 
-/// The moves that give rules' fields their required values before a move changes what requires them.
+/// Whether some requiring place of a rule is in a table.
+fn has_requiring(rule: &Required, table: &str) -> bool
+    ensures { result ≡ has_requiring table.now rule.now }
+{
+    rule.requiring
+        .items()
+        .iter()
+        .any(|requiring| requiring.table.as_str() == table)
+}
+
+/// Whether some rule has a requiring place in a table.
+fn is_required_in(rules: &[Required], table: &str) -> bool
+    ensures { result ≡ list_any (has_requiring table.now) rules.now }
+{
+    rules.iter().any(|rule| has_requiring(rule, table))
+}
+
+/// The moves that give rules' fields their required values before a move changes what requires them. In
+/// a table with no requiring place there are none, and the next configuration isn't made.
 fn values_of(alloc: Global, ctx: &Ctx, cur: &Config, mv: &Move) -> Result<Moves, Memory>
     requires named { IsNamed ctx.now }
     requires defined { IsDefined cur.now mv.now }
     ensures { IfOk result (Appends (IsRequired (rulebook ctx.now) cur.now mv.now) []) }
 {
+    if !is_required_in(ctx.settings.required.items(), table_of(mv)) {
+        return Ok(Moves::new(alloc));
+    }
     let next = step(alloc, cur, mv)?;
     let change = Change {
         models: &ctx.models,

@@ -1,5 +1,6 @@
 -- A configuration is valid where each of its entries is: what is known from one entry to the next.
 use Rattle.std.proofs.Common.{◌≡◌, ◌↔◌, ◌≤◌, ◌+◌, ℕ, Bool, true, false, List, Some, is_some, IsTrue, length, slice_get, refl, sym, subst, arith, inl, inr}
+use Rattle.std.specs.Prelude.{not}
 use Rattle.std.proofs.lemmas.Bool.{cases_lt}
 use Rattle.conf_doc.specs.WellFormed.{IsConfig}
 use Rattle.conf_doc.specs.declared.configuration.Config.{Config}
@@ -31,6 +32,12 @@ not_valid_at models config table key v first = (λ t. absurd cc, λ valid. absur
 -- nor is a configuration with one
 pub not_valid : (models : ModelSet) (config : Config) (v : Violation) → IsFirstViolation models config v → IsTrue false ↔ IsValid models config
 not_valid models config v first = (λ t. absurd cc, λ valid. absurd (valid first.breach first.broken))
+
+-- nor is one with an entry that isn't
+pub invalid_there : (models : ModelSet) (config : Config) (table key : List ℕ) (b : Bool) → IsTrue b ↔ IsValidAt models config table key
+    → IsTrue (not b) → IsValid models config → ⊥
+invalid_there models config table key true says told valid = absurd cc
+invalid_there models config table key false says told valid = let there = says.1 (λ b at. valid b at.broken) in absurd cc
 
 -- the first rule lets a move pass to a valid configuration
 pub first_rule : (ctx : Ctx) (cur next : Config) (m : Move) (b : Bool) → IsTrue b ↔ IsValid ctx.models next → IsTrue b ↔ Passes (rulebook ctx) 1 cur next m

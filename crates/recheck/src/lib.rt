@@ -3,6 +3,7 @@
 
 mod changes;
 mod kept;
+mod losses;
 mod musts;
 mod places;
 mod rechecks;

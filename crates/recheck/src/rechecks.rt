@@ -11,7 +11,7 @@ use host_core::Memory;
 use yang_model::Models;
 
 /// Whether an entry breaks no rule.
-fn is_valid_at(models: &Models, config: &Config, table: &str, key: &str) -> bool
+pub(crate) fn is_valid_at(models: &Models, config: &Config, table: &str, key: &str) -> bool
     ensures { IsTrue result ↔ IsValidAt models.now config.now table.now key.now }
 {
     match check_entry(models, config, table, key) {

@@ -5,7 +5,8 @@ ghost use Rattle.move_core.specs.Contexts.{rulebook};
 ghost use Rattle.move_core.specs.Rules.{Passes};
 
 use crate::kept::Kept;
-use crate::rechecks::check_rest;
+use crate::losses::first_loser;
+use crate::rechecks::{check_rest, is_valid_at};
 use crate::walks::Walk;
 use conf_check::check;
 use conf_doc::Config;
@@ -15,8 +16,9 @@ use std::alloc::Global;
 use yang_model::Models;
 
 /// Each move leads to a configuration that is valid by its models. It keeps an index of the configuration
-/// that it judged last and verdicts on entries of it, and checks what has none. Where memory is refused it
-/// keeps nothing, and tests the whole configuration.
+/// that it judged last and verdicts on entries of it, and checks what has none. Where an entry lost what it
+/// wants it says no at once, and all that it keeps stays. Where memory is refused it keeps nothing, and tests
+/// the whole configuration.
 #[derive(Drop)]
 pub struct RecheckRule {
     alloc: Global,
@@ -74,6 +76,28 @@ fn recheck(
     Ok((valid, Kept { index, verdicts }))
 }
 
+/// Whether an entry that a move took what it wants from tells that the configuration after it is invalid. The
+/// entry is counted. Where none tells it, the configuration may be invalid all the same.
+fn is_told_invalid(
+    checked: &mut u64,
+    kept: &Option<Kept>,
+    models: &Models,
+    next: &Config,
+    mv: &Move,
+) -> bool
+    ensures invalid { IsTrue result → ¬ IsValid models.now next.now }
+    ensures rises { checked.old ≤ checked.new }
+{
+    let Some(kept) = kept else {
+        return false;
+    };
+    let Some(place) = first_loser(&kept.index, models, next, mv) else {
+        return false;
+    };
+    *checked = checked.saturating_add(1);
+    !is_valid_at(models, next, place.table.as_str(), place.key.as_str())
+}
+
 impl RecheckRule {
     /// The rule, which keeps nothing yet and has checked nothing. It takes no memory.
     pub fn new(alloc: Global) -> RecheckRule
@@ -114,22 +138,18 @@ impl MoveRule for RecheckRule {
         self.kept = None;
     }
 
-    fn allows(
-        &mut self,
-        ctx: &Ctx,
-        _cur: &Config,
-        next: &Config,
-        _goal: &Config,
-        _mv: &Move,
-    ) -> bool
+    fn allows(&mut self, ctx: &Ctx, _cur: &Config, next: &Config, _goal: &Config, mv: &Move) -> bool
         requires { ⟦<RecheckRule as MoveRule>⟧.fits self.old ctx.now.models }
         ensures allows { IsTrue result
-            ↔ Passes (rulebook ctx.now) 1 _cur.now next.now _mv.now }
+            ↔ Passes (rulebook ctx.now) 1 _cur.now next.now mv.now }
         ensures fits { ⟦<RecheckRule as MoveRule>⟧.fits self.new ctx.now.models }
         ensures kind { ⟦<RecheckRule as MoveRule>⟧.rule_kind self.new
             ≡ ⟦<RecheckRule as MoveRule>⟧.rule_kind self.old }
         ensures checked { self.old.checked ≤ self.new.checked }
     {
+        if is_told_invalid(&mut self.checked, &self.kept, &ctx.models, next, mv) {
+            return false;
+        }
         let kept = self.kept.take();
         match recheck(self.alloc, &mut self.checked, kept, &ctx.models, next) {
             Ok((valid, kept)) => {

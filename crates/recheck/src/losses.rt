@@ -1,0 +1,99 @@
+//! Where an entry may have lost what it wants: the entry to look at before anything else. Which one it is
+//! steers only how soon an invalid configuration is told, and no contract speaks of it.
+use conf_doc::{Config, Table};
+use key_split::KeyView;
+use move_core::Move;
+use ref_index::{Place, RefIndex};
+use yang_model::Models;
+
+/// Whether there is a table and it has that key.
+fn has_key(table: Option<&Table>, key: &str) -> bool {
+    match table {
+        Some(table) => table.entry(key).is_some(),
+        None => false,
+    }
+}
+
+/// Whether a configuration has the entry of a place.
+fn has_entry(config: &Config, place: &Place) -> bool {
+    has_key(config.table(place.table.as_str()), place.key.as_str())
+}
+
+/// The first of some places whose entry another configuration has.
+fn first_there<'a>(places: &'a [Place], next: &Config) -> Option<&'a Place> {
+    for place in places {
+        if has_entry(next, place) {
+            return Some(place);
+        }
+    }
+    None
+}
+
+/// An entry that wants a part of a key of a shape.
+fn referrer_of_part<'a>(
+    index: &'a RefIndex,
+    next: &Config,
+    table: &str,
+    shape: u32,
+    key: &KeyView,
+    part: usize,
+) -> Option<&'a Place> {
+    let number = u32::try_from(part).ok()?;
+    let text = key.part(part)?;
+    first_there(index.referrers(table, shape, number, text), next)
+}
+
+/// An entry that wants some part of a key.
+fn referrer_of_key<'a>(
+    index: &'a RefIndex,
+    models: &Models,
+    next: &Config,
+    table: &str,
+    key: &str,
+) -> Option<&'a Place> {
+    let view = KeyView::new(key);
+    let shape = models.list_of(table, &view)?;
+    for part in 0..view.parts() {
+        let found = referrer_of_part(index, next, table, shape, &view, part);
+        if found.is_some() {
+            return found;
+        }
+    }
+    None
+}
+
+/// An entry that wants a part of a key which a table of the index has, and which another configuration lacks.
+fn referrer_of_gone_key<'a>(
+    index: &'a RefIndex,
+    models: &Models,
+    next: &Config,
+    name: &str,
+) -> Option<&'a Place> {
+    let table = index.config().table(name)?;
+    let others = next.table(name);
+    for i in 0..table.len() {
+        let key = table.name_at(i);
+        if !has_key(others, key) {
+            let found = referrer_of_key(index, models, next, name, key);
+            if found.is_some() {
+                return found;
+            }
+        }
+    }
+    None
+}
+
+/// An entry of the configuration after a move which wanted, by the index, what a key of the move's table was
+/// that isn't there any more. A move at a field takes no key away.
+pub(crate) fn first_loser<'a>(
+    index: &'a RefIndex,
+    models: &Models,
+    next: &Config,
+    mv: &Move,
+) -> Option<&'a Place> {
+    let place = mv.place();
+    if place.len() > 2 {
+        return None;
+    }
+    referrer_of_gone_key(index, models, next, place.name_at(0))
+}
