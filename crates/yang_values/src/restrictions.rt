@@ -1,4 +1,7 @@
 //! Types with further restrictions round them.
+//!
+//! A type that can't be handed on is given whole to `drop`. That is one call to the prover, where a
+//! removal at the end of a block has an end for each part of each kind of type.
 ghost use Rattle.std.specs.Prelude.{◌≡◌, Bool, List, ℕ, map, IfOk};
 ghost use Rattle.std.specs.Option.{option_map_or};
 ghost use Rattle.yang_text.specs.Statements.{declaration};

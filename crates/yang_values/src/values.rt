@@ -73,11 +73,8 @@ fn only(alloc: Global, part: Bounds) -> Result<Sequence<Bounds>, Memory>
 fn copy(alloc: Global, parts: &[Bounds]) -> Result<Sequence<Bounds>, Memory>
     ensures { IfOk result (λ found. found ≡ parts.now) }
 {
-    let mut found = Sequence::new(alloc);
-    for part in parts {
-        found.push(*part)?;
-    }
-    Ok(found)
+    let found = Vec::from_slice(alloc, parts)?;
+    Ok(Sequence::from_vec(found))
 }
 
 /// What a statement leaves of the values so far, where it is a length or a range.
