@@ -1,6 +1,5 @@
-use Rattle.std.proofs.Common.{◌∙◌, sym, ap}
+use Rattle.std.proofs.Common.{◌∙◌, sym}
 use Rattle.yang_text.specs.Statements.{declaration}
-use Rattle.yang_values.specs.Parts.{parts}
 use Rattle.yang_values.specs.Values.{restricted_values}
 use Rattle.yang_values.proofs.Without.{parts_without}
 use Rattle.yang_values.proofs.values.parts_at.Goals as goal
