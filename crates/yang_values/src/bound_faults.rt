@@ -32,12 +32,17 @@ fn note_if_bounds(
         return Ok(());
     }
     match &child.argument {
-        Some(text) => {
-            if parts_at(alloc, names, number, statement, text.as_str())?.is_none() {
-                note(least, file, child.line, ModelWhy::BadArgument);
+        Some(text) => match parts_at(alloc, names, number, statement, text.as_str()) {
+            Ok(Some(parts)) => {
+                drop(parts);
+                Ok(())
             }
-            Ok(())
-        }
+            Ok(None) => {
+                note(least, file, child.line, ModelWhy::BadArgument);
+                Ok(())
+            }
+            Err(memory) => Err(memory),
+        },
         None => Ok(()),
     }
 }

@@ -65,8 +65,7 @@ pub(crate) fn does_end<'a>(
     if !leads_on(names.base_of(number, &statement.argument)) {
         return Ok(true);
     }
-    let end = do_all_end(alloc, names, most, Place { number, statement })?;
-    Ok(end)
+    do_all_end(alloc, names, most, Place { number, statement })
 }
 
 /// A type statement of a module that lies on a circle of typedefs and leafrefs, through unions too. Where
@@ -87,6 +86,5 @@ pub fn note_if_circle<'a>(
     if does_end(alloc, names, most, number, statement)? {
         return Ok(());
     }
-    note_circle(alloc, least, names, file, number, statement)?;
-    Ok(())
+    note_circle(alloc, least, names, file, number, statement)
 }

@@ -124,7 +124,9 @@ fn next_taste<'a>(
     let places = next(alloc, names, place)?;
     let types = stand_ins(alloc, known, places.as_slice())?;
     let ty = type_by(alloc, names, place.number, place.statement, types)?;
-    Ok(taste_of(&ty, text))
+    let taste = taste_of(&ty, text);
+    drop(ty);
+    Ok(taste)
 }
 
 fn is_same_taste(one: Taste, other: Taste) -> bool
@@ -276,6 +278,7 @@ pub fn note_default<'a>(
     if does_end(alloc, names, most, number, statement)? {
         let ty = type_value(alloc, names, number, statement)?;
         note_bad_default(least, &ty, file, default);
+        drop(ty);
         return Ok(());
     }
     match &default.argument {

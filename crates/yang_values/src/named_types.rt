@@ -7,6 +7,7 @@ ghost use Rattle.yang_types.specs.DataTypes.{data_type};
 ghost use Rattle.yang_values.specs.Targets.{target_of};
 ghost use Rattle.yang_values.specs.TypeValues.{path_of, enum_name, enumeration_of, only_type, union_of, leafref_of, named_type};
 
+use crate::statements::is_keyword;
 use crate::targets::target_of;
 use crate::walks::path_of;
 use host_core::{Memory, Sequence, Txt};
@@ -19,7 +20,7 @@ use yang_types::{Target, Ty, TyBox, Types};
 fn push_enum(alloc: Global, enums: &mut Sequence<Txt>, statement: &Statement) -> Result<(), Memory>
     ensures { IfOk result (λ _. enums.new ≡ enums.old ++ enum_name (declaration statement.now)) }
 {
-    if statement.keyword.as_str() != "enum" {
+    if !is_keyword("enum", statement) {
         return Ok(());
     }
     match &statement.argument {

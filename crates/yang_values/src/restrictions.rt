@@ -1,4 +1,7 @@
 //! Types with further restrictions round them.
+//!
+//! A type that can't be handed on is given whole to `drop`. That is one call to the prover, where a
+//! removal at the end of a block has an end for each part of each kind of type.
 ghost use Rattle.std.specs.Prelude.{◌≡◌, Bool, List, ℕ, map, IfOk};
 ghost use Rattle.std.specs.Option.{option_map_or};
 ghost use Rattle.yang_text.specs.Statements.{declaration};
@@ -9,6 +12,7 @@ ghost use Rattle.yang_values.specs.TypeValues.{matching_by, restrict, type_by};
 ghost use Rattle.yang_values.specs.Values.{restricted_values};
 
 use crate::named_types::named_type;
+use crate::statements::is_keyword;
 use crate::values::parts_in_at;
 use host_core::{Memory, Sequence, Txt};
 use std::alloc::Global;
@@ -23,10 +27,13 @@ fn with_length(alloc: Global, ty: Ty, parts: Option<Sequence<Bounds>>) -> Result
         ≡ option_map_or (length_within (data_type ty)) parts (data_type ty)) }
 {
     match parts {
-        Some(parts) => {
-            let inner = TyBox::new(alloc, ty)?;
-            Ok(Ty::Length(inner, parts))
-        }
+        Some(parts) => match TyBox::new(alloc, ty) {
+            Ok(inner) => Ok(Ty::Length(inner, parts)),
+            Err(memory) => {
+                drop(parts);
+                Err(memory)
+            }
+        },
         None => Ok(ty),
     }
 }
@@ -37,10 +44,13 @@ fn with_range(alloc: Global, ty: Ty, parts: Option<Sequence<Bounds>>) -> Result<
         ≡ option_map_or (value_within (data_type ty)) parts (data_type ty)) }
 {
     match parts {
-        Some(parts) => {
-            let inner = TyBox::new(alloc, ty)?;
-            Ok(Ty::Range(inner, parts))
-        }
+        Some(parts) => match TyBox::new(alloc, ty) {
+            Ok(inner) => Ok(Ty::Range(inner, parts)),
+            Err(memory) => {
+                drop(parts);
+                Err(memory)
+            }
+        },
         None => Ok(ty),
     }
 }
@@ -51,12 +61,18 @@ fn matching_by(alloc: Global, ty: Ty, text: &str) -> Result<Ty, Memory>
         → data_type more ≡ matching_by is_pattern (data_type ty) text.now) }
 {
     match Pattern::read(alloc, text) {
-        Ok(pattern) => {
-            let inner = TyBox::new(alloc, ty)?;
-            Ok(Ty::Match(inner, pattern))
-        }
+        Ok(pattern) => match TyBox::new(alloc, ty) {
+            Ok(inner) => Ok(Ty::Match(inner, pattern)),
+            Err(memory) => {
+                drop(pattern);
+                Err(memory)
+            }
+        },
         Err(PatternError::Bad { .. }) => Ok(ty),
-        Err(PatternError::Memory) => Err(Memory),
+        Err(PatternError::Memory) => {
+            drop(ty);
+            Err(Memory)
+        }
     }
 }
 
@@ -86,13 +102,23 @@ fn restrict(
         (restricted_values names.now number (declaration statement.now))
         (data_type ty) (declaration child.now)) }
 {
-    if child.keyword.as_str() == "length" {
-        let parts = parts_in_at(alloc, names, number, statement, child)?;
-        with_length(alloc, ty, parts)
-    } else if child.keyword.as_str() == "range" {
-        let parts = parts_in_at(alloc, names, number, statement, child)?;
-        with_range(alloc, ty, parts)
-    } else if child.keyword.as_str() == "pattern" {
+    if is_keyword("length", child) {
+        match parts_in_at(alloc, names, number, statement, child) {
+            Ok(parts) => with_length(alloc, ty, parts),
+            Err(memory) => {
+                drop(ty);
+                Err(memory)
+            }
+        }
+    } else if is_keyword("range", child) {
+        match parts_in_at(alloc, names, number, statement, child) {
+            Ok(parts) => with_range(alloc, ty, parts),
+            Err(memory) => {
+                drop(ty);
+                Err(memory)
+            }
+        }
+    } else if is_keyword("pattern", child) {
         with_pattern(alloc, ty, &child.argument)
     } else {
         Ok(ty)

@@ -2,11 +2,18 @@
 ghost use Rattle.std.specs.Prelude.{◌≡◌, option_map};
 ghost use Rattle.yang_text.specs.Statements.{declaration};
 ghost use Rattle.yang_scope.specs.Meanings.{statement_at};
-ghost use Rattle.yang_scope.specs.Statements.{first_child};
+ghost use Rattle.yang_scope.specs.Statements.{is_keyword, first_child};
 ghost use Rattle.yang_values.specs.Values.{typedef_type};
 
 use yang_scope::{Names, first_of};
 use yang_text::Statement;
+
+/// Whether a statement has a keyword.
+pub(crate) fn is_keyword(word: &str, statement: &Statement) -> bool
+    ensures { result ≡ is_keyword word.now (declaration statement.now) }
+{
+    statement.keyword.as_str() == word
+}
 
 /// The first statement of a keyword in another one.
 pub(crate) fn first_child<'a>(keyword: &str, statement: &'a Statement) -> Option<&'a Statement>

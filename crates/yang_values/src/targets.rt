@@ -5,7 +5,7 @@ ghost use Rattle.yang_text.specs.Statements.{declaration};
 ghost use Rattle.yang_scope.specs.Pieces.{texts};
 ghost use Rattle.yang_values.specs.Targets.{place_from, is_shape, is_list_named, shape_of, is_filled, part_of_key, part_in, part_below, target, target_below, target_of_pieces, target_of};
 
-use crate::statements::first_child;
+use crate::statements::{first_child, is_keyword};
 use host_core::{Memory, Txt};
 use std::alloc::Global;
 use yang_scope::{Names, child_named, split_pieces, step_name};
@@ -16,14 +16,14 @@ use yang_types::Target;
 fn is_shape(statement: &Statement) -> bool
     ensures { result ≡ is_shape (declaration statement.now) }
 {
-    statement.keyword.as_str() == "list" || statement.keyword.as_str() == "container"
+    is_keyword("list", statement) || is_keyword("container", statement)
 }
 
 /// Whether a statement is the list of a name.
 fn is_list_named(name: &str, statement: &Statement) -> bool
     ensures { result ≡ is_list_named name.now (declaration statement.now) }
 {
-    if statement.keyword.as_str() != "list" {
+    if !is_keyword("list", statement) {
         return false;
     }
     match &statement.argument {
@@ -102,11 +102,12 @@ fn target(
     ensures { IfOk result (λ found. found ≡ target table.now shape part) }
 {
     match (shape, part) {
-        (Some(shape), Some(part)) => Ok(Some(Target {
-            table: Txt::new(alloc, table)?,
-            shape: narrow(shape)?,
-            part: narrow(part)?,
-        })),
+        (Some(shape), Some(part)) => {
+            let shape = narrow(shape)?;
+            let part = narrow(part)?;
+            let table = Txt::new(alloc, table)?;
+            Ok(Some(Target { table, shape, part }))
+        }
         _ => Ok(None),
     }
 }

@@ -77,6 +77,5 @@ pub fn type_value<'a>(
 {
     let mut found = visits(alloc, names, Place { number, statement })?;
     found.reverse();
-    let ty = build(alloc, names, found.as_slice())?;
-    Ok(ty)
+    build(alloc, names, found.as_slice())
 }

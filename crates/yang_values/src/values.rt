@@ -4,10 +4,10 @@ ghost use Rattle.std.specs.Prelude.{◌≡◌, ◌^◌, [], ◌∷◌, map, opti
 ghost use Rattle.std.specs.List.{fold};
 ghost use Rattle.yang_text.specs.Statements.{declaration};
 ghost use Rattle.yang_values.specs.Parts.{parts};
-ghost use Rattle.yang_values.specs.Values.{most_steps, base_bounds, is_restriction, parts_in, values_left, values_by, next_typedef, types_within, values_behind, values_of, restricted_values};
+ghost use Rattle.yang_values.specs.Values.{most_steps, base_bounds, is_restriction, parts_in, values_left, values_by, next_typedef, types_within, values_behind, restricted_values};
 
 use crate::parts::{common, parts};
-use crate::statements::typedef_type;
+use crate::statements::{is_keyword, typedef_type};
 use host_core::{Memory, Sequence};
 use std::alloc::Global;
 use yang_scope::{Base, Meaning, Names};
@@ -38,11 +38,10 @@ fn base_bounds(base: Option<Base>) -> Bounds
 pub(crate) fn is_restriction(base: Option<Base>, statement: &Statement) -> bool
     ensures { result ≡ is_restriction base (declaration statement.now) }
 {
-    let keyword = statement.keyword.as_str();
     match base {
-        None => keyword == "length" || keyword == "range",
-        Some(Base::Text) => keyword == "length",
-        Some(Base::Number(_)) => keyword == "range",
+        None => is_keyword("length", statement) || is_keyword("range", statement),
+        Some(Base::Text) => is_keyword("length", statement),
+        Some(Base::Number(_)) => is_keyword("range", statement),
         Some(_) => false,
     }
 }
@@ -74,11 +73,8 @@ fn only(alloc: Global, part: Bounds) -> Result<Sequence<Bounds>, Memory>
 fn copy(alloc: Global, parts: &[Bounds]) -> Result<Sequence<Bounds>, Memory>
     ensures { IfOk result (λ found. found ≡ parts.now) }
 {
-    let mut found = Sequence::new(alloc);
-    for part in parts {
-        found.push(*part)?;
-    }
-    Ok(found)
+    let found = Vec::from_slice(alloc, parts)?;
+    Ok(Sequence::from_vec(found))
 }
 
 /// What a statement leaves of the values so far, where it is a length or a range.
@@ -186,21 +182,6 @@ fn values_behind(
     values_along(alloc, base, first, statements.as_slice())
 }
 
-/// The values of a meaning with this base.
-fn values_of(
-    alloc: Global,
-    names: &Names,
-    meaning: Meaning,
-    base: Option<Base>,
-) -> Result<Sequence<Bounds>, Memory>
-    ensures { IfOk result (λ found. found ≡ values_of names.now meaning base) }
-{
-    match base {
-        None => only(alloc, base_bounds(base)),
-        Some(_) => values_behind(alloc, names, meaning, base),
-    }
-}
-
 /// The values of the type that a type statement of a module restricts.
 pub(crate) fn restricted_values(
     alloc: Global,
@@ -213,7 +194,10 @@ pub(crate) fn restricted_values(
 {
     let meaning = names.type_meaning(number, &statement.argument);
     let base = names.base_of(number, &statement.argument);
-    values_of(alloc, names, meaning, base)
+    match base {
+        None => only(alloc, base_bounds(base)),
+        Some(_) => values_behind(alloc, names, meaning, base),
+    }
 }
 
 /// The parts of a length or a range at a type statement of a module, where the text is one. The typedefs
@@ -228,13 +212,13 @@ pub(crate) fn parts_at(
     ensures { IfOk result (λ found. found
         ≡ parts (restricted_values names.now number (declaration statement.now)) text.now) }
 {
-    let nothing = Sequence::new(alloc);
-    match parts(alloc, nothing.items(), text)? {
-        Some(found) => Ok(Some(found)),
-        None => {
+    match parts(alloc, &[], text) {
+        Ok(Some(found)) => Ok(Some(found)),
+        Ok(None) => {
             let values = restricted_values(alloc, names, number, statement)?;
             parts(alloc, values.items(), text)
         }
+        Err(memory) => Err(memory),
     }
 }
 

@@ -7,7 +7,7 @@ ghost use Rattle.yang_values.specs.TypeValues.{placed_in, path_of, leaf_types, n
 ghost use Rattle.yang_values.specs.Values.{most_steps};
 ghost use Rattle.yang_values.specs.Walks.{placed, step_type, visited, built};
 
-use crate::statements::{first_child, typedef_type};
+use crate::statements::{first_child, is_keyword, typedef_type};
 use host_core::Memory;
 use std::alloc::Global;
 use yang_scope::{Base, Meaning, Names};
@@ -79,9 +79,10 @@ fn leaf_types<'a>(
     ensures { IfOk result
         (λ places. map placed places.items ≡ leaf_types names.now number path.now) }
 {
-    match names.path_end(alloc, number, path)? {
-        Some((number, leaf)) => some_place(alloc, number, first_child("type", leaf)),
-        None => Ok(Vec::new(alloc)),
+    match names.path_end(alloc, number, path) {
+        Ok(Some((number, leaf))) => some_place(alloc, number, first_child("type", leaf)),
+        Ok(None) => Ok(Vec::new(alloc)),
+        Err(memory) => Err(memory),
     }
 }
 
@@ -94,7 +95,7 @@ fn push_if_type<'a>(
     ensures { IfOk result (λ _. map placed places.new.items ≡ map placed places.old.items
         ++ placed_in number (filter (is_keyword (codes "type")) (declaration statement.now ∷ []))) }
 {
-    if statement.keyword.as_str() == "type" {
+    if is_keyword("type", statement) {
         places.push(Place { number, statement })?;
     }
     Ok(())

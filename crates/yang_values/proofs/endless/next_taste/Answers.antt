@@ -21,5 +21,5 @@ pub returns : goal.returns
 returns c = λ is_pattern decides most right.
     let p : Placed = placed c.args.place in
     let leads : map placed c.as_slice.result.now ≡ next c.args.names.now p = ap (map placed) c.as_slice.ensures.value ∙ c.in_ok-places.ensures in
-    next_right is_pattern c.args.names.now c.args.text.now most (map known_of c.args.known.now) right p (map placed c.as_slice.result.now) (map data_type c.in_ok-types.types.items) (data_type c.in_ok-ty.ty) c.taste_of.result
-    leads c.in_ok-types.ensures (c.in_ok-ty.ensures is_pattern decides) c.taste_of.ensures
+    next_right is_pattern c.args.names.now c.args.text.now most (map known_of c.args.known.now) right p (map placed c.as_slice.result.now) (map data_type c.in_ok-types.types.items) (data_type c.in_ok-ty.ty) c.taste_of-taste.result
+    leads c.in_ok-types.ensures (c.in_ok-ty.ensures is_pattern decides) c.taste_of-taste.ensures
