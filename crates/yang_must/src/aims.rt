@@ -2,7 +2,7 @@
 
 /// What a path gives: the nodes that it selects, where it is alone or counted, or their texts, on a
 /// side of a comparison.
-#[derive(Clone, Copy, Debug, PartialEq, Eq)]
+#[derive(Clone, Copy, PartialEq, Eq)]
 pub(crate) enum Aim {
     Nodes,
     Texts,

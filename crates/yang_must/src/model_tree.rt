@@ -51,8 +51,14 @@ fn push_module<'a>(
 {
     match names.module_at(number) {
         Some((file, statement)) => {
-            modules.push(ModulePrefixes::new(alloc, file, statement)?)?;
-            Ok(())
+            let module = ModulePrefixes::new(alloc, file, statement)?;
+            match modules.push(module) {
+                Ok(()) => Ok(()),
+                Err(failed) => {
+                    drop(failed);
+                    Err(Memory)
+                }
+            }
         }
         None => Ok(()),
     }
@@ -80,10 +86,15 @@ fn with_container<'a>(
     ensures { IfOk result (λ list. list ≡ containers.entry ++ map (container_at file number)
         (filter (is_keyword (codes "container")) (declaration statement.now ∷ []))) }
 {
-    if statement.keyword.as_str() == "container" {
-        containers.with(alloc, ContainerNode::new(alloc, file, number, statement)?)
-    } else {
-        Ok(containers)
+    if statement.keyword.as_str() != "container" {
+        return Ok(containers);
+    }
+    match ContainerNode::new(alloc, file, number, statement) {
+        Ok(container) => containers.with(alloc, container),
+        Err(memory) => {
+            drop(containers);
+            Err(memory)
+        }
     }
 }
 
@@ -123,11 +134,16 @@ impl<'a> ModelTree<'a> {
         ensures { IfOk result (λ tree. tree ≡ names.now) }
     {
         let modules = all_modules(alloc, names)?;
-        let containers = all_containers(alloc, modules.as_slice())?;
-        Ok(ModelTree {
-            modules,
-            containers,
-        })
+        match all_containers(alloc, modules.as_slice()) {
+            Ok(containers) => Ok(ModelTree {
+                modules,
+                containers,
+            }),
+            Err(memory) => {
+                drop(modules);
+                Err(memory)
+            }
+        }
     }
 
     /// The containers of all modules, in order.

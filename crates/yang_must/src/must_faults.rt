@@ -1,8 +1,10 @@
 //! What is wrong with the musts of the models.
-ghost use Rattle.std.specs.Prelude.{◌≡◌, [], ◌∷◌, List, Option, ℕ, IfOk, OnOk, if◌then◌else◌};
+ghost use Rattle.std.specs.Prelude.{◌≡◌, [], ◌∷◌, ◌++◌, List, Option, ℕ, option_map, IfOk, OnOk, if◌then◌else◌};
 ghost use Rattle.std.specs.List.{flat_map};
+ghost use Rattle.std.specs.Option.{option_map_or};
 ghost use Rattle.yang_text.specs.Declarations.{block};
 ghost use Rattle.yang_text.specs.Statements.{declaration};
+ghost use Rattle.yang_text.specs.declared.errors.ModelWhy.TheVariants.{UnknownName, BadExpr};
 ghost use Rattle.yang_scope.specs.Faults.{fault_at, least_of};
 ghost use Rattle.xpath_part.specs.Expression.{Expression};
 ghost use Rattle.xpath_part.specs.Expressions.{expression};
@@ -10,6 +12,7 @@ ghost use Rattle.yang_must.specs.Musts.{ReadsExpressions, route_faults, must_fau
 ghost use Rattle.yang_must.specs.Routes.{routes};
 ghost use Rattle.yang_must.specs.SpotRefs.{spot_at};
 
+use crate::findings::Findings;
 use crate::model_tree::ModelTree;
 use crate::must_values::{findings_in, read_expression};
 use crate::nodes::{ContainerNode, ShapeNode, TableNode};
@@ -36,23 +39,14 @@ fn note_where(
     }
 }
 
-/// What is wrong with the paths of the expression of a must.
-fn note_routes(
-    alloc: Global,
-    least: &mut Option<Fault>,
-    tree: &ModelTree,
-    owner: &ContainerNode,
-    spot: SpotRef,
-    statement: &Statement,
-    expr: &Expr,
-) -> Result<(), Memory>
-    ensures { OnOk result (least.new ≡ least_of least.old
-        (route_faults tree.now owner.now.file owner.now.number (declaration statement.now)
-        (routes tree.now owner.now.number (spot_at spot.entry) (expression expr.now)
-        (spot_at spot.entry)))) }
+/// What was found in the paths of a must.
+fn note_findings(least: &mut Option<Fault>, file: u32, statement: &Statement, findings: &Findings)
+    ensures { least.new ≡ least_of least.old
+        ((if findings.now.unknown
+        then fault_at file UnknownName (declaration statement.now) ∷ [] else [])
+        ++ (if findings.now.misplaced
+        then fault_at file BadExpr (declaration statement.now) ∷ [] else [])) }
 {
-    let findings = findings_in(alloc, tree, owner.number(), spot, expr)?;
-    let file = owner.file();
     note_where(
         findings.unknown,
         least,
@@ -67,7 +61,53 @@ fn note_routes(
         statement,
         ModelWhy::BadExpr,
     );
+}
+
+/// What is wrong with the paths of the expression of a must.
+fn note_routes(
+    alloc: Global,
+    least: &mut Option<Fault>,
+    tree: &ModelTree,
+    owner: &ContainerNode,
+    spot: &SpotRef,
+    statement: &Statement,
+    expr: &Expr,
+) -> Result<(), Memory>
+    ensures { OnOk result (least.new ≡ least_of least.old
+        (route_faults tree.now owner.now.file owner.now.number (declaration statement.now)
+        (routes tree.now owner.now.number (spot_at spot.now) (expression expr.now)
+        (spot_at spot.now)))) }
+{
+    let findings = findings_in(alloc, tree, owner.number(), spot, expr)?;
+    note_findings(least, owner.file(), statement, &findings);
+    drop(findings);
     Ok(())
+}
+
+/// What is wrong with a must whose argument is an expression, or is none.
+fn note_read(
+    alloc: Global,
+    least: &mut Option<Fault>,
+    tree: &ModelTree,
+    owner: &ContainerNode,
+    spot: &SpotRef,
+    statement: &Statement,
+    read: &Option<Expr>,
+) -> Result<(), Memory>
+    ensures { OnOk result (least.new ≡ least_of least.old
+        (option_map_or (λ e. route_faults tree.now owner.now.file owner.now.number
+        (declaration statement.now)
+        (routes tree.now owner.now.number (spot_at spot.now) e (spot_at spot.now)))
+        (option_map expression read.now)
+        (fault_at owner.now.file BadExpr (declaration statement.now) ∷ []))) }
+{
+    match read {
+        Some(expr) => note_routes(alloc, least, tree, owner, spot, statement, expr),
+        None => {
+            note(least, owner.file(), statement.line, ModelWhy::BadExpr);
+            Ok(())
+        }
+    }
 }
 
 /// What is wrong with a must in a container of a module.
@@ -76,23 +116,24 @@ fn note_must(
     least: &mut Option<Fault>,
     tree: &ModelTree,
     owner: &ContainerNode,
-    spot: SpotRef,
+    spot: &SpotRef,
     statement: &Statement,
 ) -> Result<(), Memory>
     ensures { IfOk result (λ _. (read : List ℕ → Option Expression) → ReadsExpressions read
         → least.new ≡ least_of least.old
-        (must_faults read tree.now owner.now.file owner.now.number (spot_at spot.entry)
+        (must_faults read tree.now owner.now.file owner.now.number (spot_at spot.now)
         (declaration statement.now))) }
 {
     let Some(text) = &statement.argument else {
         return Ok(());
     };
-    match read_expression(alloc, text.as_str())? {
-        Some(expr) => note_routes(alloc, least, tree, owner, spot, statement, &expr),
-        None => {
-            note(least, owner.file(), statement.line, ModelWhy::BadExpr);
-            Ok(())
+    match read_expression(alloc, text.as_str()) {
+        Ok(read) => {
+            let noted = note_read(alloc, least, tree, owner, spot, statement, &read);
+            drop(read);
+            noted
         }
+        Err(memory) => Err(memory),
     }
 }
 
@@ -102,12 +143,12 @@ fn note_if_must(
     least: &mut Option<Fault>,
     tree: &ModelTree,
     owner: &ContainerNode,
-    spot: SpotRef,
+    spot: &SpotRef,
     statement: &Statement,
 ) -> Result<(), Memory>
     ensures { IfOk result (λ _. (read : List ℕ → Option Expression) → ReadsExpressions read
         → least.new ≡ least_of least.old
-        (if_must read tree.now owner.now (spot_at spot.entry) (declaration statement.now))) }
+        (if_must read tree.now owner.now (spot_at spot.now) (declaration statement.now))) }
 {
     if statement.keyword.as_str() == "must" {
         note_must(alloc, least, tree, owner, spot, statement)
@@ -122,12 +163,12 @@ fn note_musts_in(
     least: &mut Option<Fault>,
     tree: &ModelTree,
     owner: &ContainerNode,
-    spot: SpotRef,
+    spot: &SpotRef,
     statement: &Statement,
 ) -> Result<(), Memory>
     ensures { IfOk result (λ _. (read : List ℕ → Option Expression) → ReadsExpressions read
         → least.new ≡ least_of least.old
-        (flat_map (if_must read tree.now owner.now (spot_at spot.entry))
+        (flat_map (if_must read tree.now owner.now (spot_at spot.now))
         (block (declaration statement.now)))) }
 {
     for inner in statement.block.items() {
@@ -142,12 +183,12 @@ fn note_if_leaf(
     least: &mut Option<Fault>,
     tree: &ModelTree,
     owner: &ContainerNode,
-    spot: SpotRef,
+    spot: &SpotRef,
     statement: &Statement,
 ) -> Result<(), Memory>
     ensures { IfOk result (λ _. (read : List ℕ → Option Expression) → ReadsExpressions read
         → least.new ≡ least_of least.old
-        (if_leaf read tree.now owner.now (spot_at spot.entry) (declaration statement.now))) }
+        (if_leaf read tree.now owner.now (spot_at spot.now) (declaration statement.now))) }
 {
     if statement.keyword.as_str() == "leaf" {
         note_musts_in(alloc, least, tree, owner, spot, statement)
@@ -171,10 +212,9 @@ fn note_in_shape(
         (in_shape_faults read tree.now owner.now table.now shape.now (declaration statement.now))) }
 {
     let spot = SpotRef::Shape(owner, table, shape);
-    note_if_must(alloc, least, tree, owner, spot, statement)?;
+    note_if_must(alloc, least, tree, owner, &spot, statement)?;
     let leaf = SpotRef::Leaf(owner, table, shape, statement);
-    note_if_leaf(alloc, least, tree, owner, leaf, statement)?;
-    Ok(())
+    note_if_leaf(alloc, least, tree, owner, &leaf, statement)
 }
 
 /// What is wrong with the musts of a list or a fixed container.

@@ -43,11 +43,11 @@ pub(crate) fn findings_in(
     alloc: Global,
     tree: &ModelTree,
     number: usize,
-    spot: SpotRef,
+    spot: &SpotRef,
     expr: &Expr,
 ) -> Result<Findings, Memory>
     ensures { IfOk result (λ found. IsFound tree.now number found
-        (routes tree.now number (spot_at spot.entry) (expression expr.now) (spot_at spot.entry))) }
+        (routes tree.now number (spot_at spot.now) (expression expr.now) (spot_at spot.now))) }
 {
     let mut findings = Findings::new(alloc);
     let resolver = Resolver {
@@ -55,8 +55,36 @@ pub(crate) fn findings_in(
         number,
         current: spot,
     };
-    resolver.note_expression(alloc, &mut findings, spot, expr)?;
-    Ok(findings)
+    match resolver.note_expression(alloc, &mut findings, spot, expr) {
+        Ok(()) => Ok(findings),
+        Err(memory) => {
+            drop(findings);
+            Err(memory)
+        }
+    }
+}
+
+/// The tables that an expression reads as a must at a spot, where all its paths are right.
+fn reads_of(
+    alloc: Global,
+    tree: &ModelTree,
+    number: usize,
+    spot: &SpotRef,
+    expr: &Expr,
+) -> Result<Option<Names>, Memory>
+    ensures { IfOk result (λ reads.
+        option_map (λ names. record { expression = expression expr.now; reads = names }) reads
+        ≡ must_by tree.now number (expression expr.now) (routes tree.now number (spot_at spot.now)
+        (expression expr.now) (spot_at spot.now))) }
+{
+    let findings = findings_in(alloc, tree, number, spot, expr)?;
+    if findings.unknown || findings.misplaced {
+        drop(findings);
+        return Ok(None);
+    }
+    let reads = findings.reads.in_order(alloc);
+    drop(findings);
+    Ok(Some(reads?))
 }
 
 /// What an expression is as a must at a spot.
@@ -64,18 +92,23 @@ fn value_of(
     alloc: Global,
     tree: &ModelTree,
     number: usize,
-    spot: SpotRef,
+    spot: &SpotRef,
     expr: Expr,
 ) -> Result<Option<MustValue>, Memory>
     ensures { IfOk result (λ v. option_map must_value v ≡ must_by tree.now number (expression expr)
-        (routes tree.now number (spot_at spot.entry) (expression expr) (spot_at spot.entry))) }
+        (routes tree.now number (spot_at spot.now) (expression expr) (spot_at spot.now))) }
 {
-    let findings = findings_in(alloc, tree, number, spot, &expr)?;
-    if findings.unknown || findings.misplaced {
-        return Ok(None);
+    match reads_of(alloc, tree, number, spot, &expr) {
+        Ok(Some(reads)) => Ok(Some(MustValue { expr, reads })),
+        Ok(None) => {
+            drop(expr);
+            Ok(None)
+        }
+        Err(memory) => {
+            drop(expr);
+            Err(memory)
+        }
     }
-    let reads = findings.reads.in_order(alloc)?;
-    Ok(Some(MustValue { expr, reads }))
 }
 
 /// What a must of a module is at a spot: that of its list or fixed container, or of its leaf. None where
@@ -93,7 +126,7 @@ pub fn must_of(
 {
     match &statement.argument {
         Some(text) => match read_expression(alloc, text.as_str())? {
-            Some(expr) => value_of(alloc, tree, number, spot, expr),
+            Some(expr) => value_of(alloc, tree, number, &spot, expr),
             None => Ok(None),
         },
         None => Ok(None),

@@ -25,7 +25,7 @@ pub(crate) struct Resolver<'t, 'a> {
     /// The number of the must's module.
     pub(crate) number: usize,
     /// The spot of the must, which is what `current()` means.
-    pub(crate) current: SpotRef<'t, 'a>,
+    pub(crate) current: &'t SpotRef<'t, 'a>,
 }
 
 impl<'t, 'a> Resolver<'t, 'a> {
@@ -60,7 +60,7 @@ impl<'t, 'a> Resolver<'t, 'a> {
         for step in steps {
             match spot.after(self.tree, self.number, step) {
                 Some(next) => {
-                    add_table(alloc, reads, next)?;
+                    add_table(alloc, reads, &next)?;
                     spot = next;
                 }
                 None => return Ok(()),
@@ -82,7 +82,7 @@ impl<'t, 'a> Resolver<'t, 'a> {
             (route aim (spot_at origin.entry) (strides_of (map step_of steps.now)) ∷ [])) }
     {
         self.add_tables(alloc, &mut findings.reads, origin, steps)?;
-        note_end(findings, aim, self.end_of(origin, steps));
+        note_end(findings, aim, &self.end_of(origin, steps));
         Ok(())
     }
 
@@ -93,12 +93,12 @@ impl<'t, 'a> Resolver<'t, 'a> {
         &self,
         alloc: Global,
         findings: &mut Findings,
-        context: SpotRef<'t, 'a>,
+        context: &SpotRef<'t, 'a>,
         expr: &Expr,
     ) -> Result<(), Memory>
         ensures { OnOk result (Finds self.now.tree.now self.now.number findings.old findings.new
-            (routes self.now.tree.now self.now.number (spot_at self.now.current)
-            (expression expr.now) (spot_at context.entry))) }
+            (routes self.now.tree.now self.now.number (spot_at self.now.current.now)
+            (expression expr.now) (spot_at context.now))) }
     {
         let mut at = expr;
         loop {
@@ -134,15 +134,15 @@ impl<'t, 'a> Resolver<'t, 'a> {
         &self,
         alloc: Global,
         findings: &mut Findings,
-        context: SpotRef<'t, 'a>,
+        context: &SpotRef<'t, 'a>,
         left: &Operand,
         right: &Operand,
     ) -> Result<(), Memory>
         ensures { OnOk result (Finds self.now.tree.now self.now.number findings.old findings.new
-            (term_routes self.now.tree.now self.now.number (spot_at self.now.current) Texts
-            (term_of left.now) (spot_at context.entry)
-            ++ term_routes self.now.tree.now self.now.number (spot_at self.now.current) Texts
-            (term_of right.now) (spot_at context.entry))) }
+            (term_routes self.now.tree.now self.now.number (spot_at self.now.current.now) Texts
+            (term_of left.now) (spot_at context.now)
+            ++ term_routes self.now.tree.now self.now.number (spot_at self.now.current.now) Texts
+            (term_of right.now) (spot_at context.now))) }
     {
         self.note_operand(alloc, findings, Aim::Texts, context, left)?;
         self.note_operand(alloc, findings, Aim::Texts, context, right)
@@ -155,12 +155,12 @@ impl<'t, 'a> Resolver<'t, 'a> {
         alloc: Global,
         findings: &mut Findings,
         aim: Aim,
-        context: SpotRef<'t, 'a>,
+        context: &SpotRef<'t, 'a>,
         operand: &Operand,
     ) -> Result<(), Memory>
         ensures { OnOk result (Finds self.now.tree.now self.now.number findings.old findings.new
-            (term_routes self.now.tree.now self.now.number (spot_at self.now.current) aim
-            (term_of operand.now) (spot_at context.entry))) }
+            (term_routes self.now.tree.now self.now.number (spot_at self.now.current.now) aim
+            (term_of operand.now) (spot_at context.now))) }
     {
         match operand {
             Operand::Walk(path) => self.note_path(alloc, findings, aim, context, path),
@@ -175,14 +175,14 @@ impl<'t, 'a> Resolver<'t, 'a> {
         alloc: Global,
         findings: &mut Findings,
         aim: Aim,
-        context: SpotRef<'t, 'a>,
+        context: &SpotRef<'t, 'a>,
         path: &Walk,
     ) -> Result<(), Memory>
         ensures { OnOk result (Finds self.now.tree.now self.now.number findings.old findings.new
-            (path_routes self.now.tree.now self.now.number (spot_at self.now.current) aim
-            (path_of path.now) (spot_at context.entry))) }
+            (path_routes self.now.tree.now self.now.number (spot_at self.now.current.now) aim
+            (path_of path.now) (spot_at context.now))) }
     {
-        let origin = context.start(path.origin, self.current);
+        let origin = context.start(path.origin, *self.current);
         let steps = path.steps.items();
         self.note_route(alloc, findings, aim, origin, steps)?;
         self.note_inner(alloc, findings, origin, steps)
@@ -198,7 +198,7 @@ impl<'t, 'a> Resolver<'t, 'a> {
         steps: &[Step],
     ) -> Result<(), Memory>
         ensures { OnOk result (Finds self.now.tree.now self.now.number findings.old findings.new
-            (inner_routes self.now.tree.now self.now.number (spot_at self.now.current)
+            (inner_routes self.now.tree.now self.now.number (spot_at self.now.current.now)
             (strides_of (map step_of steps.now)) (spot_at origin.entry))) }
     {
         let mut spot = origin;
@@ -224,13 +224,13 @@ impl<'t, 'a> Resolver<'t, 'a> {
         step: &Step,
     ) -> Result<(), Memory>
         ensures { OnOk result (Finds self.now.tree.now self.now.number findings.old findings.new
-            (step_routes self.now.tree.now self.now.number (spot_at self.now.current)
+            (step_routes self.now.tree.now self.now.number (spot_at self.now.current.now)
             (step_of step.now) (spot_at spot.entry))) }
     {
         match step {
             Step::Up => Ok(()),
             Step::Stay => Ok(()),
-            Step::Child { tests, .. } => self.note_tests(alloc, findings, spot, tests.items()),
+            Step::Child { tests, .. } => self.note_tests(alloc, findings, &spot, tests.items()),
         }
     }
 
@@ -240,12 +240,12 @@ impl<'t, 'a> Resolver<'t, 'a> {
         &self,
         alloc: Global,
         findings: &mut Findings,
-        spot: SpotRef<'t, 'a>,
+        spot: &SpotRef<'t, 'a>,
         tests: &[Expr],
     ) -> Result<(), Memory>
         ensures { OnOk result (Finds self.now.tree.now self.now.number findings.old findings.new
-            (test_routes self.now.tree.now self.now.number (spot_at self.now.current)
-            (predicates_of (map expression tests.now)) (spot_at spot.entry))) }
+            (test_routes self.now.tree.now self.now.number (spot_at self.now.current.now)
+            (predicates_of (map expression tests.now)) (spot_at spot.now))) }
     {
         for test in tests {
             self.note_expression(alloc, findings, spot, test)?;
@@ -255,8 +255,8 @@ impl<'t, 'a> Resolver<'t, 'a> {
 }
 
 /// Adds the name of a table, where a spot is its container.
-fn add_table(alloc: Global, reads: &mut NameSet, spot: SpotRef) -> Result<(), Memory>
-    ensures { OnOk result (Gains reads.old.names reads.new.names (table_at (spot_at spot.entry))) }
+fn add_table(alloc: Global, reads: &mut NameSet, spot: &SpotRef) -> Result<(), Memory>
+    ensures { OnOk result (Gains reads.old.names reads.new.names (table_at (spot_at spot.now))) }
 {
     match spot.table() {
         Some(name) => reads.add(alloc, name.as_str()),
@@ -265,11 +265,11 @@ fn add_table(alloc: Global, reads: &mut NameSet, spot: SpotRef) -> Result<(), Me
 }
 
 /// What is found at the end of a path, which is None where a step names nothing.
-fn note_end(findings: &mut Findings, aim: Aim, end: Option<SpotRef>)
+fn note_end(findings: &mut Findings, aim: Aim, end: &Option<SpotRef>)
     ensures unknown { findings.new.unknown
-        ≡ (findings.old.unknown || is_none (option_map spot_at end.entry)) }
+        ≡ (findings.old.unknown || is_none (option_map spot_at end.now)) }
     ensures misplaced { findings.new.misplaced ≡ (findings.old.misplaced
-        || option_map_or (λ spot. not (may_end_at aim spot)) (option_map spot_at end.entry) false) }
+        || option_map_or (λ spot. not (may_end_at aim spot)) (option_map spot_at end.now) false) }
     ensures reads { findings.new.reads.names ≡ findings.old.reads.names }
 {
     match end {

@@ -103,8 +103,8 @@ impl<'t, 'a> SpotRef<'t, 'a> {
     }
 
     /// Whether a path may end here.
-    pub(crate) fn may_end(self, aim: Aim) -> bool
-        ensures { result ≡ may_end_at aim (spot_at self.entry) }
+    pub(crate) fn may_end(&self, aim: Aim) -> bool
+        ensures { result ≡ may_end_at aim (spot_at self.now) }
     {
         match self {
             SpotRef::Leaf(..) => true,
@@ -116,8 +116,8 @@ impl<'t, 'a> SpotRef<'t, 'a> {
     }
 
     /// The name of the table whose container this is.
-    pub(crate) fn table(self) -> Option<&'a Txt>
-        ensures { option_to_list (option_map (λ t. t.now) result) ≡ table_at (spot_at self.entry) }
+    pub(crate) fn table(&self) -> Option<&'a Txt>
+        ensures { option_to_list (option_map (λ t. t.now) result) ≡ table_at (spot_at self.now) }
     {
         match self {
             SpotRef::Table(_, table) => table.statement().argument.as_ref(),

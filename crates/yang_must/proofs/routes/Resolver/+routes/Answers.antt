@@ -14,7 +14,7 @@ pub note_expression-loop-at-preserved-in-Or : goal.note_expression-loop-at-prese
 note_expression-loop-at-preserved-in-Or t c =
     let tree = c.args.self.now.tree.now in
     let m = c.args.self.now.number in
-    let found : Expression → List Route = λ e. routes tree m (spot_at c.args.self.now.current) e (spot_at c.args.context) in
+    let found : Expression → List Route = λ e. routes tree m (spot_at c.args.self.now.current.now) e (spot_at c.args.context.now) in
     let same : weight (expression c.loop-at.at.now) ≡ suc (weight c.in-Or.left + weight c.in-Or.right) = ap (λ e. weight (expression e)) c.in-Or.is in
     let left : weight (expression c.expr-at.result.now) ≡ weight c.in-Or.left = ap weight c.expr-at.ensures in record {
       goes = λ final rest.
@@ -30,7 +30,7 @@ pub note_expression-loop-at-preserved-in-And : goal.note_expression-loop-at-pres
 note_expression-loop-at-preserved-in-And t c =
     let tree = c.args.self.now.tree.now in
     let m = c.args.self.now.number in
-    let found : Expression → List Route = λ e. routes tree m (spot_at c.args.self.now.current) e (spot_at c.args.context) in
+    let found : Expression → List Route = λ e. routes tree m (spot_at c.args.self.now.current.now) e (spot_at c.args.context.now) in
     let same : weight (expression c.loop-at.at.now) ≡ suc (weight c.in-And.left + weight c.in-And.right) = ap (λ e. weight (expression e)) c.in-And.is in
     let left : weight (expression c.expr-at-in-And.result.now) ≡ weight c.in-And.left = ap weight c.expr-at-in-And.ensures in record {
       goes = λ final rest.
@@ -46,7 +46,7 @@ pub note_expression-loop-at-preserved : goal.note_expression-loop-at-preserved
 note_expression-loop-at-preserved t c =
     let tree = c.args.self.now.tree.now in
     let m = c.args.self.now.number in
-    let found : Expression → List Route = λ e. routes tree m (spot_at c.args.self.now.current) e (spot_at c.args.context) in
+    let found : Expression → List Route = λ e. routes tree m (spot_at c.args.self.now.current.now) e (spot_at c.args.context.now) in
     let same : weight (expression c.loop-at.at.now) ≡ suc (weight c.in-Not.inner) = ap (λ e. weight (expression e)) c.in-Not.is in
     let inner : weight (expression c.expr-at-in-Not.result.now) ≡ weight c.in-Not.inner = ap weight c.expr-at-in-Not.ensures in record {
       goes = λ final rest.
@@ -69,7 +69,7 @@ note_inner-returns-in-None t c =
     c.loop-step.invariant f
     (subst (λ (rs : List Route). Finds tree m f f rs)
     (sym (inner-none tree m c.args.steps.now c.loop-step.step-index c.step-item.result (search rules) (search rules) (spot_at c.loop-step.spot)
-    (spot_at c.args.self.now.current) (sym c.after.ensures ∙ ap (option_map spot_at) c.in-None.is)))
+    (spot_at c.args.self.now.current.now) (sym c.after.ensures ∙ ap (option_map spot_at) c.in-None.is)))
     (Finds-none tree m f))
 
 pub note_inner-loop-step-preserved : goal.note_inner-loop-step-preserved
@@ -79,7 +79,7 @@ note_inner-loop-step-preserved t c = λ final rest.
     c.loop-step.invariant final
     (subst (λ (rs : List Route). Finds tree m c.loop-step.findings final rs)
     (sym (inner-next tree m c.args.steps.now c.loop-step.step-index c.step-item.result (search rules) (search rules) (spot_at c.loop-step.spot)
-    (spot_at c.args.self.now.current) (spot_at c.in-Some.next) (sym c.after.ensures ∙ ap (option_map spot_at) c.in-Some.is)))
+    (spot_at c.args.self.now.current.now) (spot_at c.in-Some.next) (sym c.after.ensures ∙ ap (option_map spot_at) c.in-Some.is)))
     (Finds-both tree m c.loop-step.findings c.note_step.new.findings final _ _ c.in_ok-note_step-in-Some.ensures rest))
 
 pub note_inner-returns : goal.note_inner-returns
@@ -88,7 +88,7 @@ note_inner-returns t c =
     let m = c.args.self.now.number in
     let f = c.loop-step.findings in
     c.loop-step.invariant f
-    (subst (λ (ss : Strides). Finds tree m f f (inner_routes tree m (spot_at c.args.self.now.current) ss (spot_at c.loop-step.spot)))
+    (subst (λ (ss : Strides). Finds tree m f f (inner_routes tree m (spot_at c.args.self.now.current.now) ss (spot_at c.loop-step.spot)))
     (sym (steps-past c.args.steps.now c.loop-step.step-index (omega arith)))
     (Finds-none tree m f))
 
@@ -102,7 +102,7 @@ note_tests-loop-test-preserved t c = λ final rest.
     let tree = c.args.self.now.tree.now in
     let m = c.args.self.now.number in
     c.loop-test.invariant final
-    (subst (λ (es : Predicates). Finds tree m c.loop-test.findings final (test_routes tree m (spot_at c.args.self.now.current) es (spot_at c.args.spot)))
+    (subst (λ (es : Predicates). Finds tree m c.loop-test.findings final (test_routes tree m (spot_at c.args.self.now.current.now) es (spot_at c.args.spot.now)))
     (sym (tests-here c.args.tests.now c.loop-test.test-index c.test-item.result (search rules) (search rules)))
     (Finds-both tree m c.loop-test.findings c.note_expression.new.findings final _ _ c.in_ok-note_expression.ensures rest))
 
@@ -112,6 +112,6 @@ note_tests-returns t c =
     let m = c.args.self.now.number in
     let f = c.loop-test.findings in
     c.loop-test.invariant f
-    (subst (λ (es : Predicates). Finds tree m f f (test_routes tree m (spot_at c.args.self.now.current) es (spot_at c.args.spot)))
+    (subst (λ (es : Predicates). Finds tree m f f (test_routes tree m (spot_at c.args.self.now.current.now) es (spot_at c.args.spot.now)))
     (sym (tests-past c.args.tests.now c.loop-test.test-index (omega arith)))
     (Finds-none tree m f))

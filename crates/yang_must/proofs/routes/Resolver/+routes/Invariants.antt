@@ -30,7 +30,7 @@ decreases-note_tests l = predicates_weight (predicates_of (map expression l.test
 
 abbrev pub invariant-note_expression-loop-at : goal.invariant-note_expression-loop-at
 invariant-note_expression-loop-at l =
-    let found = routes l.self.tree.now l.self.number (spot_at l.self.current) in record {
+    let found = routes l.self.tree.now l.self.number (spot_at l.self.current.now) in record {
       goes :
           (final : Findings)
           → Finds l.self.tree.now l.self.number l.findings final (found (expression l.at) (spot_at l.context))
@@ -43,14 +43,14 @@ decreases-note_expression-loop-at l = weight (expression l.at)
 
 abbrev pub invariant-note_inner-loop-step : goal.invariant-note_inner-loop-step
 invariant-note_inner-loop-step l =
-    let found = inner_routes l.self.tree.now l.self.number (spot_at l.self.current) in
+    let found = inner_routes l.self.tree.now l.self.number (spot_at l.self.current.now) in
     (final : Findings)
     → Finds l.self.tree.now l.self.number l.findings final (found (strides_of (map step_of (drop l.step-index l.steps))) (spot_at l.spot))
     → Finds l.self.tree.now l.self.number l.fn.findings final (found (strides_of (map step_of l.steps)) (spot_at l.origin))
 
 abbrev pub invariant-note_tests-loop-test : goal.invariant-note_tests-loop-test
 invariant-note_tests-loop-test l =
-    let found = test_routes l.self.tree.now l.self.number (spot_at l.self.current) in
+    let found = test_routes l.self.tree.now l.self.number (spot_at l.self.current.now) in
     (final : Findings)
     → Finds l.self.tree.now l.self.number l.findings final (found (predicates_of (map expression (drop l.test-index l.tests))) (spot_at l.spot))
     → Finds l.self.tree.now l.self.number l.fn.findings final (found (predicates_of (map expression l.tests)) (spot_at l.spot))
