@@ -7,7 +7,7 @@ ghost use Rattle.yang_scope.specs.Bases.{is_built_in_type, integers_named, base_
 use yang_types::{Bounds, Builtin};
 
 /// What a type is at the end of the typedefs that its name stands for.
-#[derive(Debug, Clone, Copy, PartialEq, Eq)]
+#[derive(Clone, Copy)]
 pub enum Base {
     Text,
     /// A number within the bounds of its type.

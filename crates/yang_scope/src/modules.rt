@@ -63,9 +63,10 @@ fn push_typedef(
         (entries ++ typedef_entry place (declaration statement.now))) }
 {
     if statement.keyword.as_str() == "typedef" {
-        table.push_some(alloc, &statement.argument, place)?;
+        table.push_some(alloc, &statement.argument, place)
+    } else {
+        Ok(())
     }
-    Ok(())
 }
 
 /// Adds the prefix that a statement is.
@@ -79,9 +80,10 @@ fn push_prefix(
         → IsTableOf table.new.numbers (entries ++ prefix_entry place (declaration statement.now))) }
 {
     if statement.keyword.as_str() == "prefix" {
-        table.push_some(alloc, &statement.argument, place)?;
+        table.push_some(alloc, &statement.argument, place)
+    } else {
+        Ok(())
     }
-    Ok(())
 }
 
 /// Adds the prefixes of an import.

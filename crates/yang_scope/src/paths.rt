@@ -44,13 +44,20 @@ fn all_steps(steps: &[&str]) -> bool
 
 /// Whether the pieces of a text between slashes are those of a path of four steps.
 #[tactic(auto, using(crate::proofs::Blocks::all_mapped))]
-pub(crate) fn are_steps(pieces: &[&str]) -> bool
+fn are_steps(pieces: &[&str]) -> bool
     ensures { result ≡ are_steps (texts pieces.now) }
 {
     match pieces {
         [] => false,
         [first, steps @ ..] => first.is_empty() && steps.len() == 4 && all_steps(steps),
     }
+}
+
+/// Whether a text is a path: a slash, and four steps joined by slashes.
+pub(crate) fn is_path(alloc: Global, text: &str) -> Result<bool, Memory>
+    ensures { IfOk result (λ found. found ≡ is_path text.now) }
+{
+    Ok(are_steps(pieces(alloc, '/', text)?.as_slice()))
 }
 
 /// Whether a statement has a keyword and a name.
