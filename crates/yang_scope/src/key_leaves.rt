@@ -74,9 +74,10 @@ fn key_leaf<'a>(
         ≡ key_leaf set.now container.now table.now list.now leaf.now) }
 {
     match container_named(set, container) {
-        Some((number, found)) => match key_leaf_below(alloc, table, list, leaf, found)? {
-            Some(leaf) => Ok(Some((number, leaf))),
-            None => Ok(None),
+        Some((number, found)) => match key_leaf_below(alloc, table, list, leaf, found) {
+            Ok(Some(leaf)) => Ok(Some((number, leaf))),
+            Ok(None) => Ok(None),
+            Err(Memory) => Err(Memory),
         },
         None => Ok(None),
     }

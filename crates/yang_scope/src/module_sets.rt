@@ -46,12 +46,10 @@ impl<'a> Model for ModuleSet<'a> {
 fn built_in_space(name: &str) -> Space
     ensures { result ≡ built_in_space name.now }
 {
-    if name == "ietf-inet-types" {
-        Space::Inet
-    } else if name == "ietf-yang-types" {
-        Space::Yang
-    } else {
-        Space::Nowhere
+    match name {
+        "ietf-inet-types" => Space::Inet,
+        "ietf-yang-types" => Space::Yang,
+        _ => Space::Nowhere,
     }
 }
 
@@ -156,7 +154,10 @@ impl<'a> ModuleSet<'a> {
     pub(crate) fn is_module(&self, name: &str) -> bool
         ensures { result ≡ is_module self.now name.now }
     {
-        self.numbers.get(name).is_some() || name == "ietf-inet-types" || name == "ietf-yang-types"
+        match name {
+            "ietf-inet-types" | "ietf-yang-types" => true,
+            _ => self.numbers.get(name).is_some(),
+        }
     }
 
     /// The module of a name.
