@@ -2,7 +2,7 @@
 ghost use Rattle.std.specs.Prelude.{◌≡◌, ◌<◌, ◌≤◌, ◌^◌, [], ◌++◌, List, Option, ℕ, map, length, option_map, option_and_then, slice_get, filter, is_some, codes, IfOk};
 ghost use Rattle.yang_text.specs.Declarations.{Declaration, argument};
 ghost use Rattle.yang_text.specs.Statements.{declaration};
-ghost use Rattle.yang_scope.specs.Meanings.{built_in_space, space_named, space_given, space_of, meaning_of_place, meaning_of_base, typedef_named, named_in, named_here, meaning_of, type_meaning, typedef_meaning, is_module};
+ghost use Rattle.yang_scope.specs.Meanings.{built_in_space, prefix_giver, space_named, space_given, space_of, meaning_of_place, meaning_of_base, typedef_named, named_in, named_here, meaning_of, type_meaning, typedef_meaning, is_module};
 ghost use Rattle.yang_scope.specs.declared.bases.Base.TheVariants.{Builtin as BuiltIn};
 ghost use Rattle.yang_scope.specs.Modules.{Module, module_in, modules_in, modules_of, module_entries};
 ghost use Rattle.yang_scope.specs.NameTables.{IsTableOf};
@@ -183,15 +183,23 @@ impl<'a> ModuleSet<'a> {
         }
     }
 
+    /// The statement that gives a prefix in a module.
+    fn prefix_giver(&self, number: usize, prefix: &str) -> Option<&'a Statement>
+        ensures { option_map (λ s. declaration s.now) result
+            ≡ option_and_then (prefix_giver prefix.now) (slice_get self.now number) }
+    {
+        match self.modules.get(number) {
+            Some(module) => module.prefix_giver(prefix),
+            None => None,
+        }
+    }
+
     /// The module that a prefix stands for in a module.
     pub(crate) fn space_of(&self, number: usize, prefix: &str) -> Space
         ensures { result ≡ space_of self.now number prefix.now }
     {
-        match self.modules.get(number) {
-            Some(module) => match module.prefix_giver(prefix) {
-                Some(statement) => self.space_given(number, statement),
-                None => Space::Nowhere,
-            },
+        match self.prefix_giver(number, prefix) {
+            Some(statement) => self.space_given(number, statement),
             None => Space::Nowhere,
         }
     }
@@ -200,10 +208,7 @@ impl<'a> ModuleSet<'a> {
     pub(crate) fn is_prefix(&self, number: usize, prefix: &str) -> bool
         ensures { result ≡ is_prefix self.now number prefix.now }
     {
-        match self.modules.get(number) {
-            Some(module) => module.prefix_giver(prefix).is_some(),
-            None => false,
-        }
+        self.prefix_giver(number, prefix).is_some()
     }
 
     /// A typedef of a module.
