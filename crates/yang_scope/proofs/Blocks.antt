@@ -5,10 +5,12 @@ use Rattle.std.proofs.lemmas.List.Concat.{flat_map-append}
 use Rattle.std.specs.Option.{option_copied}
 use denote.Ref.{Bor}
 use Rattle.std.specs.List.{find, flat_map, list_any, list_all}
+use Rattle.std.specs.Str.{bytes_eq}
 use Rattle.yang_text.specs.Declarations.{Declaration, block_of, block, declarations}
 use Rattle.yang_text.specs.Statements.{declaration}
 use Rattle.yang_text.specs.declared.statements.Statement.{Statement}
 use Rattle.yang_scope.specs.Statements.{is_keyword, first_child}
+use Rattle.yang_scope.proofs.Tables.{bytes_eq-swap}
 
 pub declarations-block_of : (ds : List Declaration) → declarations (block_of ds) ≡ ds
 declarations-block_of [] = refl
@@ -67,3 +69,10 @@ flat_map-more f xs i x old within is =
     append_assoc old (flat_map f (take i xs)) (f x)
     ∙ ap (λ ys. old ++ (flat_map f (take i xs) ++ ys)) (sym (append-nil (f x)) ∙ ap (λ y. f y ++ []) is)
     ∙ ap (λ ys. old ++ ys) (sym (flat_map-append f (take i xs) (get_or xs i x ∷ [])) ∙ ap (flat_map f) (sym (take_more xs i x within)))
+
+-- the same test with its sides changed
+pub any_swapped : (text : List ℕ) (texts : List (Bor (List ℕ))) → list_any (λ t. bytes_eq t.now text) texts ≡ list_any (λ t. bytes_eq text t.now) texts
+any_swapped text [] = refl
+any_swapped text (t ∷ texts) =
+    ap (λ b. b || list_any (λ u. bytes_eq u.now text) texts) (bytes_eq-swap t.now text)
+    ∙ ap (λ b. bytes_eq text t.now || b) (any_swapped text texts)

@@ -21,7 +21,7 @@ pub enum Base {
 }
 
 /// Whether a text is among some texts.
-fn is_among(texts: &[&str], text: &str) -> bool
+pub(crate) fn is_among(texts: &[&str], text: &str) -> bool
     ensures { result ≡ list_any (λ t. bytes_eq t.now text.now) texts.now }
 {
     texts.iter().any(|t| *t == text)

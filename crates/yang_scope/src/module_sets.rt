@@ -81,10 +81,13 @@ fn push_module<'a>(
     ensures { IfOk result (λ _. modules.new.items
         ≡ modules.old.items ++ module_in file (declaration statement.now)) }
 {
-    if statement.keyword.as_str() == "module" {
-        modules.push(ModuleNames::new(alloc, file, statement)?)?;
+    match statement.keyword.as_str() {
+        "module" => {
+            modules.push(ModuleNames::new(alloc, file, statement)?)?;
+            Ok(())
+        }
+        _ => Ok(()),
     }
-    Ok(())
 }
 
 /// Adds the modules of a file.
@@ -174,12 +177,10 @@ impl<'a> ModuleSet<'a> {
     fn space_given(&self, number: usize, statement: &Statement) -> Space
         ensures { result ≡ space_given self.now number (declaration statement.now) }
     {
-        if statement.keyword.as_str() == "prefix" {
-            return Space::Files(number);
-        }
-        match &statement.argument {
-            Some(name) => self.space_named(name.as_str()),
-            None => Space::Nowhere,
+        match (statement.keyword.as_str(), &statement.argument) {
+            ("prefix", _) => Space::Files(number),
+            (_, Some(name)) => self.space_named(name.as_str()),
+            (_, None) => Space::Nowhere,
         }
     }
 

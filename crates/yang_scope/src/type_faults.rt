@@ -82,10 +82,9 @@ fn note_if_pattern(
         → least.new ≡ least_of least.old
         (bad_if_pattern is_pattern file (declaration statement.now))) }
 {
-    if statement.keyword.as_str() == "pattern" {
-        note_bad_pattern(alloc, least, file, statement)
-    } else {
-        Ok(())
+    match statement.keyword.as_str() {
+        "pattern" => note_bad_pattern(alloc, least, file, statement),
+        _ => Ok(()),
     }
 }
 
@@ -139,8 +138,8 @@ fn note_if_path(
     ensures { OnOk result (least.new ≡ least_of least.old
         (wrong_if_path names.now file number (declaration statement.now))) }
 {
-    match &statement.argument {
-        Some(text) if statement.keyword.as_str() == "path" => {
+    match (statement.keyword.as_str(), &statement.argument) {
+        ("path", Some(text)) => {
             note_path(alloc, least, names, file, number, statement, text.as_str())
         }
         _ => Ok(()),
