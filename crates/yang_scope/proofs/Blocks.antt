@@ -1,12 +1,16 @@
 -- The statements in the braces of a statement.
-use Rattle.std.proofs.Common.{◌≡◌, ℕ, Bool, true, false, cond, ◌&&◌, ◌||◌, List, [], ◌∷◌, ◌++◌, Option, Some, None, map, option_map, refl, sym, ap, ◌∙◌}
+use Rattle.std.proofs.Common.{◌≡◌, ◌<◌, ◌+◌, ℕ, Bool, true, false, cond, ◌&&◌, ◌||◌, List, [], ◌∷◌, ◌++◌, length, take, get_or, Option, Some, None, map, option_map, refl, sym, ap, ◌∙◌}
+use Rattle.std.proofs.lemmas.List.{append-nil, append_assoc, map-append, take_more}
+use Rattle.std.proofs.lemmas.List.Concat.{flat_map-append}
 use Rattle.std.specs.Option.{option_copied}
 use denote.Ref.{Bor}
 use Rattle.std.specs.List.{find, flat_map, list_any, list_all}
+use Rattle.std.specs.Str.{bytes_eq}
 use Rattle.yang_text.specs.Declarations.{Declaration, block_of, block, declarations}
 use Rattle.yang_text.specs.Statements.{declaration}
 use Rattle.yang_text.specs.declared.statements.Statement.{Statement}
 use Rattle.yang_scope.specs.Statements.{is_keyword, first_child}
+use Rattle.yang_scope.proofs.Tables.{bytes_eq-swap}
 
 pub declarations-block_of : (ds : List Declaration) → declarations (block_of ds) ≡ ds
 declarations-block_of [] = refl
@@ -47,3 +51,28 @@ any_mapped p f (x ∷ xs) = ap (λ b. p (f x) || b) (any_mapped p f xs)
 pub copied-map : {X Y : Type 0} (f : X → Y) (o : Option (Bor X)) → option_map (λ (b : Bor X). f b.now) o ≡ option_map f (option_copied o)
 copied-map f None = refl
 copied-map f (Some x) = refl
+
+-- what each gives, of one element more
+pub map-more : {X Y : Type 0} (f : X → Y) (xs : List X) (i : ℕ) (x : X) (ys next : List Y) (y : Y)
+    → i < length xs → x ≡ get_or xs i x → ys ≡ map f (take i xs) → y ≡ f x → next ≡ ys ++ y ∷ []
+    → next ≡ map f (take (i + 1) xs)
+map-more f xs i x ys next y within is before here pushed =
+    pushed
+    ∙ ap (λ zs. zs ++ y ∷ []) before
+    ∙ ap (λ z. map f (take i xs) ++ z ∷ []) (here ∙ ap f is)
+    ∙ sym (map-append f (take i xs) (get_or xs i x ∷ []))
+    ∙ ap (map f) (sym (take_more xs i x within))
+
+pub flat_map-more : {X Y : Type 0} (f : X → List Y) (xs : List X) (i : ℕ) (x : X) (old : List Y)
+    → i < length xs → x ≡ get_or xs i x → (old ++ flat_map f (take i xs)) ++ f x ≡ old ++ flat_map f (take (i + 1) xs)
+flat_map-more f xs i x old within is =
+    append_assoc old (flat_map f (take i xs)) (f x)
+    ∙ ap (λ ys. old ++ (flat_map f (take i xs) ++ ys)) (sym (append-nil (f x)) ∙ ap (λ y. f y ++ []) is)
+    ∙ ap (λ ys. old ++ ys) (sym (flat_map-append f (take i xs) (get_or xs i x ∷ [])) ∙ ap (flat_map f) (sym (take_more xs i x within)))
+
+-- the same test with its sides changed
+pub any_swapped : (text : List ℕ) (texts : List (Bor (List ℕ))) → list_any (λ t. bytes_eq t.now text) texts ≡ list_any (λ t. bytes_eq text t.now) texts
+any_swapped text [] = refl
+any_swapped text (t ∷ texts) =
+    ap (λ b. b || list_any (λ u. bytes_eq u.now text) texts) (bytes_eq-swap t.now text)
+    ∙ ap (λ b. bytes_eq text t.now || b) (any_swapped text texts)

@@ -38,7 +38,7 @@ number_of_name-push q (e ∷ entries) name n =
 bytes_eq-same : (q name : List ℕ) → bytes_eq q name ≡ true → q ≡ name
 bytes_eq-same q name = (bytes_eq-Decides q name).0
 
-bytes_eq-swap : (x y : List ℕ) → bytes_eq x y ≡ bytes_eq y x
+pub bytes_eq-swap : (x y : List ℕ) → bytes_eq x y ≡ bytes_eq y x
 bytes_eq-swap x y = same_from_decides _ _ (bytes_eq-Decides x y) (swapped x y)
   where
     swapped : (x y : List ℕ) → Decides (bytes_eq y x) (x ≡ y)

@@ -7,7 +7,7 @@ ghost use Rattle.yang_scope.specs.Bases.{is_built_in_type, integers_named, base_
 use yang_types::{Bounds, Builtin};
 
 /// What a type is at the end of the typedefs that its name stands for.
-#[derive(Debug, Clone, Copy, PartialEq, Eq)]
+#[derive(Clone, Copy)]
 pub enum Base {
     Text,
     /// A number within the bounds of its type.
@@ -21,7 +21,7 @@ pub enum Base {
 }
 
 /// Whether a text is among some texts.
-fn is_among(texts: &[&str], text: &str) -> bool
+pub(crate) fn is_among(texts: &[&str], text: &str) -> bool
     ensures { result ≡ list_any (λ t. bytes_eq t.now text.now) texts.now }
 {
     texts.iter().any(|t| *t == text)
@@ -66,24 +66,16 @@ fn within(low: i128, high: i128) -> Option<Bounds>
 fn integers_named(name: &str) -> Option<Bounds>
     ensures { result ≡ integers_named name.now }
 {
-    if name == "int8" {
-        within(-128, 127)
-    } else if name == "int16" {
-        within(-32768, 32767)
-    } else if name == "int32" {
-        within(-2147483648, 2147483647)
-    } else if name == "int64" {
-        within(-9223372036854775808, 9223372036854775807)
-    } else if name == "uint8" {
-        within(0, 255)
-    } else if name == "uint16" {
-        within(0, 65535)
-    } else if name == "uint32" {
-        within(0, 4294967295)
-    } else if name == "uint64" {
-        within(0, 18446744073709551615)
-    } else {
-        None
+    match name {
+        "int8" => within(-128, 127),
+        "int16" => within(-32768, 32767),
+        "int32" => within(-2147483648, 2147483647),
+        "int64" => within(-9223372036854775808, 9223372036854775807),
+        "uint8" => within(0, 255),
+        "uint16" => within(0, 65535),
+        "uint32" => within(0, 4294967295),
+        "uint64" => within(0, 18446744073709551615),
+        _ => None,
     }
 }
 
@@ -91,21 +83,16 @@ fn integers_named(name: &str) -> Option<Bounds>
 pub(crate) fn base_named(name: &str) -> Option<Base>
     ensures { result ≡ base_named name.now }
 {
-    if name == "string" {
-        Some(Base::Text)
-    } else if name == "enumeration" {
-        Some(Base::Enumeration)
-    } else if name == "boolean" {
-        Some(Base::Truth)
-    } else if name == "leafref" {
-        Some(Base::Leafref)
-    } else if name == "union" {
-        Some(Base::Union)
-    } else {
-        match integers_named(name) {
+    match name {
+        "string" => Some(Base::Text),
+        "enumeration" => Some(Base::Enumeration),
+        "boolean" => Some(Base::Truth),
+        "leafref" => Some(Base::Leafref),
+        "union" => Some(Base::Union),
+        _ => match integers_named(name) {
             Some(bounds) => Some(Base::Number(bounds)),
             None => None,
-        }
+        },
     }
 }
 
@@ -113,20 +100,14 @@ pub(crate) fn base_named(name: &str) -> Option<Base>
 pub(crate) fn inet_named(name: &str) -> Option<Builtin>
     ensures { result ≡ inet_named name.now }
 {
-    if name == "ipv4-address" {
-        Some(Builtin::Ipv4Address)
-    } else if name == "ipv6-address" {
-        Some(Builtin::Ipv6Address)
-    } else if name == "ip-address" {
-        Some(Builtin::IpAddress)
-    } else if name == "ipv4-prefix" {
-        Some(Builtin::Ipv4Prefix)
-    } else if name == "ipv6-prefix" {
-        Some(Builtin::Ipv6Prefix)
-    } else if name == "ip-prefix" {
-        Some(Builtin::IpPrefix)
-    } else {
-        None
+    match name {
+        "ipv4-address" => Some(Builtin::Ipv4Address),
+        "ipv6-address" => Some(Builtin::Ipv6Address),
+        "ip-address" => Some(Builtin::IpAddress),
+        "ipv4-prefix" => Some(Builtin::Ipv4Prefix),
+        "ipv6-prefix" => Some(Builtin::Ipv6Prefix),
+        "ip-prefix" => Some(Builtin::IpPrefix),
+        _ => None,
     }
 }
 
@@ -134,9 +115,8 @@ pub(crate) fn inet_named(name: &str) -> Option<Builtin>
 pub(crate) fn yang_named(name: &str) -> Option<Builtin>
     ensures { result ≡ yang_named name.now }
 {
-    if name == "mac-address" {
-        Some(Builtin::MacAddress)
-    } else {
-        None
+    match name {
+        "mac-address" => Some(Builtin::MacAddress),
+        _ => None,
     }
 }

@@ -6,7 +6,7 @@ ghost use Rattle.yang_scope.specs.Faults.{is_before, lesser};
 use yang_text::ModelWhy;
 
 /// A fault of the models: the file that has it, counted from 0, its line, counted from 1, and its name.
-#[derive(Clone, Copy, Debug, PartialEq, Eq)]
+#[derive(Clone, Copy)]
 pub struct Fault {
     pub file: u32,
     pub line: u32,

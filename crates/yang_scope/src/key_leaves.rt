@@ -21,11 +21,15 @@ fn is_prefix_given(set: &ModuleSet, number: usize, step: &str) -> bool
     }
 }
 
-/// Whether a module gives the prefixes of all steps.
-fn are_prefixes_given(set: &ModuleSet, number: usize, steps: &[&str]) -> bool
-    ensures { result ≡ list_all (λ s. is_prefix_given set.now number s.now) steps.now }
+/// Whether a module gives the prefixes of four steps.
+fn are_prefixes_given(set: &ModuleSet, number: usize, c: &str, t: &str, l: &str, k: &str) -> bool
+    ensures { result ≡ list_all (is_prefix_given set.now number)
+        (c.now ∷ t.now ∷ l.now ∷ k.now ∷ []) }
 {
-    steps.iter().all(|step| is_prefix_given(set, number, step))
+    is_prefix_given(set, number, c)
+        && is_prefix_given(set, number, t)
+        && is_prefix_given(set, number, l)
+        && is_prefix_given(set, number, k)
 }
 
 /// The container of a module, by its name, with the number of the module.
@@ -74,11 +78,39 @@ fn key_leaf<'a>(
         ≡ key_leaf set.now container.now table.now list.now leaf.now) }
 {
     match container_named(set, container) {
-        Some((number, found)) => match key_leaf_below(alloc, table, list, leaf, found)? {
-            Some(leaf) => Ok(Some((number, leaf))),
-            None => Ok(None),
+        Some((number, found)) => match key_leaf_below(alloc, table, list, leaf, found) {
+            Ok(Some(leaf)) => Ok(Some((number, leaf))),
+            Ok(None) => Ok(None),
+            Err(Memory) => Err(Memory),
         },
         None => Ok(None),
+    }
+}
+
+/// The key leaf that four steps lead to.
+fn leaf_of_steps<'a>(
+    alloc: Global,
+    set: &ModuleSet<'a>,
+    number: usize,
+    c: &str,
+    t: &str,
+    l: &str,
+    k: &str,
+) -> Result<Option<(usize, &'a Statement)>, Memory>
+    ensures { IfOk result (λ found. option_map (λ s. (s.0, declaration s.1.now)) found
+        ≡ leaf_at_end set.now number ([] ∷ c.now ∷ t.now ∷ l.now ∷ k.now ∷ [])) }
+{
+    if are_prefixes_given(set, number, c, t, l, k) {
+        key_leaf(
+            alloc,
+            set,
+            step_name(c),
+            step_name(t),
+            step_name(l),
+            step_name(k),
+        )
+    } else {
+        Ok(None)
     }
 }
 
@@ -93,20 +125,7 @@ pub(crate) fn leaf_at_end<'a>(
         ≡ leaf_at_end set.now number (texts pieces.now)) }
 {
     match pieces {
-        [_, c, t, l, k] => {
-            if are_prefixes_given(set, number, &[*c, *t, *l, *k]) {
-                key_leaf(
-                    alloc,
-                    set,
-                    step_name(c),
-                    step_name(t),
-                    step_name(l),
-                    step_name(k),
-                )
-            } else {
-                Ok(None)
-            }
-        }
+        [_, c, t, l, k] => leaf_of_steps(alloc, set, number, c, t, l, k),
         _ => Ok(None),
     }
 }

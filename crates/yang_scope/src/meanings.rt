@@ -3,7 +3,7 @@
 use crate::bases::Base;
 
 /// What the name of a type stands for.
-#[derive(Debug, Clone, Copy, PartialEq, Eq)]
+#[derive(Clone, Copy)]
 pub enum Meaning {
     /// A type that is built in.
     Ends(Base),
@@ -13,7 +13,7 @@ pub enum Meaning {
 }
 
 /// The module that a prefix stands for.
-#[derive(Debug, Clone, Copy, PartialEq, Eq)]
+#[derive(Clone, Copy)]
 pub(crate) enum Space {
     /// A module of the files, by its number.
     Files(usize),

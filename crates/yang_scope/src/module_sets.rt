@@ -2,7 +2,7 @@
 ghost use Rattle.std.specs.Prelude.{◌≡◌, ◌<◌, ◌≤◌, ◌^◌, [], ◌++◌, List, Option, ℕ, map, length, option_map, option_and_then, slice_get, filter, is_some, codes, IfOk};
 ghost use Rattle.yang_text.specs.Declarations.{Declaration, argument};
 ghost use Rattle.yang_text.specs.Statements.{declaration};
-ghost use Rattle.yang_scope.specs.Meanings.{built_in_space, space_named, space_given, space_of, meaning_of_place, meaning_of_base, typedef_named, named_in, named_here, meaning_of, type_meaning, typedef_meaning, is_module};
+ghost use Rattle.yang_scope.specs.Meanings.{built_in_space, prefix_giver, space_named, space_given, space_of, meaning_of_place, meaning_of_base, typedef_named, named_in, named_here, meaning_of, type_meaning, typedef_meaning, is_module};
 ghost use Rattle.yang_scope.specs.declared.bases.Base.TheVariants.{Builtin as BuiltIn};
 ghost use Rattle.yang_scope.specs.Modules.{Module, module_in, modules_in, modules_of, module_entries};
 ghost use Rattle.yang_scope.specs.NameTables.{IsTableOf};
@@ -46,12 +46,10 @@ impl<'a> Model for ModuleSet<'a> {
 fn built_in_space(name: &str) -> Space
     ensures { result ≡ built_in_space name.now }
 {
-    if name == "ietf-inet-types" {
-        Space::Inet
-    } else if name == "ietf-yang-types" {
-        Space::Yang
-    } else {
-        Space::Nowhere
+    match name {
+        "ietf-inet-types" => Space::Inet,
+        "ietf-yang-types" => Space::Yang,
+        _ => Space::Nowhere,
     }
 }
 
@@ -83,10 +81,13 @@ fn push_module<'a>(
     ensures { IfOk result (λ _. modules.new.items
         ≡ modules.old.items ++ module_in file (declaration statement.now)) }
 {
-    if statement.keyword.as_str() == "module" {
-        modules.push(ModuleNames::new(alloc, file, statement)?)?;
+    match statement.keyword.as_str() {
+        "module" => {
+            modules.push(ModuleNames::new(alloc, file, statement)?)?;
+            Ok(())
+        }
+        _ => Ok(()),
     }
-    Ok(())
 }
 
 /// Adds the modules of a file.
@@ -156,7 +157,10 @@ impl<'a> ModuleSet<'a> {
     pub(crate) fn is_module(&self, name: &str) -> bool
         ensures { result ≡ is_module self.now name.now }
     {
-        self.numbers.get(name).is_some() || name == "ietf-inet-types" || name == "ietf-yang-types"
+        match name {
+            "ietf-inet-types" | "ietf-yang-types" => true,
+            _ => self.numbers.get(name).is_some(),
+        }
     }
 
     /// The module of a name.
@@ -173,12 +177,21 @@ impl<'a> ModuleSet<'a> {
     fn space_given(&self, number: usize, statement: &Statement) -> Space
         ensures { result ≡ space_given self.now number (declaration statement.now) }
     {
-        if statement.keyword.as_str() == "prefix" {
-            return Space::Files(number);
+        match (statement.keyword.as_str(), &statement.argument) {
+            ("prefix", _) => Space::Files(number),
+            (_, Some(name)) => self.space_named(name.as_str()),
+            (_, None) => Space::Nowhere,
         }
-        match &statement.argument {
-            Some(name) => self.space_named(name.as_str()),
-            None => Space::Nowhere,
+    }
+
+    /// The statement that gives a prefix in a module.
+    fn prefix_giver(&self, number: usize, prefix: &str) -> Option<&'a Statement>
+        ensures { option_map (λ s. declaration s.now) result
+            ≡ option_and_then (prefix_giver prefix.now) (slice_get self.now number) }
+    {
+        match self.modules.get(number) {
+            Some(module) => module.prefix_giver(prefix),
+            None => None,
         }
     }
 
@@ -186,11 +199,8 @@ impl<'a> ModuleSet<'a> {
     pub(crate) fn space_of(&self, number: usize, prefix: &str) -> Space
         ensures { result ≡ space_of self.now number prefix.now }
     {
-        match self.modules.get(number) {
-            Some(module) => match module.prefix_giver(prefix) {
-                Some(statement) => self.space_given(number, statement),
-                None => Space::Nowhere,
-            },
+        match self.prefix_giver(number, prefix) {
+            Some(statement) => self.space_given(number, statement),
             None => Space::Nowhere,
         }
     }
@@ -199,10 +209,7 @@ impl<'a> ModuleSet<'a> {
     pub(crate) fn is_prefix(&self, number: usize, prefix: &str) -> bool
         ensures { result ≡ is_prefix self.now number prefix.now }
     {
-        match self.modules.get(number) {
-            Some(module) => module.prefix_giver(prefix).is_some(),
-            None => false,
-        }
+        self.prefix_giver(number, prefix).is_some()
     }
 
     /// A typedef of a module.

@@ -62,10 +62,10 @@ fn push_typedef(
         → IsTableOf table.new.numbers
         (entries ++ typedef_entry place (declaration statement.now))) }
 {
-    if statement.keyword.as_str() == "typedef" {
-        table.push_some(alloc, &statement.argument, place)?;
+    match statement.keyword.as_str() {
+        "typedef" => table.push_some(alloc, &statement.argument, place),
+        _ => Ok(()),
     }
-    Ok(())
 }
 
 /// Adds the prefix that a statement is.
@@ -78,10 +78,10 @@ fn push_prefix(
     ensures { IfOk result (λ _. (entries : List Entry) → IsTableOf table.old.numbers entries
         → IsTableOf table.new.numbers (entries ++ prefix_entry place (declaration statement.now))) }
 {
-    if statement.keyword.as_str() == "prefix" {
-        table.push_some(alloc, &statement.argument, place)?;
+    match statement.keyword.as_str() {
+        "prefix" => table.push_some(alloc, &statement.argument, place),
+        _ => Ok(()),
     }
-    Ok(())
 }
 
 /// Adds the prefixes of an import.
@@ -112,10 +112,9 @@ fn push_prefixes(
         → IsTableOf table.new.numbers
         (entries ++ prefixes_by place (declaration statement.now))) }
 {
-    if statement.keyword.as_str() == "import" {
-        push_import(alloc, table, place, statement.block.items())
-    } else {
-        push_prefix(alloc, table, place, statement)
+    match statement.keyword.as_str() {
+        "import" => push_import(alloc, table, place, statement.block.items()),
+        _ => push_prefix(alloc, table, place, statement),
     }
 }
 

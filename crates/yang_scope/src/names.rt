@@ -53,13 +53,6 @@ impl<'a> Names<'a> {
         Ok(Names { set, links })
     }
 
-    /// The modules themselves.
-    pub(crate) fn set(&self) -> &ModuleSet<'a>
-        ensures { result.now ≡ self.now }
-    {
-        &self.set
-    }
-
     /// How many modules there are.
     pub fn len(&self) -> usize
         ensures { result ≡ length self.now }

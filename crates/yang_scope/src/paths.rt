@@ -1,13 +1,13 @@
 //! Paths of leafrefs, and the key leaves that they lead to.
 ghost use Rattle.std.specs.Prelude.{◌≡◌, ◌&&◌, List, ℕ, length, map, option_map, option_copied, find, IfOk};
-ghost use Rattle.std.specs.List.{list_all, list_any};
-ghost use Rattle.std.specs.Str.{bytes_eq};
+ghost use Rattle.std.specs.List.{list_all};
 ghost use Rattle.yang_text.specs.Declarations.{Declaration};
 ghost use Rattle.yang_text.specs.Statements.{declaration};
 ghost use Rattle.yang_scope.specs.Paths.{is_step, step_name, are_steps, is_path, is_named, child_named, is_key_of, key_leaf_in};
 ghost use Rattle.yang_scope.specs.Pieces.{texts};
 ghost use Rattle.yang_scope.specs.Statements.{is_keyword};
 
+use crate::bases::is_among;
 use crate::identifiers::is_identifier;
 use crate::modules::first_of;
 use crate::pieces::pieces;
@@ -44,13 +44,20 @@ fn all_steps(steps: &[&str]) -> bool
 
 /// Whether the pieces of a text between slashes are those of a path of four steps.
 #[tactic(auto, using(crate::proofs::Blocks::all_mapped))]
-pub(crate) fn are_steps(pieces: &[&str]) -> bool
+fn are_steps(pieces: &[&str]) -> bool
     ensures { result ≡ are_steps (texts pieces.now) }
 {
     match pieces {
         [] => false,
         [first, steps @ ..] => first.is_empty() && steps.len() == 4 && all_steps(steps),
     }
+}
+
+/// Whether a text is a path: a slash, and four steps joined by slashes.
+pub(crate) fn is_path(alloc: Global, text: &str) -> Result<bool, Memory>
+    ensures { IfOk result (λ found. found ≡ is_path text.now) }
+{
+    Ok(are_steps(pieces(alloc, '/', text)?.as_slice()))
 }
 
 /// Whether a statement has a keyword and a name.
@@ -86,20 +93,13 @@ pub fn child_named<'a>(word: &str, name: &str, statement: &'a Statement) -> Opti
     statement_named(word, name, statement.block.items())
 }
 
-/// Whether a name is among some names.
-fn has_name(names: &[&str], name: &str) -> bool
-    ensures { result ≡ list_any (λ n. bytes_eq name.now n.now) names.now }
-{
-    names.iter().any(|other| name == *other)
-}
-
 /// Whether the key of a list has a name.
 fn is_key_of(alloc: Global, list: &Statement, name: &str) -> Result<bool, Memory>
     ensures { IfOk result (λ found. found ≡ is_key_of (declaration list.now) name.now) }
 {
     match first_of("key", list.block.items()) {
         Some(key) => match &key.argument {
-            Some(names) => Ok(has_name(pieces(alloc, ' ', names.as_str())?.as_slice(), name)),
+            Some(names) => Ok(is_among(pieces(alloc, ' ', names.as_str())?.as_slice(), name)),
             None => Ok(false),
         },
         None => Ok(false),

@@ -6,11 +6,9 @@ ghost use Rattle.yang_scope.specs.Faults.{least_of};
 ghost use Rattle.yang_scope.specs.TypeFaults.{unknown_type, DecidesPatterns, bad_pattern, bad_if_pattern, bad_patterns, wrong_path, wrong_if_path, wrong_paths};
 
 use crate::faults::{Fault, note};
-use crate::key_leaves::leaf_at_end;
 use crate::meanings::Meaning;
 use crate::names::Names;
-use crate::paths::are_steps;
-use crate::pieces::pieces;
+use crate::paths::is_path;
 use host_core::Memory;
 use std::alloc::Global;
 use yang_pattern::{Pattern, PatternError};
@@ -42,7 +40,10 @@ fn is_pattern(alloc: Global, text: &str) -> Result<bool, Memory>
         → found ≡ is_pattern text.now) }
 {
     match Pattern::read(alloc, text) {
-        Ok(_) => Ok(true),
+        Ok(pattern) => {
+            drop(pattern);
+            Ok(true)
+        }
         Err(PatternError::Bad { .. }) => Ok(false),
         Err(PatternError::Memory) => Err(Memory),
     }
@@ -81,10 +82,10 @@ fn note_if_pattern(
         → least.new ≡ least_of least.old
         (bad_if_pattern is_pattern file (declaration statement.now))) }
 {
-    if statement.keyword.as_str() == "pattern" {
-        note_bad_pattern(alloc, least, file, statement)?;
+    match statement.keyword.as_str() {
+        "pattern" => note_bad_pattern(alloc, least, file, statement),
+        _ => Ok(()),
     }
-    Ok(())
 }
 
 /// The patterns of a type that are none.
@@ -117,12 +118,9 @@ fn note_path(
     ensures { OnOk result (least.new ≡ least_of least.old
         (wrong_path names.now file number (declaration statement.now) text.now)) }
 {
-    let pieces = pieces(alloc, '/', text)?;
-    if !are_steps(pieces.as_slice()) {
+    if !is_path(alloc, text)? {
         note(least, file, statement.line, ModelWhy::BadArgument);
-        return Ok(());
-    }
-    if leaf_at_end(alloc, names.set(), number, pieces.as_slice())?.is_none() {
+    } else if names.path_end(alloc, number, text)?.is_none() {
         note(least, file, statement.line, ModelWhy::UnknownName);
     }
     Ok(())
@@ -140,12 +138,11 @@ fn note_if_path(
     ensures { OnOk result (least.new ≡ least_of least.old
         (wrong_if_path names.now file number (declaration statement.now))) }
 {
-    if statement.keyword.as_str() != "path" {
-        return Ok(());
-    }
-    match &statement.argument {
-        Some(text) => note_path(alloc, least, names, file, number, statement, text.as_str()),
-        None => Ok(()),
+    match (statement.keyword.as_str(), &statement.argument) {
+        ("path", Some(text)) => {
+            note_path(alloc, least, names, file, number, statement, text.as_str())
+        }
+        _ => Ok(()),
     }
 }
 

@@ -9,8 +9,8 @@ use Rattle.yang_scope.specs.Statements.{Entry}
 use Rattle.yang_scope.proofs.Blocks.{block-is}
 use Rattle.yang_scope.proofs.modules.push_prefixes.Goals as goal
 
-pub returns-then-eq : goal.returns-then-eq
-returns-then-eq c =
+pub returns-in-import : goal.returns-in-import
+returns-in-import c =
     let s = c.args.statement.now in
     let yes : bytes_eq s.keyword (codes "import") ≡ true = search rules in
     let given : List Entry = flat_map (prefix_entry c.args.place) (block (declaration s)) in

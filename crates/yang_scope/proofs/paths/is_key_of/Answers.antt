@@ -6,7 +6,7 @@ use Rattle.yang_text.specs.Declarations.{argument}
 use Rattle.yang_text.specs.Statements.{declaration}
 use Rattle.yang_scope.specs.Pieces.{pieces}
 use Rattle.yang_scope.specs.Statements.{first_child}
-use Rattle.yang_scope.proofs.Blocks.{first_child-is, any_mapped}
+use Rattle.yang_scope.proofs.Blocks.{first_child-is, any_mapped, any_swapped}
 use Rattle.yang_scope.proofs.paths.is_key_of.Goals as goal
 
 -- whether the key of a list, where it has one, has a name
@@ -19,7 +19,8 @@ returns-in_ok-pieces-in-Some-argument c =
     let found : first_child (codes "key") (declaration c.args.list.now) ≡ Some (declaration c.in-Some.key.now) =
     first_child-is (codes "key") c.args.list.now c.items.result.now c.items.ensures
     ∙ ap (option_map declaration) (sym c.first_of.ensures ∙ ap option_copied c.in-Some.is) in
-    c.has_name.ensures
+    c.is_among.ensures
+    ∙ any_swapped name c.as_slice.result.now
     ∙ ap (list_any (λ n. bytes_eq name n.now)) c.as_slice.ensures.value
     ∙ sym (any_mapped (bytes_eq name) (λ n. n.now) c.in_ok-pieces-in-Some-argument.field-0.items)
     ∙ ap (list_any (bytes_eq name)) (c.in_ok-pieces-in-Some-argument.ensures ∙ ap (pieces 32) c.as_str.ensures.text)
