@@ -60,8 +60,7 @@ impl Config {
             c ≡ with_part self.now path.now (option_map Part.Table table)) }
         ensures formed { IfOk result IsConfig }
     {
-        let changed = self.set_table(alloc, path.name_at(0), table)?;
-        Ok(changed)
+        self.set_table(alloc, path.name_at(0), table)
     }
 
     fn set_entry_at(
@@ -78,8 +77,7 @@ impl Config {
     {
         let name = path.name_at(0);
         let key = path.name_at(1);
-        let changed = self.set_entry(alloc, name, key, entry)?;
-        Ok(changed)
+        self.set_entry(alloc, name, key, entry)
     }
 
     fn set_value_at(
@@ -97,8 +95,7 @@ impl Config {
         let name = path.name_at(0);
         let key = path.name_at(1);
         let field = path.name_at(2);
-        let changed = self.set_value(alloc, name, key, field, value)?;
-        Ok(changed)
+        self.set_value(alloc, name, key, field, value)
     }
 
     fn set_table(&self, alloc: Global, name: &str, table: Option<Table>) -> Result<Config, Memory>
@@ -129,12 +126,11 @@ impl Config {
         match self.table(name) {
             Some(table) => {
                 let table = table.set_entry(alloc, key, entry)?;
-                let changed = self.set_table(alloc, name, Some(table))?;
-                Ok(changed)
+                self.set_table(alloc, name, Some(table))
             }
             None => {
-                let same = self.copy(alloc)?;
-                Ok(same)
+                drop(entry);
+                self.copy(alloc)
             }
         }
     }
@@ -158,12 +154,11 @@ impl Config {
         match self.table(name) {
             Some(table) => {
                 let table = table.set_value(alloc, key, field, value)?;
-                let changed = self.set_table(alloc, name, Some(table))?;
-                Ok(changed)
+                self.set_table(alloc, name, Some(table))
             }
             None => {
-                let same = self.copy(alloc)?;
-                Ok(same)
+                drop(value);
+                self.copy(alloc)
             }
         }
     }
@@ -207,12 +202,11 @@ impl Table {
         match self.entry(key) {
             Some(entry) => {
                 let entry = entry.set_value(alloc, field, value)?;
-                let changed = self.set_entry(alloc, key, Some(entry))?;
-                Ok(changed)
+                self.set_entry(alloc, key, Some(entry))
             }
             None => {
-                let same = self.copy(alloc)?;
-                Ok(same)
+                drop(value);
+                self.copy(alloc)
             }
         }
     }
