@@ -31,9 +31,18 @@ impl Config {
         ensures formed { IfOk result IsConfig }
     {
         match part {
-            Part::Table(table) => self.set_table_at(alloc, path, Some(table.copy(alloc)?)),
-            Part::Entry(entry) => self.set_entry_at(alloc, path, Some(entry.copy(alloc)?)),
-            Part::Value(value) => self.set_value_at(alloc, path, Some(value.copy(alloc)?)),
+            Part::Table(table) => {
+                let table = table.copy(alloc)?;
+                self.set_table_at(alloc, path, Some(table))
+            }
+            Part::Entry(entry) => {
+                let entry = entry.copy(alloc)?;
+                self.set_entry_at(alloc, path, Some(entry))
+            }
+            Part::Value(value) => {
+                let value = value.copy(alloc)?;
+                self.set_value_at(alloc, path, Some(value))
+            }
         }
     }
 
