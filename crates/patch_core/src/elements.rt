@@ -66,28 +66,36 @@ fn read_rest(
         (read_rest kind path.tokens (members_view members.old.entries)) }
 {
     match kind {
-        Kind::Add => {
-            let value = read_value(alloc, members)?;
-            Ok(Op::Add(path, value))
-        }
+        Kind::Add => match read_value(alloc, members) {
+            Ok(value) => Ok(Op::Add(path, value)),
+            Err(error) => Err(give_up(path, error)),
+        },
         Kind::Remove => Ok(Op::Remove(path)),
-        Kind::Replace => {
-            let value = read_value(alloc, members)?;
-            Ok(Op::Replace(path, value))
-        }
-        Kind::Move => {
-            let from = read_from(alloc, members)?;
-            Ok(Op::Move { from, path })
-        }
-        Kind::Copy => {
-            let from = read_from(alloc, members)?;
-            Ok(Op::Copy { from, path })
-        }
-        Kind::Test => {
-            let value = read_value(alloc, members)?;
-            Ok(Op::Test(path, value))
-        }
+        Kind::Replace => match read_value(alloc, members) {
+            Ok(value) => Ok(Op::Replace(path, value)),
+            Err(error) => Err(give_up(path, error)),
+        },
+        Kind::Move => match read_from(alloc, members) {
+            Ok(from) => Ok(Op::Move { from, path }),
+            Err(error) => Err(give_up(path, error)),
+        },
+        Kind::Copy => match read_from(alloc, members) {
+            Ok(from) => Ok(Op::Copy { from, path }),
+            Err(error) => Err(give_up(path, error)),
+        },
+        Kind::Test => match read_value(alloc, members) {
+            Ok(value) => Ok(Op::Test(path, value)),
+            Err(error) => Err(give_up(path, error)),
+        },
     }
+}
+
+/// Drops the path of an operation for an error behind it.
+fn give_up(path: Pointer, error: ElementError) -> ElementError
+    ensures { result ≡ error }
+{
+    drop(path);
+    error
 }
 
 /// The kind that a name tells.
