@@ -10,7 +10,7 @@ use std::alloc::AllocError;
 use thiserror::Error;
 
 /// Why a text is no pointer.
-#[derive(Clone, Copy, Debug, Error)]
+#[derive(Clone, Copy, Debug, PartialEq, Eq, Error)]
 pub enum PointerError {
     /// It is neither empty nor begins with `/`, or a `~` is followed by neither `0` nor `1`.
     #[error("not a JSON pointer")]
@@ -36,7 +36,7 @@ impl From<Memory> for PointerError {
 }
 
 /// What is wrong with an element of a patch.
-#[derive(Clone, Copy, Debug)]
+#[derive(Clone, Copy, Debug, PartialEq, Eq)]
 pub enum PatchWhy {
     /// The document is no array.
     NotArray,
@@ -61,7 +61,7 @@ pub enum PatchWhy {
 }
 
 /// Why bytes are no patch.
-#[derive(Clone, Copy, Debug, Error)]
+#[derive(Clone, Copy, Debug, PartialEq, Eq, Error)]
 pub enum PatchError {
     #[error("not a JSON text")]
     BadJson,
@@ -89,7 +89,7 @@ pub(crate) enum ElementError {
 }
 
 /// Why an operation fails.
-#[derive(Clone, Copy, Debug)]
+#[derive(Clone, Copy, Debug, PartialEq, Eq)]
 pub enum FailWhy {
     /// A token before the last names nothing, or the parent of the last is a text.
     NoParent,
@@ -108,7 +108,7 @@ pub enum FailWhy {
 }
 
 /// Why a patch isn't applied.
-#[derive(Clone, Copy, Debug, Error)]
+#[derive(Clone, Copy, Debug, PartialEq, Eq, Error)]
 pub enum ApplyError {
     /// The first operation that fails, counted from 0.
     #[error("operation {index} fails")]

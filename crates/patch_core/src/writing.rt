@@ -33,9 +33,15 @@ pub fn step_bytes(alloc: Global, op: &Op) -> Result<Vec<u8>, Memory>
 fn patch_tree(alloc: Global, op: &Op) -> Result<Tree, Memory>
     ensures { IfOk result (λ t. document t ≡ patch_document (operation_of op.now ∷ [])) }
 {
+    let operation = operation_tree(alloc, op)?;
     let mut items = Items::new(alloc);
-    items.push(operation_tree(alloc, op)?)?;
-    Ok(Tree::List(items))
+    match items.push(operation) {
+        Ok(()) => Ok(Tree::List(items)),
+        Err(error) => {
+            drop(items);
+            Err(error)
+        }
+    }
 }
 
 /// The compact text of an operation's document.
