@@ -31,9 +31,18 @@ impl Config {
         ensures formed { IfOk result IsConfig }
     {
         match part {
-            Part::Table(table) => self.set_table_at(alloc, path, Some(table.copy(alloc)?)),
-            Part::Entry(entry) => self.set_entry_at(alloc, path, Some(entry.copy(alloc)?)),
-            Part::Value(value) => self.set_value_at(alloc, path, Some(value.copy(alloc)?)),
+            Part::Table(table) => {
+                let table = table.copy(alloc)?;
+                self.set_table_at(alloc, path, Some(table))
+            }
+            Part::Entry(entry) => {
+                let entry = entry.copy(alloc)?;
+                self.set_entry_at(alloc, path, Some(entry))
+            }
+            Part::Value(value) => {
+                let value = value.copy(alloc)?;
+                self.set_value_at(alloc, path, Some(value))
+            }
         }
     }
 
@@ -60,8 +69,7 @@ impl Config {
             c ≡ with_part self.now path.now (option_map Part.Table table)) }
         ensures formed { IfOk result IsConfig }
     {
-        let changed = self.set_table(alloc, path.name_at(0), table)?;
-        Ok(changed)
+        self.set_table(alloc, path.name_at(0), table)
     }
 
     fn set_entry_at(
@@ -78,8 +86,7 @@ impl Config {
     {
         let name = path.name_at(0);
         let key = path.name_at(1);
-        let changed = self.set_entry(alloc, name, key, entry)?;
-        Ok(changed)
+        self.set_entry(alloc, name, key, entry)
     }
 
     fn set_value_at(
@@ -97,8 +104,7 @@ impl Config {
         let name = path.name_at(0);
         let key = path.name_at(1);
         let field = path.name_at(2);
-        let changed = self.set_value(alloc, name, key, field, value)?;
-        Ok(changed)
+        self.set_value(alloc, name, key, field, value)
     }
 
     fn set_table(&self, alloc: Global, name: &str, table: Option<Table>) -> Result<Config, Memory>
@@ -129,12 +135,11 @@ impl Config {
         match self.table(name) {
             Some(table) => {
                 let table = table.set_entry(alloc, key, entry)?;
-                let changed = self.set_table(alloc, name, Some(table))?;
-                Ok(changed)
+                self.set_table(alloc, name, Some(table))
             }
             None => {
-                let same = self.copy(alloc)?;
-                Ok(same)
+                drop(entry);
+                self.copy(alloc)
             }
         }
     }
@@ -158,12 +163,11 @@ impl Config {
         match self.table(name) {
             Some(table) => {
                 let table = table.set_value(alloc, key, field, value)?;
-                let changed = self.set_table(alloc, name, Some(table))?;
-                Ok(changed)
+                self.set_table(alloc, name, Some(table))
             }
             None => {
-                let same = self.copy(alloc)?;
-                Ok(same)
+                drop(value);
+                self.copy(alloc)
             }
         }
     }
@@ -207,12 +211,11 @@ impl Table {
         match self.entry(key) {
             Some(entry) => {
                 let entry = entry.set_value(alloc, field, value)?;
-                let changed = self.set_entry(alloc, key, Some(entry))?;
-                Ok(changed)
+                self.set_entry(alloc, key, Some(entry))
             }
             None => {
-                let same = self.copy(alloc)?;
-                Ok(same)
+                drop(value);
+                self.copy(alloc)
             }
         }
     }

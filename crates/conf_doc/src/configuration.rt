@@ -1,5 +1,5 @@
 //! A configuration: tables of entries of fields.
-ghost use Rattle.std.specs.Prelude.{◌≡◌, ◌<◌, ◌↔◌, [], length, map, option_map, slice_get, Some, IfOk, IsTrue};
+ghost use Rattle.std.specs.Prelude.{◌≡◌, ◌<◌, ◌++◌, ◌∷◌, [], length, map, option_map, slice_get, Some, IfOk, IsUtf8, OnOk};
 ghost use Rattle.conf_doc.specs.Pairs.{find, first_from};
 ghost use Rattle.conf_doc.specs.WellFormed.{AreTexts, IsConfig, IsEntry, IsTable, IsValue};
 
@@ -9,7 +9,7 @@ use std::alloc::Global;
 use std::marker::Model;
 
 /// What a field holds. A text is before a list; texts are ordered by bytes, lists item by item.
-#[derive(Debug, Drop, Eq, Hash, Ord, PartialEq, PartialOrd)]
+#[derive(Drop, Eq, Hash, Ord, PartialEq, PartialOrd)]
 pub enum Value {
     Text(Txt),
     List(Names),
@@ -31,7 +31,7 @@ pub struct Table {
 
 /// The tables of a configuration, sorted by name. No name is empty, and none stands twice. Contracts see
 /// the list of pairs of a name and a table.
-#[derive(Drop, Eq, Hash, Ord, PartialEq, PartialOrd)]
+#[derive(Drop, Eq, Hash, PartialEq)]
 pub struct Config {
     pub(crate) tables: Sorted<Table>,
 }
@@ -97,10 +97,18 @@ fn copy_texts(alloc: Global, texts: &Names) -> Result<Names, Memory>
 {
     let mut copies = Names::new(alloc);
     for text in texts.items() {
-        let copy = Txt::new(alloc, text.as_str())?;
-        copies.push(copy)?;
+        push_copy(alloc, &mut copies, text)?;
     }
     Ok(copies)
+}
+
+/// Adds a copy of a text.
+fn push_copy(alloc: Global, copies: &mut Names, text: &Txt) -> Result<(), Memory>
+    ensures ok { OnOk result (copies.new ≡ copies.old ++ text.now ∷ []) }
+    ensures utf8 { IsUtf8 text.now }
+{
+    let copy = Txt::new(alloc, text.as_str())?;
+    copies.push(copy)
 }
 
 impl Config {

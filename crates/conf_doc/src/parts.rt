@@ -11,7 +11,7 @@ use std::alloc::Global;
 use std::cmp::Ordering;
 
 /// What a place of one, two or three names holds.
-#[derive(Drop, Eq, Hash, Ord, PartialEq, PartialOrd)]
+#[derive(Drop)]
 pub enum Part {
     Table(Table),
     Entry(Entry),
@@ -35,7 +35,17 @@ impl Part {
     pub fn compare(&self, other: &Part) -> Ordering
         ensures { result ≡ part_cmp self.now other.now }
     {
-        self.cmp(other)
+        match (self, other) {
+            (Part::Table(left), Part::Table(right)) => left.cmp(right),
+            (Part::Table(_), Part::Entry(_)) => Ordering::Less,
+            (Part::Table(_), Part::Value(_)) => Ordering::Less,
+            (Part::Entry(_), Part::Table(_)) => Ordering::Greater,
+            (Part::Entry(left), Part::Entry(right)) => left.cmp(right),
+            (Part::Entry(_), Part::Value(_)) => Ordering::Less,
+            (Part::Value(_), Part::Table(_)) => Ordering::Greater,
+            (Part::Value(_), Part::Entry(_)) => Ordering::Greater,
+            (Part::Value(left), Part::Value(right)) => left.cmp(right),
+        }
     }
 
     /// The same part.

@@ -3,7 +3,7 @@ ghost use Rattle.std.specs.Prelude.{◌≡◌, ◌↔◌, IsTrue};
 
 use crate::sorted::Sorted;
 use crate::{Config, Entry, Table, Value};
-use host_core::Names;
+use host_core::{Names, Txt};
 
 /// Values of which can be said that they are the same.
 trait Same {
@@ -76,14 +76,18 @@ fn same_parts<X: Same>(left: &Sorted<X>, right: &Sorted<X>) -> bool
         return false;
     }
     for i in 0..left.len() {
-        if left.name_at(i) != right.name_at(i) {
-            return false;
-        }
-        if !left.part_at(i).is_same(right.part_at(i)) {
+        if !same_pair(left.pair_at(i), right.pair_at(i)) {
             return false;
         }
     }
     true
+}
+
+/// Whether the names and the parts are the same.
+fn same_pair<X: Same>(left: &(Txt, X), right: &(Txt, X)) -> bool
+    ensures { IsTrue result ↔ (left.now ≡ right.now) }
+{
+    left.0.as_str() == right.0.as_str() && left.1.is_same(&right.1)
 }
 
 fn same_texts(left: &Names, right: &Names) -> bool

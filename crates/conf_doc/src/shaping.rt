@@ -3,7 +3,7 @@ ghost use Rattle.std.specs.Prelude.{◌≡◌, ◌∷◌, [], ◌++◌, IfOk, Is
 ghost use Rattle.host_core.specs.Answers.{Gives};
 ghost use Rattle.conf_doc.specs.Document.{Document, items_of, members_of};
 ghost use Rattle.conf_doc.specs.Reading.{below};
-ghost use Rattle.conf_doc.specs.Shaping.{configuration, entry_of, named, parts, shape_fault, shaping, table_of, text_of, texts_from, value_of};
+ghost use Rattle.conf_doc.specs.Shaping.{configuration, entry_of, mapping_of, named, parts, shape_fault, shaping, table_of, text_of, texts_from, value_of};
 ghost use Rattle.conf_doc.specs.Stops.{located, stop_place};
 ghost use Rattle.conf_doc.specs.Trees.{document};
 ghost use Rattle.conf_doc.specs.WellFormed.{AreTexts, Each, IsConfig, IsEntry, IsShaped, IsTable, IsValue};
@@ -59,12 +59,9 @@ impl Shaped for Config {
     ghost IsWell = { IsConfig };
 
     fn shape(alloc: Global, tree: Tree) -> Result<Config, Stop> {
-        match tree {
-            Tree::Map(members) => Ok(Config {
-                tables: shape_parts(alloc, members)?,
-            }),
-            Tree::Text(_) | Tree::List(_) => Err(Stop::here(alloc)),
-        }
+        Ok(Config {
+            tables: shape_map(alloc, tree)?,
+        })
     }
 }
 
@@ -74,12 +71,9 @@ impl Shaped for Table {
     ghost IsWell = { IsTable };
 
     fn shape(alloc: Global, tree: Tree) -> Result<Table, Stop> {
-        match tree {
-            Tree::Map(members) => Ok(Table {
-                entries: shape_parts(alloc, members)?,
-            }),
-            Tree::Text(_) | Tree::List(_) => Err(Stop::here(alloc)),
-        }
+        Ok(Table {
+            entries: shape_map(alloc, tree)?,
+        })
     }
 }
 
@@ -89,12 +83,9 @@ impl Shaped for Entry {
     ghost IsWell = { IsEntry };
 
     fn shape(alloc: Global, tree: Tree) -> Result<Entry, Stop> {
-        match tree {
-            Tree::Map(members) => Ok(Entry {
-                fields: shape_parts(alloc, members)?,
-            }),
-            Tree::Text(_) | Tree::List(_) => Err(Stop::here(alloc)),
-        }
+        Ok(Entry {
+            fields: shape_map(alloc, tree)?,
+        })
     }
 }
 
@@ -112,6 +103,19 @@ impl Shaped for Value {
     }
 }
 
+/// The parts of a map.
+fn shape_map<X: Shaped>(alloc: Global, tree: Tree) -> Result<Sorted<X>, Stop>
+    ensures answer { Gives (λ s. s) stop_place result
+        (located (mapping_of X.shape (document tree))) }
+    ensures shaped { IfOk result IsShaped }
+    ensures formed { IfOk result (Each X.IsWell) }
+{
+    match tree {
+        Tree::Map(members) => shape_parts(alloc, members),
+        Tree::Text(_) | Tree::List(_) => Err(Stop::here(alloc)),
+    }
+}
+
 fn shape_parts<X: Shaped>(alloc: Global, members: Members) -> Result<Sorted<X>, Stop>
     ensures answer { Gives (λ s. s) stop_place result
         (located (parts X.shape (members_of members))) }
@@ -120,11 +124,22 @@ fn shape_parts<X: Shaped>(alloc: Global, members: Members) -> Result<Sorted<X>, 
 {
     let mut pairs = Vec::with_capacity(alloc, members.len())?;
     for (name, tree) in members.into_members() {
-        let part = shape_named(alloc, name.as_str(), tree)?;
-        let pair = Rc::new(alloc, (name, part))?;
+        let pair = shape_pair(alloc, name, tree)?;
         pairs.push(pair)?;
     }
     Ok(Sorted::from_shaped(pairs))
+}
+
+/// The pair of a name and its node, behind a pointer.
+fn shape_pair<X: Shaped>(alloc: Global, name: Txt, tree: Tree) -> Result<Rc<(Txt, X)>, Stop>
+    ensures answer { Gives (λ p. p.value.1) stop_place result
+        (located (below name (named name (X.shape (document tree))))) }
+    ensures named { IfOk result (λ p. p.value.0 ≡ name) }
+    ensures formed { IfOk result (λ p. X.IsWell p.value.1) }
+    ensures utf8 { IsUtf8 name }
+{
+    let part = shape_named(alloc, name.as_str(), tree)?;
+    Ok(Rc::new(alloc, (name, part))?)
 }
 
 /// A node's own name is looked at before what stands below it.

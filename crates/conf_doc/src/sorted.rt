@@ -131,8 +131,8 @@ impl<X: Drop> Sorted<X> {
         requires { 0 < length name.now }
         ensures { IfOk result (λ s. s ≡ put name.now part self.now) }
     {
-        let mut pairs = share(alloc, &self.pairs)?;
-        put_pair(&mut pairs, Rc::new(alloc, (Txt::new(alloc, name)?, part))?)?;
+        let pair = pair_up(alloc, name, part)?;
+        let pairs = share_with(alloc, &self.pairs, pair)?;
         Ok(Sorted { pairs })
     }
 
@@ -169,6 +169,29 @@ fn share<X: Drop>(alloc: Global, pairs: &[Rc<(Txt, X)>]) -> Result<Vec<Rc<(Txt, 
     Ok(pairs.to_vec(alloc)?)
 }
 
+/// A name and a part behind a pointer.
+fn pair_up<X: Drop>(alloc: Global, name: &str, part: X) -> Result<Rc<(Txt, X)>, Memory>
+    ensures { IfOk result (λ p. p.value ≡ (name.now, part)) }
+{
+    let name = Txt::new(alloc, name)?;
+    Ok(Rc::new(alloc, (name, part))?)
+}
+
+/// The same pairs and one more, in the place of one of that name.
+fn share_with<X: Drop>(
+    alloc: Global,
+    pairs: &[Rc<(Txt, X)>],
+    pair: Rc<(Txt, X)>,
+) -> Result<Vec<Rc<(Txt, X)>>, Memory>
+    requires { IsRising (pairs_of pairs.now) }
+    ensures { IfOk result (λ v. pairs_of v.items
+        ≡ put pair.value.0 pair.value.1 (pairs_of pairs.now)) }
+{
+    let mut shared = share(alloc, pairs)?;
+    put_pair(&mut shared, pair)?;
+    Ok(shared)
+}
+
 /// Puts a pair where its name belongs, in the place of one of that name.
 fn put_pair<X: Drop>(pairs: &mut Vec<Rc<(Txt, X)>>, pair: Rc<(Txt, X)>) -> Result<(), Memory>
     requires { IsRising (pairs_of pairs.old.items) }
@@ -176,10 +199,12 @@ fn put_pair<X: Drop>(pairs: &mut Vec<Rc<(Txt, X)>>, pair: Rc<(Txt, X)>) -> Resul
         ≡ put pair.value.0 pair.value.1 (pairs_of pairs.old.items)) }
 {
     match index_of_pair(pairs, pair.as_ref().0.as_str()) {
-        Ok(i) => pairs[i] = pair,
-        Err(i) => pairs.insert(i, pair)?,
+        Ok(i) => {
+            pairs[i] = pair;
+            Ok(())
+        }
+        Err(i) => Ok(pairs.insert(i, pair)?),
     }
-    Ok(())
 }
 
 /// Takes out the pair of that name, where there is one.

@@ -7,7 +7,7 @@ ghost use Rattle.conf_doc.specs.Shaping.{shaping};
 ghost use Rattle.conf_doc.specs.Trees.{document};
 
 use crate::sorted::Sorted;
-use crate::writing::Written;
+use crate::writing::{Written, member_of};
 use crate::{Config, Entry, Items, Members, Table, Tree, Value};
 use host_core::{Memory, Names, Txt};
 use std::alloc::Global;
@@ -81,12 +81,7 @@ fn take_pair<X: Taken>(alloc: Global, pair: Rc<(Txt, X)>) -> Result<(Txt, Tree),
             let tree = part.into_tree(alloc)?;
             Ok((name, tree))
         }
-        Err(shared) => {
-            let (name, part) = shared.as_ref();
-            let name = name.copy(alloc)?;
-            let tree = part.tree(alloc)?;
-            Ok((name, tree))
-        }
+        Err(shared) => member_of(alloc, shared.as_ref()),
     }
 }
 

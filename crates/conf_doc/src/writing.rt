@@ -1,5 +1,6 @@
 //! The trees and texts of configurations, and the texts of trees.
 ghost use Rattle.std.specs.Prelude.{◌≡◌, ◌≤◌, ◌++◌, ◌∷◌, [], map, IfOk, OnOk, Ok, Some};
+ghost use Rattle.json.specs.Layout.{pretty};
 ghost use Rattle.json.specs.Token.{key};
 ghost use Rattle.conf_doc.specs.Configuration.{entry_tree, mapping, table_tree, tree, value_tree};
 ghost use Rattle.conf_doc.specs.Document.{items_of, list, members_of, object, text};
@@ -32,11 +33,18 @@ pub fn file_bytes(alloc: Global, config: &Config) -> Result<Vec<u8>, Memory>
     ensures shapes_back { shaping (tree config.now) ≡ Ok config.now }
 {
     let _ = config.len();
-    let mut text = Pretty::new(alloc);
-    config.write(&mut text)?;
-    let mut bytes = text.into_inner();
+    let mut bytes = pretty_bytes(alloc, config)?;
     bytes.push(b'\n')?;
     Ok(bytes)
+}
+
+/// The same without the line feed.
+fn pretty_bytes(alloc: Global, config: &Config) -> Result<Vec<u8>, AllocError>
+    ensures { IfOk result (λ b. b.items ≡ pretty (document_tokens (tree config.now))) }
+{
+    let mut text = Pretty::new(alloc);
+    config.write(&mut text)?;
+    Ok(text.into_inner())
 }
 
 /// The compact JSON text of a tree.
@@ -123,12 +131,20 @@ fn tree_of_parts<X: Written>(alloc: Global, parts: &Sorted<X>) -> Result<Tree, M
 {
     let mut members = Vec::new(alloc);
     for i in 0..parts.len() {
-        let (name, part) = parts.pair_at(i);
-        let name = name.copy(alloc)?;
-        let tree = part.tree(alloc)?;
-        members.push((name, tree))?;
+        let member = member_of(alloc, parts.pair_at(i))?;
+        members.push(member)?;
     }
     Ok(Tree::Map(Members::from_sorted(members)))
+}
+
+/// The member that a pair is, its name copied.
+pub(crate) fn member_of<X: Written>(alloc: Global, pair: &(Txt, X)) -> Result<(Txt, Tree), Memory>
+    ensures name { IfOk result (λ m. m.0 ≡ pair.now.0) }
+    ensures tree { IfOk result (λ m. document m.1 ≡ X.as_document pair.now.1) }
+{
+    let name = pair.0.copy(alloc)?;
+    let tree = pair.1.tree(alloc)?;
+    Ok((name, tree))
 }
 
 fn items_of_texts(alloc: Global, texts: &Names) -> Result<Items, Memory>

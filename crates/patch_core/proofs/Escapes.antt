@@ -2,6 +2,7 @@
 use Rattle.std.proofs.Common.{◌≡◌, ◌∷◌, ◌++◌, ℕ, zero, suc, ◌<◌, List, [], length, get_or, Option, Some, None, option_map, option_and_then, Ok, Err, refl, sym, ap, ◌∙◌, arith, append_assoc}
 use Rattle.std.proofs.lemmas.Bool.{ne_eqb}
 use Rattle.host_core.specs.Answers.{FailsAs}
+use Rattle.patch_core.specs.Escapes.{Escapes}
 use Rattle.patch_core.specs.Tokens.{token_of, tokens_of_parts, in_front, or_malformed, pointer_fault}
 use Rattle.patch_core.specs.declared.errors.PointerError.{PointerError}
 use Rattle.patch_core.specs.declared.errors.PointerError.TheVariants.{Malformed, Memory}
@@ -40,6 +41,15 @@ pub escaped_none : (bs : List ℕ) → ((after : List ℕ) → bs ≡ 48 ∷ aft
 escaped_none [] no_0 no_1 = refl
 escaped_none (c ∷ cs) no_0 no_1 =
     rw (ne_eqb c 48 (λ e. no_0 cs (ap (λ d. d ∷ cs) e)), ne_eqb c 49 (λ e. no_1 cs (ap (λ d. d ∷ cs) e)))
+
+pub escapes_tilde : (behind after old new : List ℕ) → behind ≡ 48 ∷ after → new ≡ old ++ (126 ∷ []) → Escapes behind after old new
+escapes_tilde behind after old new starts gained = (126 ∷ [], gained, rw starts refl)
+
+pub escapes_slash : (behind after old new : List ℕ) → behind ≡ 49 ∷ after → new ≡ old ++ (47 ∷ []) → Escapes behind after old new
+escapes_slash behind after old new starts gained = (47 ∷ [], gained, rw starts refl)
+
+pub shorter_behind : (c : ℕ) (behind after : List ℕ) → behind ≡ c ∷ after → length after < length behind
+shorter_behind c behind after starts = omega (arith, ap length starts)
 
 -- ---- a part, so far as it is read
 

@@ -3,9 +3,11 @@ use Rattle.std.specs.Prelude.{◌≡◌, ℕ, List, Option, Some, None, Result, 
 use Rattle.conf_doc.specs.Document.{Document}
 use Rattle.conf_doc.specs.Trees.{document}
 use Rattle.conf_doc.specs.declared.trees.Tree.{Tree}
+use Rattle.conf_doc.specs.declared.trees.Tree.TheVariants.{List as Listed}
 use Rattle.patch_core.specs.Apply.{with_below, without_below, with_new, edit_there, after_add, after_remove, after_replace}
 use Rattle.patch_core.specs.Operation.{Tokens}
 use Rattle.patch_core.specs.declared.errors.FailWhy.{FailWhy}
+use Rattle.patch_core.specs.declared.node_edits.Change.{Change}
 use Rattle.patch_core.specs.declared.node_edits.Edit.{Edit}
 use Rattle.patch_core.specs.declared.node_edits.Edit.TheVariants.{Add, Remove, Replace}
 
@@ -39,3 +41,7 @@ abbrev pub HandsOut : Edit → Option Tree → Result Document FailWhy → Type 
 HandsOut (Add t) out there = Unit {0}
 HandsOut Remove out there = IsTaken out there
 HandsOut (Replace t) out there = IsTaken out there
+
+-- a list into which an item came, and nothing else changed
+abbrev pub grown_list : List Document → Change
+grown_list ds = record { tree = Listed ds; out = None; name_in = 0; name_out = 0 }

@@ -39,19 +39,19 @@ fn read_element(alloc: Global, value: Value) -> Result<Op, ElementError>
     ensures { Gives operation_of element_fault result (read_element (view value)) }
 {
     match value {
-        Value::Object(members) => read_members(alloc, members),
+        Value::Object(mut members) => read_members(alloc, &mut members),
         _ => Err(ElementError::Malformed(PatchWhy::NotObject)),
     }
 }
 
-/// The operation that the members of an object tell.
-fn read_members(alloc: Global, members: Map<String, Value>) -> Result<Op, ElementError>
+/// The operation that the members of an object tell. A member that it takes over isn't there any more.
+fn read_members(alloc: Global, members: &mut Map<String, Value>) -> Result<Op, ElementError>
     ensures { Gives operation_of element_fault result
-        (read_members (members_view members.entries)) }
+        (read_members (members_view members.old.entries)) }
 {
-    let name = read_text(&members, "op", PatchWhy::NoOp)?;
+    let name = read_text(members, "op", PatchWhy::NoOp)?;
     let kind = kind_of(name)?;
-    let path = read_path(alloc, &members)?;
+    let path = read_path(alloc, members)?;
     read_rest(alloc, kind, path, members)
 }
 
@@ -60,25 +60,42 @@ fn read_rest(
     alloc: Global,
     kind: Kind,
     path: Pointer,
-    members: Map<String, Value>,
+    members: &mut Map<String, Value>,
 ) -> Result<Op, ElementError>
     ensures { Gives operation_of element_fault result
-        (read_rest kind path.tokens (members_view members.entries)) }
+        (read_rest kind path.tokens (members_view members.old.entries)) }
 {
     match kind {
-        Kind::Add => Ok(Op::Add(path, read_value(alloc, members)?)),
+        Kind::Add => match read_value(alloc, members) {
+            Ok(value) => Ok(Op::Add(path, value)),
+            Err(error) => Err(give_up(path, error)),
+        },
         Kind::Remove => Ok(Op::Remove(path)),
-        Kind::Replace => Ok(Op::Replace(path, read_value(alloc, members)?)),
-        Kind::Move => {
-            let from = read_from(alloc, &members)?;
-            Ok(Op::Move { from, path })
-        }
-        Kind::Copy => {
-            let from = read_from(alloc, &members)?;
-            Ok(Op::Copy { from, path })
-        }
-        Kind::Test => Ok(Op::Test(path, read_value(alloc, members)?)),
+        Kind::Replace => match read_value(alloc, members) {
+            Ok(value) => Ok(Op::Replace(path, value)),
+            Err(error) => Err(give_up(path, error)),
+        },
+        Kind::Move => match read_from(alloc, members) {
+            Ok(from) => Ok(Op::Move { from, path }),
+            Err(error) => Err(give_up(path, error)),
+        },
+        Kind::Copy => match read_from(alloc, members) {
+            Ok(from) => Ok(Op::Copy { from, path }),
+            Err(error) => Err(give_up(path, error)),
+        },
+        Kind::Test => match read_value(alloc, members) {
+            Ok(value) => Ok(Op::Test(path, value)),
+            Err(error) => Err(give_up(path, error)),
+        },
     }
+}
+
+/// Drops the path of an operation for an error behind it.
+fn give_up(path: Pointer, error: ElementError) -> ElementError
+    ensures { result ≡ error }
+{
+    drop(path);
+    error
 }
 
 /// The kind that a name tells.
@@ -97,8 +114,9 @@ fn kind_of(name: &str) -> Result<Kind, ElementError>
 }
 
 /// The tree of the member `value`, which is taken over and not copied.
-fn read_value(alloc: Global, mut members: Map<String, Value>) -> Result<Tree, ElementError>
-    ensures { Gives document element_fault result (read_value (members_view members.entries)) }
+fn read_value(alloc: Global, members: &mut Map<String, Value>) -> Result<Tree, ElementError>
+    ensures { Gives document element_fault result
+        (read_value (members_view members.old.entries)) }
 {
     let Some(value) = members.remove("value") else {
         return Err(ElementError::Malformed(PatchWhy::NoValue));

@@ -47,7 +47,13 @@ fn open_item(alloc: Global, token: &Txt, mut items: Items) -> Result<(Gap, Tree)
     ensures gap { IfOk result (λ x.
         IsGap x.0 token.now (list (items_of items)) (document x.1)) }
 {
-    let i = item_index(FailWhy::NoParent, token, &items)?;
+    let i = match item_index(FailWhy::NoParent, token, &items) {
+        Ok(i) => i,
+        Err(why) => {
+            drop(items);
+            return Err(why);
+        }
+    };
     let child = items.replace(i, hole(alloc));
     Ok((Gap::Item(items, i), child))
 }
@@ -61,7 +67,11 @@ fn open_member(alloc: Global, token: &Txt, mut members: Members) -> Result<(Gap,
 {
     match members.replace(token.as_str(), hole(alloc)) {
         Ok(child) => Ok((Gap::Member(members), child)),
-        Err(_) => Err(FailWhy::NoParent),
+        Err(hole) => {
+            drop(hole);
+            drop(members);
+            Err(FailWhy::NoParent)
+        }
     }
 }
 
@@ -76,7 +86,10 @@ pub(crate) fn close_gap(token: &Txt, gap: Gap, child: Tree) -> Tree
             Tree::List(items)
         }
         Gap::Member(mut members) => match members.replace(token.as_str(), child) {
-            Ok(_) => Tree::Map(members),
+            Ok(hole) => {
+                drop(hole);
+                Tree::Map(members)
+            }
             Err(_) => unreachable!(),
         },
     }

@@ -48,10 +48,17 @@ pub(crate) fn perform_within(alloc: Global, op: &Op, before: Weighed) -> Result<
         name_out,
     } = perform(alloc, op, tree)?;
     let rest = weight_without(total, &out, name_out);
+    drop(out);
     match weight_new {
-        None => Err(Stop::Fails(FailWhy::TooLarge)),
+        None => {
+            drop(tree);
+            Err(Stop::Fails(FailWhy::TooLarge))
+        }
         Some(weight_new) => match sum_within(rest, weight_new, name_in) {
-            None => Err(Stop::Fails(FailWhy::TooLarge)),
+            None => {
+                drop(tree);
+                Err(Stop::Fails(FailWhy::TooLarge))
+            }
             Some(total) => Ok(Weighed { tree, total }),
         },
     }
@@ -65,10 +72,14 @@ pub(crate) fn perform_first(alloc: Global, op: &Op, tree: Tree) -> Result<Weighe
     match weigh(tree) {
         Ok(before) => perform_within(alloc, op, before),
         Err(tree) => {
-            let Change { tree, .. } = perform(alloc, op, tree)?;
+            let Change { tree, out, .. } = perform(alloc, op, tree)?;
+            drop(out);
             match weigh(tree) {
                 Ok(after) => Ok(after),
-                Err(_) => Err(Stop::Fails(FailWhy::TooLarge)),
+                Err(tree) => {
+                    drop(tree);
+                    Err(Stop::Fails(FailWhy::TooLarge))
+                }
             }
         }
     }

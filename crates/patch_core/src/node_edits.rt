@@ -1,20 +1,21 @@
 //! Edits at one node, of the child that a token names.
-ghost use Rattle.std.specs.Prelude.{◌≡◌, IfOk, Some};
+ghost use Rattle.std.specs.Prelude.{◌≡◌, IfErr, IfOk, IsOk, Some};
 ghost use Rattle.conf_doc.specs.Document.{list, object, items_of, members_of};
 ghost use Rattle.conf_doc.specs.Trees.{document};
 ghost use Rattle.host_core.specs.Answers.{Gives};
 ghost use Rattle.patch_core.specs.Apply.{below, with_new};
-ghost use Rattle.patch_core.specs.Edits.{HandsOut, IsTaken, edit_below, remove_below, replace_below};
+ghost use Rattle.patch_core.specs.Edits.{HandsOut, IsTaken, edit_below, grown_list, remove_below, replace_below};
 ghost use Rattle.patch_core.specs.Measures.{IsMeasured};
 ghost use Rattle.patch_core.specs.Stops.{stop_fault};
 ghost use Rattle.patch_core.specs.declared.node_edits.Edit.TheVariants.{Add, Remove, Replace};
 ghost use Rattle.patch_core.specs.declared.errors.FailWhy.TheVariants.{NoTarget};
+ghost use Rattle.patch_core.specs.declared.errors.Stop.TheVariants.{Memory as StopMemory};
 
 use crate::errors::{FailWhy, Stop};
 use crate::indexes::{Spot, spot_of};
 use crate::walks::item_index;
 use conf_doc::{Items, Members, Tree};
-use host_core::Txt;
+use host_core::{Memory, Txt};
 use std::alloc::Global;
 
 /// What becomes of what a path leads to.
@@ -61,7 +62,11 @@ fn add_below(alloc: Global, token: &Txt, value: Tree, tree: Tree) -> Result<Chan
     ensures measured { IfOk result (λ c. IsMeasured (Add value) c 1 (document tree)) }
 {
     match tree {
-        Tree::Text(_) => Err(Stop::Fails(FailWhy::NoParent)),
+        Tree::Text(text) => {
+            drop(text);
+            drop(value);
+            Err(Stop::Fails(FailWhy::NoParent))
+        }
         Tree::List(items) => add_item(token, value, items),
         Tree::Map(members) => add_member(alloc, token, value, members),
     }
@@ -75,34 +80,46 @@ fn add_item(token: &Txt, value: Tree, mut items: Items) -> Result<Change, Stop>
 {
     match spot_of(token, items.len()) {
         Spot::At(i) => {
-            items.insert(i, value)?;
-            Ok(Change {
-                tree: Tree::List(items),
-                out: None,
-                name_in: 0,
-                name_out: 0,
-            })
+            let put = items.insert(i, value);
+            give_list(put, items)
         }
         Spot::End => {
-            items.push(value)?;
-            Ok(Change {
-                tree: Tree::List(items),
-                out: None,
-                name_in: 0,
-                name_out: 0,
-            })
+            let put = items.push(value);
+            give_list(put, items)
         }
         Spot::Dash => {
-            items.push(value)?;
-            Ok(Change {
-                tree: Tree::List(items),
-                out: None,
-                name_in: 0,
-                name_out: 0,
-            })
+            let put = items.push(value);
+            give_list(put, items)
         }
-        Spot::Past => Err(Stop::Fails(FailWhy::BadIndex)),
-        Spot::NoIndex => Err(Stop::Fails(FailWhy::BadIndex)),
+        Spot::Past => {
+            drop(value);
+            drop(items);
+            Err(Stop::Fails(FailWhy::BadIndex))
+        }
+        Spot::NoIndex => {
+            drop(value);
+            drop(items);
+            Err(Stop::Fails(FailWhy::BadIndex))
+        }
+    }
+}
+
+/// The list into which an item was put, where there was memory for it.
+fn give_list(put: Result<(), Memory>, items: Items) -> Result<Change, Stop>
+    ensures given { IfOk result (λ c. IsOk put × (c ≡ grown_list items)) }
+    ensures memory { IfErr result (λ stop. stop ≡ StopMemory) }
+{
+    match put {
+        Ok(()) => Ok(Change {
+            tree: Tree::List(items),
+            out: None,
+            name_in: 0,
+            name_out: 0,
+        }),
+        Err(_) => {
+            drop(items);
+            Err(Stop::Memory)
+        }
     }
 }
 
@@ -121,14 +138,26 @@ fn add_member(alloc: Global, token: &Txt, value: Tree, mut members: Members) -> 
             name_out: 0,
         }),
         Err(value) => {
-            let name = Txt::new(alloc, token.as_str())?;
-            members.set(name, value)?;
-            Ok(Change {
-                tree: Tree::Map(members),
-                out: None,
-                name_in: token.as_str().len(),
-                name_out: 0,
-            })
+            let name = match Txt::new(alloc, token.as_str()) {
+                Ok(name) => name,
+                Err(_) => {
+                    drop(value);
+                    drop(members);
+                    return Err(Stop::Memory);
+                }
+            };
+            match members.set(name, value) {
+                Ok(()) => Ok(Change {
+                    tree: Tree::Map(members),
+                    out: None,
+                    name_in: token.as_str().len(),
+                    name_out: 0,
+                }),
+                Err(_) => {
+                    drop(members);
+                    Err(Stop::Memory)
+                }
+            }
         }
     }
 }
@@ -157,7 +186,13 @@ fn remove_item(token: &Txt, mut items: Items) -> Result<Change, FailWhy>
         IsTaken c.out (below NoTarget token.now (list (items_of items)))) }
     ensures measured { IfOk result (λ c. IsMeasured Remove c 1 (list (items_of items))) }
 {
-    let i = item_index(FailWhy::NoTarget, token, &items)?;
+    let i = match item_index(FailWhy::NoTarget, token, &items) {
+        Ok(i) => i,
+        Err(why) => {
+            drop(items);
+            return Err(why);
+        }
+    };
     let out = items.remove(i);
     Ok(Change {
         tree: Tree::List(items),
@@ -182,7 +217,10 @@ fn remove_member(token: &Txt, mut members: Members) -> Result<Change, FailWhy>
             name_in: 0,
             name_out: token.as_str().len(),
         }),
-        None => Err(FailWhy::NoTarget),
+        None => {
+            drop(members);
+            Err(FailWhy::NoTarget)
+        }
     }
 }
 
@@ -196,7 +234,11 @@ fn replace_below(token: &Txt, value: Tree, tree: Tree) -> Result<Change, FailWhy
     ensures measured { IfOk result (λ c. IsMeasured (Replace value) c 1 (document tree)) }
 {
     match tree {
-        Tree::Text(_) => Err(FailWhy::NoParent),
+        Tree::Text(text) => {
+            drop(text);
+            drop(value);
+            Err(FailWhy::NoParent)
+        }
         Tree::List(items) => replace_item(token, value, items),
         Tree::Map(members) => replace_member(token, value, members),
     }
@@ -210,7 +252,14 @@ fn replace_item(token: &Txt, value: Tree, mut items: Items) -> Result<Change, Fa
         IsTaken c.out (below NoTarget token.now (list (items_of items)))) }
     ensures measured { IfOk result (λ c. IsMeasured (Replace value) c 1 (list (items_of items))) }
 {
-    let i = item_index(FailWhy::NoTarget, token, &items)?;
+    let i = match item_index(FailWhy::NoTarget, token, &items) {
+        Ok(i) => i,
+        Err(why) => {
+            drop(items);
+            drop(value);
+            return Err(why);
+        }
+    };
     let out = items.replace(i, value);
     Ok(Change {
         tree: Tree::List(items),
@@ -236,6 +285,10 @@ fn replace_member(token: &Txt, value: Tree, mut members: Members) -> Result<Chan
             name_in: 0,
             name_out: 0,
         }),
-        Err(_) => Err(FailWhy::NoTarget),
+        Err(value) => {
+            drop(value);
+            drop(members);
+            Err(FailWhy::NoTarget)
+        }
     }
 }

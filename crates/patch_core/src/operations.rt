@@ -35,15 +35,21 @@ pub(crate) fn perform(alloc: Global, op: &Op, tree: Tree) -> Result<Change, Stop
     ensures change { IfOk result (λ c. IsChange (operation_of op.now) c (document tree)) }
 {
     match op {
-        Op::Add(path, value) => {
-            let value = value.copy(alloc)?;
-            edit_at(alloc, path.tokens.items(), Edit::Add(value), tree)
-        }
+        Op::Add(path, value) => match value.copy(alloc) {
+            Ok(value) => edit_at(alloc, path.tokens.items(), Edit::Add(value), tree),
+            Err(_) => {
+                drop(tree);
+                Err(Stop::Memory)
+            }
+        },
         Op::Remove(path) => edit_at(alloc, path.tokens.items(), Edit::Remove, tree),
-        Op::Replace(path, value) => {
-            let value = value.copy(alloc)?;
-            edit_at(alloc, path.tokens.items(), Edit::Replace(value), tree)
-        }
+        Op::Replace(path, value) => match value.copy(alloc) {
+            Ok(value) => edit_at(alloc, path.tokens.items(), Edit::Replace(value), tree),
+            Err(_) => {
+                drop(tree);
+                Err(Stop::Memory)
+            }
+        },
         Op::Move { from, path } => {
             move_value(alloc, from.tokens.items(), path.tokens.items(), tree)
         }
@@ -61,9 +67,13 @@ fn move_value(alloc: Global, from: &[Txt], path: &[Txt], tree: Tree) -> Result<C
     ensures change { IfOk result (λ c. IsChange (move_to from.now path.now) c (document tree)) }
 {
     if leads_into(from, path) {
+        drop(tree);
         return Err(Stop::Fails(FailWhy::IntoItself));
     }
-    target(from, &tree)?;
+    if let Err(why) = target(from, &tree) {
+        drop(tree);
+        return Err(Stop::Fails(why));
+    }
     let Change {
         tree,
         out,

@@ -67,7 +67,10 @@ fn perform_all(alloc: Global, ops: &[Op], tree: Tree) -> Result<Tree, ApplyError
     let mut left = tree;
     for (index, op) in ops.iter().enumerate() {
         left = match perform(alloc, op, left) {
-            Ok(Change { tree, .. }) => tree,
+            Ok(Change { tree, out, .. }) => {
+                drop(out);
+                tree
+            }
             Err(Stop::Memory) => return Err(ApplyError::Memory),
             Err(Stop::Fails(why)) => return Err(ApplyError::Failed { index, why }),
         };

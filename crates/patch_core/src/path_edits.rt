@@ -68,19 +68,32 @@ fn edit_along(
     match rest {
         [] => edit_below(alloc, token, edit, tree),
         [next, rest @ ..] => {
-            let (gap, child) = open_gap(alloc, token, tree)?;
-            let Change {
-                tree,
-                out,
-                name_in,
-                name_out,
-            } = edit_along(alloc, next, rest, edit, child)?;
-            Ok(Change {
-                tree: close_gap(token, gap, tree),
-                out,
-                name_in,
-                name_out,
-            })
+            let (gap, child) = match open_gap(alloc, token, tree) {
+                Ok(opened) => opened,
+                Err(why) => {
+                    drop(edit);
+                    return Err(Stop::Fails(why));
+                }
+            };
+            match edit_along(alloc, next, rest, edit, child) {
+                Ok(
+                    Change {
+                        tree,
+                        out,
+                        name_in,
+                        name_out,
+                    },
+                ) => Ok(Change {
+                    tree: close_gap(token, gap, tree),
+                    out,
+                    name_in,
+                    name_out,
+                }),
+                Err(stop) => {
+                    drop(gap);
+                    Err(stop)
+                }
+            }
         }
     }
 }

@@ -11,7 +11,7 @@ use host_core::{Names, Txt};
 use std::alloc::Global;
 
 /// A pointer: the tokens that lead from the root to a node, none of them for the root itself.
-#[derive(Debug, Drop)]
+#[derive(Drop)]
 pub struct Pointer {
     pub tokens: Names,
 }

@@ -1,5 +1,6 @@
 //! Operations and patches as documents and texts (RFC 6902, sections 3 and 4).
-ghost use Rattle.std.specs.Prelude.{◌≡◌, ◌≤◌, [], ◌∷◌, IfOk, OnOk, Ok};
+ghost use Rattle.std.specs.Prelude.{◌≡◌, ◌≤◌, [], ◌∷◌, codes, IfOk, OnOk, Ok};
+ghost use Rattle.conf_doc.specs.Document.{text};
 ghost use Rattle.conf_doc.specs.Pairs.{put};
 ghost use Rattle.conf_doc.specs.Texts.{compact};
 ghost use Rattle.conf_doc.specs.Trees.{document};
@@ -21,7 +22,9 @@ pub fn step_bytes(alloc: Global, op: &Op) -> Result<Vec<u8>, Memory>
         → patch b.items ≡ Ok (operation_of op.now ∷ [])) }
 {
     let tree = patch_tree(alloc, op)?;
-    let mut bytes = tree_bytes(alloc, &tree)?;
+    let bytes = tree_bytes(alloc, &tree);
+    drop(tree);
+    let mut bytes = bytes?;
     bytes.push(b'\n')?;
     Ok(bytes)
 }
@@ -30,9 +33,15 @@ pub fn step_bytes(alloc: Global, op: &Op) -> Result<Vec<u8>, Memory>
 fn patch_tree(alloc: Global, op: &Op) -> Result<Tree, Memory>
     ensures { IfOk result (λ t. document t ≡ patch_document (operation_of op.now ∷ [])) }
 {
+    let operation = operation_tree(alloc, op)?;
     let mut items = Items::new(alloc);
-    items.push(operation_tree(alloc, op)?)?;
-    Ok(Tree::List(items))
+    match items.push(operation) {
+        Ok(()) => Ok(Tree::List(items)),
+        Err(error) => {
+            drop(items);
+            Err(error)
+        }
+    }
 }
 
 /// The compact text of an operation's document.
@@ -63,9 +72,21 @@ fn with_value(alloc: Global, name: &str, path: &Pointer, value: &Tree) -> Result
         document t ≡ value_document name.now path.now.tokens (document value.now)) }
 {
     let mut members = named_members(alloc, name, path)?;
+    match add_value(alloc, &mut members, value) {
+        Ok(()) => Ok(Tree::Map(members)),
+        Err(error) => {
+            drop(members);
+            Err(error)
+        }
+    }
+}
+
+/// Sets the member `value` to a copy.
+fn add_value(alloc: Global, members: &mut Members, value: &Tree) -> Result<(), Memory>
+    ensures { OnOk result (members.new ≡ put (codes "value") (document value.now) members.old) }
+{
     let value = value.copy(alloc)?;
-    set_member(alloc, &mut members, "value", value)?;
-    Ok(Tree::Map(members))
+    set_member(alloc, members, "value", value)
 }
 
 /// An operation with another pointer.
@@ -74,9 +95,13 @@ fn with_from(alloc: Global, name: &str, from: &Pointer, path: &Pointer) -> Resul
         document t ≡ from_document name.now from.now.tokens path.now.tokens) }
 {
     let mut members = named_members(alloc, name, path)?;
-    let from = pointer_tree(alloc, from)?;
-    set_member(alloc, &mut members, "from", from)?;
-    Ok(Tree::Map(members))
+    match add_pointer(alloc, &mut members, "from", from) {
+        Ok(()) => Ok(Tree::Map(members)),
+        Err(error) => {
+            drop(members);
+            Err(error)
+        }
+    }
 }
 
 /// The members that every operation has.
@@ -84,11 +109,43 @@ fn named_members(alloc: Global, name: &str, path: &Pointer) -> Result<Members, M
     ensures { IfOk result (λ ms. ms ≡ op_member name.now ∷ path_member path.now.tokens ∷ []) }
 {
     let mut members = Members::new(alloc);
+    match name_members(alloc, &mut members, name, path) {
+        Ok(()) => Ok(members),
+        Err(error) => {
+            drop(members);
+            Err(error)
+        }
+    }
+}
+
+/// Sets the members that every operation has.
+fn name_members(
+    alloc: Global,
+    members: &mut Members,
+    name: &str,
+    path: &Pointer,
+) -> Result<(), Memory>
+    ensures { OnOk result (members.new
+        ≡ put (codes "path") (pointer_document path.now.tokens)
+        (put (codes "op") (text name.now) members.old)) }
+{
     let name = Tree::Text(Txt::new(alloc, name)?);
-    set_member(alloc, &mut members, "op", name)?;
+    set_member(alloc, members, "op", name)?;
+    add_pointer(alloc, members, "path", path)
+}
+
+/// Sets a member to the text of a pointer.
+fn add_pointer(
+    alloc: Global,
+    members: &mut Members,
+    name: &str,
+    path: &Pointer,
+) -> Result<(), Memory>
+    ensures { OnOk result
+        (members.new ≡ put name.now (pointer_document path.now.tokens) members.old) }
+{
     let path = pointer_tree(alloc, path)?;
-    set_member(alloc, &mut members, "path", path)?;
-    Ok(members)
+    set_member(alloc, members, name, path)
 }
 
 /// Sets a member.

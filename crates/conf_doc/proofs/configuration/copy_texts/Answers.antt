@@ -1,4 +1,4 @@
-use Rattle.std.proofs.Common.{◌++◌, ◌∷◌, [], IsUtf8, sym, subst, ◌∙◌, take_all}
+use Rattle.std.proofs.Common.{◌++◌, ◌∷◌, [], sym, subst, ◌∙◌, take_all}
 use Rattle.conf_doc.specs.WellFormed.{AreTexts}
 use Rattle.conf_doc.proofs.Lists.{take_step}
 use Rattle.conf_doc.proofs.WellFormed.{texts_more}
@@ -6,12 +6,12 @@ use Rattle.conf_doc.proofs.configuration.copy_texts.Goals as goal
 
 pub loop-text-preserved : goal.loop-text-preserved
 loop-text-preserved c =
-    let copy = c.in_ok-copy.ensures ∙ c.as_str.ensures.text in
+    let pushed = c.in_ok-push_copy.ensures in
     let inv = c.loop-text.invariant in record {
       same =
-          c.in_ok-push.ensures.ok ∙ (λ i. inv.same i ++ copy i ∷ [])
+          pushed.ok ∙ (λ i. inv.same i ++ c.text-item.result ∷ [])
           ∙ sym (take_step c.items-text-items.result.now _ c.text-item.result c.loop-text-test.true c.text-item.is);
-      formed = subst AreTexts (sym c.in_ok-push.ensures.ok) (texts_more _ _ inv.formed (subst IsUtf8 (sym copy) c.as_str.ensures.utf8));
+      formed = subst AreTexts (sym pushed.ok) (texts_more _ _ inv.formed pushed.utf8);
     }
 
 pub returns-clause-copy : goal.returns-clause-copy

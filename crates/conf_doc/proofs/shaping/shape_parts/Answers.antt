@@ -10,21 +10,19 @@ use Rattle.conf_doc.proofs.Shapings.{part_fails, part_found, parts_end, parts_sh
 use Rattle.conf_doc.proofs.WellFormed.{each_more, texts_more}
 use Rattle.conf_doc.proofs.shaping.shape_parts.Goals as goal
 
-pub returns-in_err-part-clause-answer : goal.returns-in_err-part-clause-answer
-returns-in_err-part-clause-answer g c =
-    let p = err_from_is_err_and c.from_residual-in_err-part.result c.from_residual-in_err-part.ensures.1 in
-    let stops = rw c.as_str.ensures.text at c.in_err-part.ensures.answer in
-    rw (p.1, p.2) (part_fails g.X.Shaped.shape _ _ _ _ _ _ c.loop-name.invariant.walk _ (ap (λ ms. members_of (map named_document ms)) c.in-Some.ensures.steps.0) stops)
+pub returns-in_err-pair-clause-answer : goal.returns-in_err-pair-clause-answer
+returns-in_err-pair-clause-answer g c =
+    let p = err_from_is_err_and c.from_residual-in_err-pair.result c.from_residual-in_err-pair.ensures.1 in
+    rw (p.1, p.2) (part_fails g.X.Shaped.shape _ _ _ _ _ _ c.loop-name.invariant.walk _ (ap (λ ms. members_of (map named_document ms)) c.in-Some.ensures.steps.0) c.in_err-pair.ensures.answer)
 
 pub loop-name-preserved : goal.loop-name-preserved
 loop-name-preserved g c =
     let ps = pairs_of c.loop-name.pairs.items in
-    let pair = c.in_ok-pair.ensures.ok in
-    let finds = rw c.as_str.ensures.text at c.in_ok-part.ensures.answer in
-    let pushed = ap pairs_of c.in_ok-push.ensures.items ∙ map-append (λ r. r.value) c.loop-name.pairs.items _ ∙ ap (λ p. ps ++ p ∷ []) pair in record {
-      walk = part_found g.X.Shaped.shape _ _ _ _ _ _ c.loop-name.invariant.walk _ _ (ap (λ ms. members_of (map named_document ms)) c.in-Some.ensures.steps.0) finds pushed;
-      texts = subst (λ qs. AreTexts (map (λ p. p.0) qs)) (sym pushed) (rw (map-append (λ p. p.0) ps _) (texts_more _ _ c.loop-name.invariant.texts c.as_str.ensures.utf8));
-      formed = subst (Each g.X.Shaped.IsWell) (sym pushed) (each_more g.X.Shaped.IsWell _ _ c.loop-name.invariant.formed c.in_ok-part.ensures.formed);
+    let pair = c.in_ok-pair.ensures in
+    let pushed = ap pairs_of c.in_ok-push.ensures.items ∙ map-append (λ r. r.value) c.loop-name.pairs.items _ ∙ (λ j. ps ++ (pair.named j, c.in_ok-pair.pair.value.1) ∷ []) in record {
+      walk = part_found g.X.Shaped.shape _ _ _ _ _ _ c.loop-name.invariant.walk _ _ (ap (λ ms. members_of (map named_document ms)) c.in-Some.ensures.steps.0) pair.answer pushed;
+      texts = subst (λ qs. AreTexts (map (λ p. p.0) qs)) (sym pushed) (rw (map-append (λ p. p.0) ps _) (texts_more _ _ c.loop-name.invariant.texts pair.utf8));
+      formed = subst (Each g.X.Shaped.IsWell) (sym pushed) (each_more g.X.Shaped.IsWell _ _ c.loop-name.invariant.formed pair.formed);
     }
 
 pub from_shaped-requires : goal.from_shaped-requires

@@ -9,7 +9,7 @@ use Rattle.conf_doc.proofs.writing.tree_of_parts.Goals as goal
 pub loop-i-preserved : goal.loop-i-preserved
 loop-i-preserved g c =
     let F = g.X.Written.as_document in
-    map_more named_document (λ p. (p.0, F p.1)) _ _ _ _ _ c.pair_at.result.now c.loop-i.invariant c.in_ok-push.ensures.items (λ j. (c.in_ok-name.ensures j, c.in_ok-tree.ensures j)) (take_more c.args.parts.now c.loop-i.i _ c.pair_at.ensures)
+    map_more named_document (λ p. (p.0, F p.1)) _ _ _ _ _ c.pair_at.result.now c.loop-i.invariant c.in_ok-push.ensures.items (λ j. (c.in_ok-member.ensures.name j, c.in_ok-member.ensures.tree j)) (take_more c.args.parts.now c.loop-i.i _ c.pair_at.ensures)
 
 pub from_sorted-requires : goal.from_sorted-requires
 from_sorted-requires g c =

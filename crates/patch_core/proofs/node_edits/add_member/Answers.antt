@@ -1,11 +1,15 @@
 use Rattle.std.specs.Prelude.{◌≡◌, ℕ, List, Some, None}
-use Rattle.std.proofs.Common.{sym, ap, ◌∙◌, length}
+use Rattle.std.proofs.Common.{refl, sym, ap, ◌∙◌, length}
 use Rattle.conf_doc.specs.Document.{Document}
 use Rattle.conf_doc.specs.Pairs.{find, put}
 use Rattle.conf_doc.specs.Trees.{document}
 use Rattle.patch_core.proofs.Measured.{measured_added_there, measured_added_new}
 use Rattle.patch_core.proofs.Nodes.{with_new_member, ok_of, of_pairs}
 use Rattle.patch_core.proofs.node_edits.add_member.Goals as goal
+
+-- what was set where nothing was put
+set_anew : {T : Type 0} (document : T → Document) {name token : List ℕ} {there value : T} {ms ns es : List (List ℕ × Document)} → es ≡ put name (document there) ns → name ≡ token → there ≡ value → ns ≡ ms → es ≡ put token (document value) ms
+set_anew document set named is before = set ∙ rw (named, is, before) refl
 
 pub returns-in-Ok : goal.returns-in-Ok
 returns-in-Ok c =
@@ -16,15 +20,11 @@ returns-in-Ok c =
       measured = measured_added_there c.args.token.now c.args.value c.in-Ok.out c.args.members c.replace.new.self c.replace.ensures.rising there after;
     }
 
-pub returns-in_ok-set-in-Err : goal.returns-in_ok-set-in-Err
-returns-in_ok-set-in-Err c =
-    let name : c.in_ok-name-in-Err.name ≡ c.args.token.now = c.in_ok-name-in-Err.ensures ∙ c.as_str-in-Err.ensures.text in
-    let value : document c.in-Err.value ≡ document c.args.value = ap document c.in-Err.ensures.absent.0 in
-    let set : c.set.new.self ≡ put c.in_ok-name-in-Err.name (document c.in-Err.value) c.replace.new.self = c.in_ok-set-in-Err.ensures.ok in
-    let before : c.replace.new.self ≡ c.args.members = c.in-Err.ensures.err in
-    let after : c.set.new.self ≡ put c.args.token.now (document c.args.value) c.args.members = cc in
+pub returns-in-Ok-set : goal.returns-in-Ok-set
+returns-in-Ok-set c =
+    let after = set_anew document c.in-Ok-set.ensures.ok (c.in-Ok-new.ensures ∙ c.as_str-in-Err.ensures.text) c.in-Err.ensures.absent.0 c.in-Err.ensures.err in
     let none : find c.args.token.now c.args.members ≡ None = ap (λ (n : List ℕ). find n c.args.members) (sym c.as_str.ensures.text) ∙ c.in-Err.ensures.absent.1 in
     record {
       left = with_new_member c.args.token.now (document c.args.value) c.args.members ∙ ap (λ (ms : List (List ℕ × Document)). ok_of (of_pairs ms)) (sym after);
-      measured = measured_added_new c.args.token.now c.args.value c.args.members c.set.new.self _ (ap length c.as_str-in-Err-2.ensures.text) none after;
+      measured = measured_added_new c.args.token.now c.args.value c.args.members c.set.new.self _ (ap length c.as_str-in-Ok-set.ensures.text) none after;
     }

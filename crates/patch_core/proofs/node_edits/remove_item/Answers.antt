@@ -8,11 +8,11 @@ use Rattle.patch_core.proofs.node_edits.remove_item.Goals as goal
 pub returns-clause-left : goal.returns-clause-left
 returns-clause-left c =
     removed_there c.args.token.now (list (items_of c.args.items)) _ _
-    (below_item NoTarget c.args.token.now c.args.items c.in_ok-i.i _ c.in_ok-i.ensures.named.0 c.remove-out.ensures.taken)
-    (cut_item c.args.token.now c.args.items c.in_ok-i.i c.in_ok-i.ensures.named.0 ∙ ap listed (sym c.remove-out.ensures.rest))
+    (below_item NoTarget c.args.token.now c.args.items c.in-Ok.i _ c.in-Ok.ensures.named.0 c.remove-out.ensures.taken)
+    (cut_item c.args.token.now c.args.items c.in-Ok.i c.in-Ok.ensures.named.0 ∙ ap listed (sym c.remove-out.ensures.rest))
 
 pub returns-clause-taken : goal.returns-clause-taken
-returns-clause-taken c = below_item NoTarget c.args.token.now c.args.items c.in_ok-i.i _ c.in_ok-i.ensures.named.0 c.remove-out.ensures.taken
+returns-clause-taken c = below_item NoTarget c.args.token.now c.args.items c.in-Ok.i _ c.in-Ok.ensures.named.0 c.remove-out.ensures.taken
 
 pub returns-clause-measured : goal.returns-clause-measured
-returns-clause-measured c = measured_removed_item _ c.args.items c.remove-out.new.self c.in_ok-i.i c.remove-out.ensures.taken c.remove-out.ensures.rest
+returns-clause-measured c = measured_removed_item _ c.args.items c.remove-out.new.self c.in-Ok.i c.remove-out.ensures.taken c.remove-out.ensures.rest

@@ -31,3 +31,8 @@ returns-clause-read c =
     let text = c.args.text.now in
     let is = strip_prefix_char 47 text (Some c.in-Some.rest) c.in-Some.ensures.cases (lit< tt) in
     pointer-tokens text c.in_ok-tokens.tokens (tokens-slash text c.in-Some.rest.now is ∙ or_malformed_ok _ _ c.in_ok-tokens.ensures)
+
+pub returns-clause-decoded : goal.returns-clause-decoded
+returns-clause-decoded c =
+    let text = c.args.text.now in
+    ap or_malformed (tokens-slash text c.in-Some.rest.now (strip_prefix_char 47 text (Some c.in-Some.rest) c.in-Some.ensures.cases (lit< tt))) ∙ c.in_ok-tokens.ensures

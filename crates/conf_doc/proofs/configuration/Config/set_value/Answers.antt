@@ -1,12 +1,13 @@
 use Rattle.std.proofs.Common.{◌∙◌}
+use Rattle.std.proofs.lemmas.Result.{IfOk-weaker}
 use Rattle.conf_doc.specs.Pairs.{change_part, set_part}
 use Rattle.conf_doc.proofs.AtPlaces.{absent_changed, found_changed}
 use Rattle.conf_doc.proofs.configuration.Config.set_value.Goals as goal
 
-pub returns-in_ok-changed-in-Some-clause-changed : goal.returns-in_ok-changed-in-Some-clause-changed
-returns-in_ok-changed-in-Some-clause-changed c =
-    c.in_ok-changed-in-Some.ensures.changed ∙ found_changed c.args.name.now (change_part c.args.key.now (set_part c.args.field.now c.args.value)) c.args.self.now _ _ c.in-Some.ensures.table c.in_ok-table-in-Some.ensures.changed
+pub returns-in_ok-table-in-Some-clause-changed : goal.returns-in_ok-table-in-Some-clause-changed
+returns-in_ok-table-in-Some-clause-changed c =
+    IfOk-weaker c.set_table.result _ _ (λ d is. is ∙ found_changed c.args.name.now (change_part c.args.key.now (set_part c.args.field.now c.args.value)) c.args.self.now _ _ c.in-Some.ensures.table c.in_ok-table-in-Some.ensures.changed) c.set_table.ensures.changed
 
-pub returns-in_ok-same-in-None-clause-changed : goal.returns-in_ok-same-in-None-clause-changed
-returns-in_ok-same-in-None-clause-changed c =
-    c.in_ok-same-in-None.ensures.copy ∙ absent_changed c.args.name.now (change_part c.args.key.now (set_part c.args.field.now c.args.value)) c.args.self.now c.in-None.ensures.table
+pub returns-in-None-clause-changed : goal.returns-in-None-clause-changed
+returns-in-None-clause-changed c =
+    IfOk-weaker c.copy.result _ _ (λ d is. is ∙ absent_changed c.args.name.now (change_part c.args.key.now (set_part c.args.field.now c.args.value)) c.args.self.now c.in-None.ensures.table) c.copy.ensures.copy

@@ -1,7 +1,7 @@
 use Rattle.conf_doc.proofs.shaping.TableShaped.shape.Goals as goal
 
 pub invariant_of-result : goal.invariant_of-result
-invariant_of-result c = let parts = c.in_ok-shape_parts-in-Map.ensures in record { shaped = parts.shaped; parts = parts.formed }
+invariant_of-result c = let parts = c.in_ok-shape_map.ensures in record { shaped = parts.shaped; parts = parts.formed }
 
-pub returns-in-Map-clause-formed : goal.returns-in-Map-clause-formed
-returns-in-Map-clause-formed c = let parts = c.in_ok-shape_parts-in-Map.ensures in record { shaped = parts.shaped; parts = parts.formed }
+pub returns-clause-formed : goal.returns-clause-formed
+returns-clause-formed c = let parts = c.in_ok-shape_map.ensures in record { shaped = parts.shaped; parts = parts.formed }
