@@ -7,19 +7,16 @@ use Rattle.conf_doc.specs.declared.configuration.Table.{Table}
 use Rattle.yang_model.specs.ModelSets.{ModelSet}
 use Rattle.yang_model.specs.declared.shapes.Shape.{Shape}
 use Rattle.conf_check.specs.FirstWants.{AreOfOneEntry, IsFirstOfEntry, IsTextBefore, IsFirstText, IsWantedIn, IsWantedAt, IsFirstWant, start_of}
-use Rattle.conf_check.specs.Rows.{Row, row_of, row_at, HasShape, HasNoShape}
+use Rattle.conf_check.specs.Rows.{Row, row_of, row_at, HasShape}
 use Rattle.conf_check.specs.Wants.{Want, want_of, IsPlaceBefore, IsWantAt}
 use Rattle.conf_check.specs.declared.first_wants.SlotWant.{SlotWant}
 use Rattle.conf_check.specs.declared.want_iter.WantAt.{WantAt}
 use Rattle.conf_check.specs.declared.want_iter.WantPlace.{WantPlace}
 use Rattle.conf_check.proofs.RowPlaces.{past_keys, past_tables, row_only, row_there}
-use Rattle.conf_check.proofs.Shaped.{shape_once, not_both}
+use Rattle.conf_check.proofs.Shaped.{shape_once}
 
 -- an entry wants what its texts want by its shape
 module _ (models : ModelSet) (config : Config) (row : Row) where
-  pub at_no_shape : (field : Option ℕ) (item : ℕ) → HasNoShape models row → IsFirstText (IsWantedAt models config row) field item None
-  at_no_shape field item none f i w not wanted = not_both models row wanted.shape wanted.shaped none
-
   to_shape : (shape : Shape) → HasShape models row shape → (f : Option ℕ) (i : ℕ) (w : Want) → IsWantedAt models config row f i w → IsWantedIn models config shape row f i w
   to_shape shape has f i w wanted =
       subst (λ s. IsWantedIn models config s row f i w) (shape_once models row wanted.shape shape wanted.shaped has) wanted.wanted
