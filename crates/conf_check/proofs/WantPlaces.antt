@@ -76,16 +76,6 @@ text_between (Some f) (Some g) (Some h) i j m not lt =
 
 -- the wants of the entry at a place
 module _ (models : ModelSet) (config : Config) (at : WantPlace) where
-  pub none_past_table : length config ≤ at.table → IsFirstOfEntry models config at None
-  none_past_table past p w same not wanted =
-      past_tables models config p.table p.key (omega (arith, same.0)) wanted.row wanted.at
-
-  pub none_past_key : (table : List ℕ × Table) → slice_get config at.table ≡ Some table → length table.1 ≤ at.key
-      → IsFirstOfEntry models config at None
-  none_past_key table is past p w same not wanted =
-      past_keys models config p.table p.key table (subst (λ n. slice_get config n ≡ Some table) (sym same.0) is)
-      (omega (arith, same.1)) wanted.row wanted.at
-
   module _ (table : List ℕ × Table) (entry : List ℕ × Entry) (is : slice_get config at.table ≡ Some table) (is_key : slice_get table.1 at.key ≡ Some entry) where
     abbrev row : Row
     row = row_of table.0 entry.0 entry.1
