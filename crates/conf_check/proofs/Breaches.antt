@@ -14,7 +14,7 @@ use Rattle.conf_check.specs.declared.violations.Violation.{Violation}
 use Rattle.conf_check.proofs.EntryFaults.{shape_first}
 use Rattle.conf_check.proofs.Found.{some_from}
 use Rattle.conf_check.proofs.RowPlaces.{past_keys, past_tables}
-use Rattle.conf_check.proofs.ShapedEntries.{row_from, row_here, stands}
+use Rattle.conf_check.proofs.ShapedEntries.{row_from, row_here}
 
 some_same : {A : Type 0} (x y : A) → Some x ≡ Some y → x ≡ y
 some_same x y e = cc
@@ -105,24 +105,8 @@ module _ (models : ModelSet) (config : Config) where
               past_keys models config t b.key p at (omega arith) at_key.row at_key.at
         ]
 
-    -- a table without a model breaks nothing
-    pub unmodelled_none : (name : List ℕ) (table : Table) → slice_get config t ≡ Some (name, table) → (is_some (table_named name models) ≡ true → ⊥)
-        → IsFirstOfTable models config t None
-    unmodelled_none name table at not b here broken =
-        let a = breaks_at b.key b here refl broken in
-        let s = stands models config t b.key a.row a.at in
-        let same : s.table ≡ (name, table) = some_same s.table (name, table) (sym s.at ∙ at) in
-        not (subst (λ (p : List ℕ × Table). is_some (table_named p.0 models) ≡ true) same s.modelled)
-
   abbrev pub NoTableBefore : ℕ → Type 0
   NoTableBefore t = (b : Breach) → b.table < t → ¬ IsBreach models config b
-
-  pub tables_more : (t : ℕ) → NoTableBefore t → IsFirstOfTable models config t None → NoTableBefore (t + 1)
-  tables_more t before none b lt broken =
-      elim (cases_lt b.table t) [
-        | inl less ↦ before b less broken
-        | inr more ↦ none b (omega arith) broken
-      ]
 
   pub table_first : (t : ℕ) (v : Violation) → NoTableBefore t → IsFirstInTable models config t v → IsFirstViolation models config v
   table_first t v before in_table = record {

@@ -1,14 +1,13 @@
 -- The first breach of one entry.
-use Rattle.std.proofs.Common.{◌≡◌, ℕ, true, List, Some, None, is_some, refl, sym, ◌∙◌, subst, inl, inr, arith}
+use Rattle.std.proofs.Common.{◌≡◌, ℕ, true, List, Some, None, is_some, refl, subst, inl, inr, arith}
 use Rattle.conf_doc.specs.declared.configuration.Config.{Config}
-use Rattle.conf_doc.specs.declared.configuration.Table.{Table}
 use Rattle.yang_model.specs.ModelSets.{ModelSet, table_named}
 use Rattle.conf_check.specs.Faults.{IsFirstHere, breach_at}
 use Rattle.conf_check.specs.Rows.{Row, row_at, IsEntryAt, IsPlaceOfEntry}
 use Rattle.conf_check.specs.Validity.{Breach, Breaks, IsBreachAt, IsBreachBefore, IsFirstViolationAt, IsValidAt, violation_of}
 use Rattle.conf_check.specs.declared.faults.Fault.{Fault}
 use Rattle.conf_check.specs.declared.violations.Violation.{Violation}
-use Rattle.conf_check.proofs.ShapedEntries.{row_from, row_here, stands}
+use Rattle.conf_check.proofs.ShapedEntries.{row_from, row_here}
 
 some_same : {A : Type 0} (x y : A) → Some x ≡ Some y → x ≡ y
 some_same x y e = cc
@@ -17,13 +16,6 @@ module _ (models : ModelSet) (config : Config) (table key : List ℕ) where
   -- an entry that isn't there breaks nothing
   pub absent_valid : IsPlaceOfEntry config table key None → IsValidAt models config table key
   absent_valid absent b broken = absent b.table b.key broken.entry
-
-  -- nor does one of a table without a model
-  pub unmodelled_valid : (is_some (table_named table models) ≡ true → ⊥) → IsValidAt models config table key
-  unmodelled_valid not b broken =
-      let s = stands models config b.table b.key broken.broken.row broken.broken.at in
-      let same : s.table ≡ (table, broken.entry.entries) = some_same s.table (table, broken.entry.entries) (sym s.at ∙ broken.entry.at) in
-      not (subst (λ (p : List ℕ × Table). is_some (table_named p.0 models) ≡ true) same s.modelled)
 
   module _ (t k : ℕ) (placed : IsPlaceOfEntry config table key (Some (t, k))) where
     -- the rules that a breach breaks are broken at the place

@@ -98,6 +98,3 @@ module _ (models : ModelSet) (config : Config) (b : Belongings) (t : ℕ) (name 
   none_left n k le =
       let m : n - k ≡ 0 = omega arith in
       ap (λ m. slice_get (E k m) 0) m
-
-  pub all_from_first : (n : ℕ) → E 0 (n - 0) ≡ E 0 n
-  all_from_first n = let m : n - 0 ≡ n = omega arith in ap (E 0) m

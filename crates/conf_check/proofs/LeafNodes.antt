@@ -1,5 +1,5 @@
 -- The nodes of the leaves of an entry.
-use Rattle.std.proofs.Common.{◌≡◌, ◌≢◌, ◌+◌, ◌<◌, ◌≤◌, ℕ, zero, suc, false, List, [], ◌∷◌, Option, Some, None, option_map, map, length, slice_get, refl, sym, ap, ◌∙◌, arith, add-one}
+use Rattle.std.proofs.Common.{◌≡◌, ◌+◌, ◌<◌, ◌≤◌, ℕ, false, List, [], Option, Some, None, option_map, map, length, slice_get, refl, sym, ap, ◌∙◌, arith, add-one}
 use Rattle.std.specs.Option.{option_map_or}
 use Rattle.std.specs.Str.{bytes_eq}
 use Rattle.std.proofs.lemmas.Option.{slice_get_past, slice_get-map}
@@ -17,11 +17,6 @@ use Rattle.conf_check.proofs.ShapedEntries.{entry_shaped, entry_unshaped}
 
 some_same : {A : Type 0} (x y : A) → Some x ≡ Some y → x ≡ y
 some_same x y e = cc
-
--- a leaf is the only one of its name
-pub behind_one : {A : Type 0} (x : A) (i : ℕ) → i ≢ 0 → None ≡ slice_get (x ∷ []) i
-behind_one x zero not = absurd (not refl)
-behind_one x (suc i) not = refl
 
 module _ (t k l : ℕ) where
   abbrev item : ℕ → Node

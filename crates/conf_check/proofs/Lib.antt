@@ -1,14 +1,17 @@
 mod Belonged
+mod BelongingsTold
 mod Breaches
 mod Coming
 mod Entries
 mod EntryBreaches
 mod EntryFaults
 mod EntryNodes
+mod EntryPlaces
 mod FalseMusts
 mod FirstFaults
 mod Found
 mod Judged
+mod KeptShapes
 mod Keys
 mod LeafNodes
 mod ListPairs

@@ -7,19 +7,16 @@ use Rattle.conf_doc.specs.declared.configuration.Table.{Table}
 use Rattle.yang_model.specs.ModelSets.{ModelSet}
 use Rattle.yang_model.specs.declared.shapes.Shape.{Shape}
 use Rattle.conf_check.specs.FirstWants.{AreOfOneEntry, IsFirstOfEntry, IsTextBefore, IsFirstText, IsWantedIn, IsWantedAt, IsFirstWant, start_of}
-use Rattle.conf_check.specs.Rows.{Row, row_of, row_at, HasShape, HasNoShape}
+use Rattle.conf_check.specs.Rows.{Row, row_of, row_at, HasShape}
 use Rattle.conf_check.specs.Wants.{Want, want_of, IsPlaceBefore, IsWantAt}
 use Rattle.conf_check.specs.declared.first_wants.SlotWant.{SlotWant}
 use Rattle.conf_check.specs.declared.want_iter.WantAt.{WantAt}
 use Rattle.conf_check.specs.declared.want_iter.WantPlace.{WantPlace}
 use Rattle.conf_check.proofs.RowPlaces.{past_keys, past_tables, row_only, row_there}
-use Rattle.conf_check.proofs.Shaped.{shape_once, not_both}
+use Rattle.conf_check.proofs.Shaped.{shape_once}
 
 -- an entry wants what its texts want by its shape
 module _ (models : ModelSet) (config : Config) (row : Row) where
-  pub at_no_shape : (field : Option ℕ) (item : ℕ) → HasNoShape models row → IsFirstText (IsWantedAt models config row) field item None
-  at_no_shape field item none f i w not wanted = not_both models row wanted.shape wanted.shaped none
-
   to_shape : (shape : Shape) → HasShape models row shape → (f : Option ℕ) (i : ℕ) (w : Want) → IsWantedAt models config row f i w → IsWantedIn models config shape row f i w
   to_shape shape has f i w wanted =
       subst (λ s. IsWantedIn models config s row f i w) (shape_once models row wanted.shape shape wanted.shaped has) wanted.wanted
@@ -79,16 +76,6 @@ text_between (Some f) (Some g) (Some h) i j m not lt =
 
 -- the wants of the entry at a place
 module _ (models : ModelSet) (config : Config) (at : WantPlace) where
-  pub none_past_table : length config ≤ at.table → IsFirstOfEntry models config at None
-  none_past_table past p w same not wanted =
-      past_tables models config p.table p.key (omega (arith, same.0)) wanted.row wanted.at
-
-  pub none_past_key : (table : List ℕ × Table) → slice_get config at.table ≡ Some table → length table.1 ≤ at.key
-      → IsFirstOfEntry models config at None
-  none_past_key table is past p w same not wanted =
-      past_keys models config p.table p.key table (subst (λ n. slice_get config n ≡ Some table) (sym same.0) is)
-      (omega (arith, same.1)) wanted.row wanted.at
-
   module _ (table : List ℕ × Table) (entry : List ℕ × Entry) (is : slice_get config at.table ≡ Some table) (is_key : slice_get table.1 at.key ≡ Some entry) where
     abbrev row : Row
     row = row_of table.0 entry.0 entry.1

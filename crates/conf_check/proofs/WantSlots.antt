@@ -1,5 +1,5 @@
 -- The first want of the fields of an entry, and of the entry.
-use Rattle.std.proofs.Common.{◌≡◌, ◌<◌, ◌≤◌, ◌+◌, ℕ, List, Option, Some, None, length, slice_get, option_map, refl, sym, ap, subst, inl, inr, arith}
+use Rattle.std.proofs.Common.{◌≡◌, ◌<◌, ◌≤◌, ◌+◌, ℕ, List, Option, Some, None, length, slice_get, option_map, refl, sym, subst, inl, inr, arith}
 use Rattle.std.proofs.lemmas.Bool.{cases_lt}
 use Rattle.std.proofs.lemmas.Option.{slice_get_past}
 use denote.Ref.{Bor}
@@ -9,10 +9,9 @@ use Rattle.conf_doc.specs.declared.configuration.Value.{Value}
 use Rattle.yang_model.specs.ModelSets.{ModelSet}
 use Rattle.yang_model.specs.declared.shapes.Shape.{Shape}
 use Rattle.yang_types.specs.DataType.{DataType}
-use Rattle.conf_check.specs.FirstWants.{IsFirstFrom, IsWantedItemOf, IsWantedPart, IsWantedSlot, IsSlotFrom, IsSlotBefore, IsFirstInFields, IsTextBefore, IsFirstText, IsWantedIn, item_of}
+use Rattle.conf_check.specs.FirstWants.{IsFirstFrom, IsWantedItemOf, IsWantedPart, IsWantedSlot, IsSlotFrom, IsFirstInFields, IsTextBefore, IsFirstText, IsWantedIn, item_of}
 use Rattle.conf_check.specs.Rows.{Row, typed_item}
 use Rattle.conf_check.specs.Wants.{Want, want_of, IsWantedText}
-use Rattle.conf_check.specs.declared.first_wants.FieldWant.{FieldWant}
 use Rattle.conf_check.specs.declared.first_wants.ItemWant.{ItemWant}
 use Rattle.conf_check.specs.declared.first_wants.SlotWant.{SlotWant}
 
@@ -47,9 +46,6 @@ module _ (models : ModelSet) (config : Config) (shape : Shape) (fields : Entry) 
     to = λ j h. elim h [ inl lt ↦ absurd (omega arith) | inr p ↦ p.1 ];
     back = λ j h. inr (refl, h);
   }
-
-  pub begin_none : NoneBefore from
-  begin_none g j w h lt wanted = elim h [ inl more ↦ omega arith | inr p ↦ omega (arith, p.0) ]
 
   pub begin_next : (f : ℕ) → from ≤ f → BeginsWith (f + 1) 0
   begin_next f ge = record { to = λ j h. omega arith; back = λ j h. inl (omega arith) }
@@ -93,34 +89,8 @@ module _ (models : ModelSet) (config : Config) (shape : Shape) (fields : Entry) 
         | inr more ↦ no_slot g j w (omega arith) wanted
       ]
 
--- places among fields, and among the texts of an entry
-from_text : (g i f item : ℕ) → ¬ IsTextBefore (Some g) i (Some f) item → IsSlotFrom f item g i
-from_text g i f item not =
-    elim (cases_lt f g) [
-      | inl less ↦ inl less
-      | inr more ↦ elim (cases_lt g f) [
-        | inl before ↦ absurd (not (inl before))
-        | inr same ↦
-            let e : f ≡ g = omega arith in
-            elim (cases_lt i item) [
-              | inl less ↦ absurd (not (inr (ap Some (sym e), less)))
-              | inr le ↦ inr (e, le)
-            ]
-      ]
-    ]
-
 some_same : (a b : ℕ) → Some a ≡ Some b → a ≡ b
 some_same a b e = cc
-
-to_text : (g i f item : ℕ) → IsSlotFrom f item g i → ¬ IsTextBefore (Some g) i (Some f) item
-to_text g i f item (inl lt) (inl before) = omega arith
-to_text g i f item (inl lt) (inr p) = let e : g ≡ f = some_same g f p.0 in omega arith
-to_text g i f item (inr q) (inl before) = omega (arith, q.0)
-to_text g i f item (inr q) (inr p) = omega (arith, q.1, p.1)
-
-text_before : (g j f i : ℕ) → IsTextBefore (Some g) j (Some f) i → IsSlotBefore g j f i
-text_before g j f i (inl lt) = inl lt
-text_before g j f i (inr p) = inr (some_same g f p.0, p.1)
 
 not_first : (g i : ℕ) → ¬ IsTextBefore (Some g) i (Some 0) 0
 not_first g i (inl lt) = omega arith
@@ -134,39 +104,6 @@ field_behind (Some f) i item not (inr p) = let e = p.0 in cc
 module _ (models : ModelSet) (config : Config) (shape : Shape) (row : Row) where
   abbrev W : Option ℕ → ℕ → Want → Type 0
   W = IsWantedIn models config shape row
-
-  -- from a field on
-  pub from_field_some : (f item : ℕ) (a : FieldWant) → IsFirstInFields models config shape row.fields f item (Some a)
-      → IsFirstText W (Some f) item (Some (record { field = Some a.field; name = Some a.name; item = a.item; want = a.want }))
-  from_field_some f item a first = (
-    to_text a.field a.item f item first.0,
-    first.1,
-    λ g i w. before g i w,
-  )
-    where
-      before : (g : Option ℕ) (i : ℕ) (w : Want) → ¬ IsTextBefore g i (Some f) item → IsTextBefore g i (Some a.field) a.item → ¬ W g i w
-      before None i w not lt wanted = not (inl tt)
-      before (Some g) i w not lt wanted = first.2 g i w (from_text g i f item not) (text_before g i a.field a.item lt) wanted
-
-  pub from_field_none : (f item : ℕ) → IsFirstInFields models config shape row.fields f item None → IsFirstText W (Some f) item None
-  from_field_none f item none None i w not wanted = not (inl tt)
-  from_field_none f item none (Some g) i w not wanted = none g i w (from_text g i f item not) wanted
-
-  -- a part of the key
-  pub from_part : (item : ℕ) (a : ItemWant) → IsFirstFrom (IsWantedPart models config shape row.key) item (Some a)
-      → IsFirstText W None item (Some (record { field = None; name = None; item = a.item; want = a.want }))
-  from_part item a first = (part_from, first.1, λ g i w. before g i w)
-    where
-      part_from : ¬ IsTextBefore None a.item None item
-      part_from (inl h) = h
-      part_from (inr p) = omega (arith, first.0, p.1)
-
-      before : (g : Option ℕ) (i : ℕ) (w : Want) → ¬ IsTextBefore g i None item → IsTextBefore g i None a.item → ¬ W g i w
-      before None i w not (inl h) wanted = h
-      before None i w not (inr p) wanted =
-          elim (cases_lt i item) [ inl less ↦ not (inr (refl, less)) | inr ge ↦ first.2 i w ge p.1 wanted ]
-      before (Some g) i w not (inl h) wanted = h
-      before (Some g) i w not (inr p) wanted = let e = p.0 in cc
 
   -- no part of the key, then the fields
   no_part : (item : ℕ) → IsFirstFrom (IsWantedPart models config shape row.key) item None → (g : Option ℕ) (i : ℕ) (w : Want)

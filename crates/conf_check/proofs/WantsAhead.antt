@@ -1,7 +1,9 @@
 -- Which wants are ahead of an iterator, before and after one is handed out.
 use Rattle.std.proofs.Common.{◌≡◌, ◌⊎◌, ◌↔◌, ℕ, true, false, List, Option, Some, None, length, sym, ap, ◌∙◌, subst, inl, inr, arith}
 use Rattle.std.proofs.lemmas.Bool.{false≢true}
-use Rattle.conf_check.specs.FirstWants.{IsFirstOfEntry, IsFirstWant, start_of}
+use Rattle.conf_doc.specs.declared.configuration.Config.{Config}
+use Rattle.conf_check.specs.EntryShapes.{IsShapeAt}
+use Rattle.conf_check.specs.FirstWants.{AreOfOneEntry, IsFirstOfEntry, IsFirstWant, start_of}
 use Rattle.conf_check.specs.Rows.{IsEntryAt}
 use Rattle.conf_check.specs.WantRuns.{after, GivesFirst, IsAhead, IsFirstAhead, IsWantAhead}
 use Rattle.conf_check.specs.Wants.{Want, want_of, IsNamed, IsPlaceBefore, IsWantAt}
@@ -30,14 +32,26 @@ module _ (s : WantIter) where
     λ p w wanted lt. first.3 p w (wanted.0.within one) wanted.0.behind lt wanted.1,
   )
 
-  abbrev moved : WantPlace → WantIter
-  moved place = record { models = s.models; config = s.config; from = after place; one_entry = s.one_entry }
+  -- the shape that is kept is that of the entry at a place
+  abbrev Keeps : WantPlace → Type 0
+  Keeps place = s.one_entry ≡ true → ∥ IsShapeAt s.models.now s.config.now place.table place.key s.shape ∥₁
+
+  -- it is that of a further place of the entry
+  pub shape_stays : (place : WantPlace) → (s.one_entry ≡ true → AreOfOneEntry place s.from) → Keeps place
+  shape_stays place within one =
+      subst (λ k. ∥ IsShapeAt s.models.now s.config.now place.table k s.shape ∥₁) (sym (within one).1)
+      (subst (λ t. ∥ IsShapeAt s.models.now s.config.now t s.from.key s.shape ∥₁) (sym (within one).0) (s.shaped one))
+
+  abbrev moved : (place : WantPlace) → Keeps place → WantIter
+  moved place keeps =
+      record { models = s.models; config = s.config; from = after place; one_entry = s.one_entry; shape = s.shape; shaped = keeps }
 
   -- it is handed out
-  pub given : (place : WantPlace) (a : WantAt) → IsFirstAhead s (Some (place, a)) → IsNamed s.config.now place a → GivesFirst s a (moved place)
-  given place a first named = record { place = place; named = named; wanted = first.0; others = others; behind = behind }
+  pub given : (place : WantPlace) (keeps : Keeps place) (a : WantAt) → IsFirstAhead s (Some (place, a)) → IsNamed s.config.now place a
+      → GivesFirst s a (moved place keeps)
+  given place keeps a first named = record { place = place; named = named; wanted = first.0; others = others; behind = behind }
     where
-      still : (p : WantPlace) → IsAhead s p → IsPlaceBefore place p → IsAhead (moved place) p
+      still : (p : WantPlace) → IsAhead s p → IsPlaceBefore place p → IsAhead (moved place keeps) p
       still p ahead lt = record {
         behind = after_behind place p lt;
         within = λ one. (
@@ -46,7 +60,7 @@ module _ (s : WantIter) where
         );
       }
 
-      others : (p : WantPlace) (w : Want) → IsWantAhead s p w → ((p ≡ place) × (w ≡ want_of a.want)) ⊎ IsWantAhead (moved place) p w
+      others : (p : WantPlace) (w : Want) → IsWantAhead s p w → ((p ≡ place) × (w ≡ want_of a.want)) ⊎ IsWantAhead (moved place keeps) p w
       others p w wanted =
           elim (place_cases p place) [
             | inl lt ↦ absurd (first.1 p w wanted lt)
@@ -57,7 +71,7 @@ module _ (s : WantIter) where
             ]
           ]
 
-      behind : (p : WantPlace) (w : Want) → IsWantAhead (moved place) p w → IsPlaceBefore place p × IsWantAhead s p w
+      behind : (p : WantPlace) (w : Want) → IsWantAhead (moved place keeps) p w → IsPlaceBefore place p × IsWantAhead s p w
       behind p w wanted =
           let lt : IsPlaceBefore place p = behind_after place p wanted.0.behind in (
             lt,
@@ -94,10 +108,10 @@ module _ (s : WantIter) where
   )
 
   module _ (one : s.one_entry ≡ true) (table key : List ℕ) where
-    pub entry_ahead : (t k : ℕ) → s.from ≡ start_of t k
-        → ((u l : ℕ) → IsEntryAt s.config.now table key u l ↔ (u ≡ t) × (l ≡ k))
-        → (p : WantPlace) (w : Want) → IsWantAhead s p w ↔ (IsEntryAt s.config.now table key p.table p.key × IsWantAt s.models.now s.config.now p w)
-    entry_ahead t k from placed p w = (
+    pub entry_ahead : (config : Config) (t k : ℕ) → s.from ≡ start_of t k
+        → ((u l : ℕ) → IsEntryAt config table key u l ↔ (u ≡ t) × (l ≡ k))
+        → (p : WantPlace) (w : Want) → IsWantAhead s p w ↔ (IsEntryAt config table key p.table p.key × IsWantAt s.models.now s.config.now p w)
+    entry_ahead config t k from placed p w = (
       λ wanted.
           let same = wanted.0.within one in
           ((placed p.table p.key).1 (same.0 ∙ ap (λ (q : WantPlace). q.table) from, same.1 ∙ ap (λ (q : WantPlace). q.key) from), wanted.1),
@@ -111,9 +125,9 @@ module _ (s : WantIter) where
           ),
     )
 
-    pub absent_ahead : s.from ≡ start_of (length s.config.now) 0 → ((u l : ℕ) → ¬ IsEntryAt s.config.now table key u l)
-        → (p : WantPlace) (w : Want) → IsWantAhead s p w ↔ (IsEntryAt s.config.now table key p.table p.key × IsWantAt s.models.now s.config.now p w)
-    absent_ahead from absent p w = (
+    pub absent_ahead : (config : Config) → s.from ≡ start_of (length s.config.now) 0 → ((u l : ℕ) → ¬ IsEntryAt config table key u l)
+        → (p : WantPlace) (w : Want) → IsWantAhead s p w ↔ (IsEntryAt config table key p.table p.key × IsWantAt s.models.now s.config.now p w)
+    absent_ahead config from absent p w = (
       λ wanted.
           let same : p.table ≡ length s.config.now = (wanted.0.within one).0 ∙ ap (λ (q : WantPlace). q.table) from in
           absurd (past_tables s.models.now s.config.now p.table p.key (omega (arith, same)) wanted.1.row wanted.1.at),

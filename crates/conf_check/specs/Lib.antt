@@ -9,6 +9,7 @@ pub mod Validity
 pub mod WantRuns
 pub mod Wants
 -- What only private clauses cite.
+pub mod EntryShapes
 pub mod Faults
 pub mod NodeTrees
 pub mod Verdicts

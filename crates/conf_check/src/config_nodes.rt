@@ -2,7 +2,7 @@
 ghost use Rattle.std.specs.Prelude.{◌≡◌};
 ghost use Rattle.conf_check.specs.Belongings.{Known, Known-once};
 
-use crate::belongings::learn_config;
+use crate::belongings::belongings_are_one;
 use conf_doc::Config;
 use yang_model::Models;
 
@@ -19,6 +19,6 @@ pub(crate) fn nodes_of<'a>(models: &'a Models, config: &'a Config) -> ConfigNode
     ensures models { result.models.now ≡ models.now }
     ensures config { result.config.now ≡ config.now }
 {
-    learn_config(models, config);
+    belongings_are_one(models, config);
     ConfigNodes { models, config }
 }

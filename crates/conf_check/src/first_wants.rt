@@ -1,12 +1,13 @@
 //! The first want of a text, of an entry and of a configuration, from a place on.
 ghost use Rattle.std.specs.Prelude.{◌≡◌, ◌+◌, ◌<◌, ◌^◌, ◌∷◌, [], option_map, map, slice_get, Some, IfSome};
-ghost use Rattle.conf_check.specs.FirstWants.{IsFieldNamed, IsFirstFrom, IsFirstInFields, IsFirstOfEntry, IsFirstText, IsFirstWant, IsWantOf, IsWantOfText, IsWantedAt, IsWantedIn, IsWantedItem, IsWantedItemOf, IsWantedPart, start_of, typed_by};
+ghost use Rattle.conf_check.specs.EntryShapes.{IsShapeAt};
+ghost use Rattle.conf_check.specs.FirstWants.{IsFieldNamed, IsFirstFrom, IsFirstInFields, IsFirstOfEntry, IsFirstText, IsFirstWant, IsWantOf, IsWantOfText, IsWantedIn, IsWantedItem, IsWantedItemOf, IsWantedPart, start_of, typed_by};
 ghost use Rattle.conf_check.specs.Rows.{row_of};
 ghost use Rattle.conf_check.specs.Wants.{IsNamed};
 ghost use Rattle.yang_types.specs.DataTypes.{data_type};
 
 use crate::acceptance::{Verdict, judge};
-use crate::rows::{rule_of_field, shape_of};
+use crate::rows::{rule_of_field, shape_at_place};
 use crate::want_iter::{Want, WantAt, WantPlace};
 use conf_doc::{Config, Entry, Value};
 use host_core::Txt;
@@ -250,33 +251,14 @@ fn first_in_entry<'a>(
     }
 }
 
-/// The first want of an entry from a part of the key, or a field and an item, on.
-fn first_at<'a>(
-    models: &'a Models,
-    config: &Config,
-    table: &str,
-    key: &'a str,
-    fields: &'a Entry,
-    field: Option<usize>,
-    item: usize,
-) -> Option<SlotWant<'a>>
-    ensures first { let row = row_of table.now key.now fields.now in
-        IsFirstText (IsWantedAt models.now config.now row) field item result }
-    ensures named { IfSome result (λ a. IsFieldNamed fields.now a.field a.name) }
-    ensures small { IfSome result (λ a. a.item + 1 < 2 ^ 64) }
-{
-    match shape_of(models, table, key) {
-        Some(shape) => first_in_entry(models, config, shape, key, fields, field, item),
-        None => None,
-    }
-}
-
-/// The first want of the entry at a place, from that place on. None where there is no entry.
-pub(crate) fn first_of_entry<'a>(
-    models: &'a Models,
+/// The first want of the entry of a shape at a place, from that place on. None where there is no entry.
+fn first_of_shape<'a>(
+    models: &Models,
     config: &'a Config,
+    shape: &'a Shape,
     from: WantPlace,
 ) -> Option<(WantPlace, WantAt<'a>)>
+    requires { IsShapeAt models.now config.now from.table from.key (Some shape) }
     ensures first { IsFirstOfEntry models.now config.now from result }
     ensures named { IfSome result (λ a. IsNamed config.now a.0 a.1) }
     ensures small { IfSome result (λ a. a.0.item + 1 < 2 ^ 64) }
@@ -291,7 +273,7 @@ pub(crate) fn first_of_entry<'a>(
     let name = config.name_at(from.table);
     let key = table.name_at(from.key);
     let fields = table.part_at(from.key);
-    match first_at(models, config, name, key, fields, from.field, from.item) {
+    match first_in_entry(models, config, shape, key, fields, from.field, from.item) {
         Some(found) => {
             let place = WantPlace {
                 table: from.table,
@@ -310,6 +292,38 @@ pub(crate) fn first_of_entry<'a>(
         }
         None => None,
     }
+}
+
+/// The first want of the entry at a place, whose shape is known, from that place on.
+pub(crate) fn first_by_shape<'a>(
+    models: &Models,
+    config: &'a Config,
+    shape: Option<&'a Shape>,
+    from: WantPlace,
+) -> Option<(WantPlace, WantAt<'a>)>
+    requires { IsShapeAt models.now config.now from.table from.key shape }
+    ensures first { IsFirstOfEntry models.now config.now from result }
+    ensures named { IfSome result (λ a. IsNamed config.now a.0 a.1) }
+    ensures small { IfSome result (λ a. a.0.item + 1 < 2 ^ 64) }
+{
+    match shape {
+        Some(shape) => first_of_shape(models, config, shape, from),
+        None => None,
+    }
+}
+
+/// The first want of the entry at a place, from that place on. None where there is no entry.
+fn first_of_entry<'a>(
+    models: &'a Models,
+    config: &'a Config,
+    from: WantPlace,
+) -> Option<(WantPlace, WantAt<'a>)>
+    ensures first { IsFirstOfEntry models.now config.now from result }
+    ensures named { IfSome result (λ a. IsNamed config.now a.0 a.1) }
+    ensures small { IfSome result (λ a. a.0.item + 1 < 2 ^ 64) }
+{
+    let shape = shape_at_place(models, config, from.table, from.key);
+    first_by_shape(models, config, shape, from)
 }
 
 /// The first want of a configuration from a place on.

@@ -17,10 +17,12 @@ mod rows;
 mod tree_nodes;
 mod violations;
 mod want_iter;
+mod want_runs;
 
 pub use acceptance::is_satisfied;
 pub use belongings::belongings_are_one;
 pub use checking::{check, check_entry};
 pub use laws::musts_have_one_truth;
 pub use violations::{Rule, Violation};
-pub use want_iter::{Want, WantAt, WantIter, WantPlace, entry_wants, wants};
+pub use want_iter::{Want, WantAt, WantIter, WantPlace};
+pub use want_runs::{entry_wants, wants};

@@ -1,24 +1,41 @@
 //! The shapes of entries and the rules of their fields.
-ghost use Rattle.std.specs.Prelude.{◌≡◌, None, option_copied, MatchOption};
+ghost use Rattle.std.specs.Prelude.{◌≡◌, option_copied};
 ghost use Rattle.std.specs.List.{find};
 ghost use Rattle.std.specs.Str.{bytes_eq};
-ghost use Rattle.conf_check.specs.Rows.{IsShapeOf, is_key_leaf, rule_of};
-ghost use Rattle.yang_model.specs.Belongs.{Belongs};
-ghost use Rattle.yang_model.specs.ModelSets.{shapes_of};
+ghost use Rattle.conf_check.specs.EntryShapes.{IsShapeAt, IsShapeFound};
+ghost use Rattle.conf_check.specs.Rows.{is_key_leaf, rule_of};
 
+use conf_doc::Config;
 use key_split::KeyView;
 use yang_model::{FieldRule, Models, Shape};
 
 /// The shape that an entry of a table belongs to by its key.
 pub(crate) fn shape_of<'a>(models: &'a Models, table: &str, key: &str) -> Option<&'a Shape>
-    ensures { MatchOption result
-        (Belongs (shapes_of table.now models.now) key.now None)
-        (λ shape. IsShapeOf models.now table.now key.now shape.now) }
+    ensures { IsShapeFound models.now table.now key.now result }
 {
     match models.list_of(table, &KeyView::new(key)) {
         Some(place) => models.shape_at(table, place),
         None => None,
     }
+}
+
+/// The shape that the entry at a place belongs to by its key. None where there is no entry.
+pub(crate) fn shape_at_place<'a>(
+    models: &'a Models,
+    config: &Config,
+    table: usize,
+    key: usize,
+) -> Option<&'a Shape>
+    ensures { IsShapeAt models.now config.now table key result }
+{
+    if table >= config.len() {
+        return None;
+    }
+    let entries = config.part_at(table);
+    if key >= entries.len() {
+        return None;
+    }
+    shape_of(models, config.name_at(table), entries.name_at(key))
 }
 
 /// Whether a name is that of a key leaf.

@@ -1,14 +1,14 @@
-//! The wants of a configuration, handed out one after another.
-ghost use Rattle.std.specs.Prelude.{◌≡◌, ◌↔◌, ◌<◌, ◌+◌, ◌^◌, IfSome};
-ghost use Rattle.conf_check.specs.Rows.{IsEntryAt};
-ghost use Rattle.conf_check.specs.WantRuns.{AreSmall, IsFirstAhead, IsWantAhead};
-ghost use Rattle.conf_check.specs.Wants.{IsNamed, IsWantAt, want_of};
+//! An iterator over wants, which hands them out one after another.
+ghost use Rattle.std.specs.Prelude.{◌≡◌, ◌<◌, ◌+◌, ◌^◌, true, false, IfSome};
+ghost use Rattle.conf_check.specs.EntryShapes.{IsShapeAt};
+ghost use Rattle.conf_check.specs.FirstWants.{start_of};
+ghost use Rattle.conf_check.specs.Wants.{IsNamed, want_of};
 
-use crate::first_wants::{first_of_entry, first_want, start_of_entry};
-use crate::name_places::place_of_entry;
+use crate::first_wants::{first_by_shape, first_want, start_of_entry};
+use crate::rows::shape_at_place;
 use conf_doc::Config;
-use yang_model::Models;
-use yang_types::Target;
+use yang_model::{Models, Shape};
+use yang_types::{Target, texts_are_decided};
 
 /// Where a text stands that has a want: a table, a key and a field by their positions in the
 /// configuration, and the number of an item of the field, or with no field of a part of the key.
@@ -50,6 +50,10 @@ pub struct WantIter<'a> {
     from: WantPlace,
     /// Whether only the wants of the entry at the place are handed out.
     one_entry: bool,
+    /// The shape of that one entry, which is found once. None where it belongs to none.
+    shape: Option<&'a Shape>,
+    ghost shaped: { one_entry ≡ true
+        → ∥ IsShapeAt models.now config.now from.table from.key shape ∥₁ },
 }
 
 impl<'a> Want<'a> {
@@ -67,6 +71,41 @@ impl<'a> Want<'a> {
 }
 
 impl<'a> WantIter<'a> {
+    ghost use Rattle.conf_check.specs.WantRuns.{IsFirstAhead};
+
+    /// The wants of a configuration.
+    pub(crate) fn of_configuration(models: &'a Models, config: &'a Config) -> WantIter<'a>
+        ensures models { result.models.now ≡ models.now }
+        ensures config { result.config.now ≡ config.now }
+        ensures from { result.from ≡ start_of 0 0 }
+        ensures whole { result.one_entry ≡ false }
+    {
+        WantIter {
+            models,
+            config,
+            from: start_of_entry(0, 0),
+            one_entry: false,
+            shape: None,
+        }
+    }
+
+    /// The wants of the entry at a place, from that place on.
+    pub(crate) fn of_entry(models: &'a Models, config: &'a Config, from: WantPlace) -> WantIter<'a>
+        ensures models { result.models.now ≡ models.now }
+        ensures config { result.config.now ≡ config.now }
+        ensures from { result.from ≡ from }
+        ensures one { result.one_entry ≡ true }
+    {
+        let shape = shape_at_place(models, config, from.table, from.key);
+        WantIter {
+            models,
+            config,
+            from,
+            one_entry: true,
+            shape,
+        }
+    }
+
     /// The first want ahead.
     fn first_ahead(&self) -> Option<(WantPlace, WantAt<'a>)>
         ensures first { IsFirstAhead self.now result }
@@ -74,53 +113,11 @@ impl<'a> WantIter<'a> {
         ensures small { IfSome result (λ a. a.0.item + 1 < 2 ^ 64) }
     {
         if self.one_entry {
-            first_of_entry(self.models, self.config, self.from)
+            texts_are_decided();
+            first_by_shape(self.models, self.config, self.shape, self.from)
         } else {
             first_want(self.models, self.config, self.from)
         }
-    }
-}
-
-/// The wants of a configuration, in the order of tables, keys, parts of the key, fields and items. They
-/// are borrows: no memory is taken.
-pub fn wants<'a>(models: &'a Models, config: &'a Config) -> WantIter<'a>
-    ensures models { result.models.now ≡ models.now }
-    ensures config { result.config.now ≡ config.now }
-    ensures ahead { (p w : _) →
-        IsWantAt models.now config.now p w → IsWantAhead result p w }
-{
-    WantIter {
-        models,
-        config,
-        from: start_of_entry(0, 0),
-        one_entry: false,
-    }
-}
-
-/// The wants of the entry of a key of a table, in the order of parts of the key, fields and items. An
-/// entry that isn't there has none, and one of a table without a model has none. They are borrows: no
-/// memory is taken.
-pub fn entry_wants<'a>(
-    models: &'a Models,
-    config: &'a Config,
-    table: &str,
-    key: &str,
-) -> WantIter<'a>
-    ensures models { result.models.now ≡ models.now }
-    ensures config { result.config.now ≡ config.now }
-    ensures ahead { (p w : _) → IsWantAhead result p w
-        ↔ (IsEntryAt config.now table.now key.now p.table p.key
-        × IsWantAt models.now config.now p w) }
-{
-    let from = match place_of_entry(config, table, key) {
-        Some((table, key)) => start_of_entry(table, key),
-        None => start_of_entry(config.len(), 0),
-    };
-    WantIter {
-        models,
-        config,
-        from,
-        one_entry: true,
     }
 }
 
@@ -129,17 +126,21 @@ fn is_small(_number: usize)
     ensures { _number < 2 ^ 64 }
 {}
 
-/// The numbers of a place are a machine's. The body reads them and does nothing else: the law is the
-/// contract.
-fn are_small(place: &WantPlace)
-    ensures { AreSmall place.now }
-{
-    let _table = place.table;
-    let _key = place.key;
-    let _item = place.item;
-    match place.field {
-        Some(field) => is_small(field),
-        None => {}
+impl WantPlace {
+    ghost use Rattle.conf_check.specs.WantRuns.{AreSmall};
+
+    /// The numbers of a place are a machine's. The body reads them and does nothing else: the law is the
+    /// contract.
+    fn has_small_numbers(&self)
+        ensures { AreSmall self.now }
+    {
+        let _table = self.table;
+        let _key = self.key;
+        let _item = self.item;
+        match self.field {
+            Some(field) => is_small(field),
+            None => {}
+        }
     }
 }
 
@@ -154,7 +155,7 @@ impl<'a> Iterator for WantIter<'a> {
     ghost remaining = { λ s. at_most (places_left s.from) };
 
     fn next(&mut self) -> Option<WantAt<'a>> {
-        are_small(&self.from);
+        self.from.has_small_numbers();
         let (place, at) = self.first_ahead()?;
         self.from = WantPlace {
             table: place.table,
