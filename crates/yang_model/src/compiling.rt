@@ -38,6 +38,33 @@ fn least_fault(
     Ok(least)
 }
 
+/// The models of some texts, whose names and nodes are found already.
+fn compile_named(
+    alloc: Global,
+    files: &[(Txt, Statements)],
+    names: &Names,
+    tree: &ModelTree,
+) -> Result<Models, ModelError>
+    requires few { length files.now ≤ most_files }
+    requires small { All (λ f. total_weight f.1 ≤ most_statements) files.now }
+    requires named { names.now ≡ modules_of (map (λ f. f.1) files.now) }
+    requires same { tree.now ≡ names.now }
+    ensures models { IfOk result (AreModelsOf (map (λ f. f.1) files.now)) }
+    ensures fault { IfErr result (λ e. IfFault e (IsLeastFaultOf (map (λ f. f.1) files.now))) }
+    ensures file { IfErr result (λ e. IfFault e (λ f. f.file < length files.now)) }
+{
+    // so what is said of the least fault by all readers is said by some
+    readers_exist();
+    match least_fault(alloc, files, names, tree)? {
+        Some(fault) => Err(ModelError::Fault {
+            file: fault.file,
+            line: fault.line,
+            why: fault.why,
+        }),
+        None => Ok(models_of(alloc, names, tree)?),
+    }
+}
+
 /// The models of some texts (RFC 7950, in a profile): for each table its shapes in the order of the
 /// text. Where something is wrong with a text it is the fault of the lowest file, of its lowest line,
 /// and of those the first by name. There are at most 256 files, each of at most 1,048,576 statements.
@@ -49,15 +76,16 @@ pub fn compile(alloc: Global, files: &[(Txt, Statements)]) -> Result<Models, Mod
     ensures file { IfErr result (λ e. IfFault e (λ f. f.file < length files.now)) }
 {
     let names = Names::new(alloc, files)?;
-    let tree = ModelTree::new(alloc, &names)?;
-    // so what is said of the least fault by all readers is said by some
-    readers_exist();
-    match least_fault(alloc, files, &names, &tree)? {
-        Some(fault) => Err(ModelError::Fault {
-            file: fault.file,
-            line: fault.line,
-            why: fault.why,
-        }),
-        None => Ok(models_of(alloc, &names, &tree)?),
+    match ModelTree::new(alloc, &names) {
+        Ok(tree) => {
+            let models = compile_named(alloc, files, &names, &tree);
+            drop(tree);
+            drop(names);
+            models
+        }
+        Err(_) => {
+            drop(names);
+            Err(ModelError::Memory)
+        }
     }
 }

@@ -5,6 +5,7 @@ ghost use Rattle.std.specs.Option.{option_to_list};
 ghost use Rattle.yang_text.specs.Declarations.{block};
 ghost use Rattle.yang_text.specs.Statements.{declaration};
 ghost use Rattle.yang_must.specs.Musts.{must_of};
+ghost use Rattle.yang_must.specs.MustValues.{must_value};
 ghost use Rattle.yang_must.specs.SpotRefs.{spot_at};
 ghost use Rattle.yang_model.specs.Readers.{Gives};
 ghost use Rattle.yang_model.specs.Shapes.{must_rule, must_at, leaf_musts, musts_at};
@@ -12,7 +13,7 @@ ghost use Rattle.yang_model.specs.Shapes.{must_rule, must_at, leaf_musts, musts_
 use crate::shapes::MustRule;
 use host_core::{Memory, Sequence, Txt};
 use std::alloc::Global;
-use yang_must::{ContainerNode, ModelTree, ShapeNode, SpotRef, TableNode, must_of};
+use yang_must::{ContainerNode, ModelTree, MustValue, ShapeNode, SpotRef, TableNode, must_of};
 use yang_text::Statement;
 
 /// The name of a leaf, as a text of its own.
@@ -25,25 +26,39 @@ fn copy_name(alloc: Global, name: &Option<Txt>) -> Result<Option<Txt>, Memory>
     }
 }
 
+/// A must as the rule of the leaf of a name, or of the entry.
+fn rule_of(alloc: Global, leaf: &Option<Txt>, must: MustValue) -> Result<MustRule, Memory>
+    ensures { IfOk result (λ rule. rule ≡ must_rule leaf.now (must_value must)) }
+{
+    match copy_name(alloc, leaf) {
+        Ok(leaf) => Ok(MustRule {
+            leaf,
+            expr: must.expr,
+            reads: must.reads,
+        }),
+        Err(memory) => {
+            drop(must);
+            Err(memory)
+        }
+    }
+}
+
 /// A must of the leaf of a name, or of the entry, where nothing is wrong with it.
 fn must_rule(
     alloc: Global,
     tree: &ModelTree,
     number: usize,
     leaf: &Option<Txt>,
-    spot: SpotRef,
+    spot: &SpotRef,
     statement: &Statement,
 ) -> Result<Option<MustRule>, Memory>
     ensures { IfOk result (λ rule. Gives rule (λ readers. option_map (must_rule leaf.now)
-        (must_of readers.read tree.now number (spot_at spot.entry) (declaration statement.now)))) }
+        (must_of readers.read tree.now number (spot_at spot.now) (declaration statement.now)))) }
 {
-    match must_of(alloc, tree, number, spot, statement)? {
-        Some(must) => Ok(Some(MustRule {
-            leaf: copy_name(alloc, leaf)?,
-            expr: must.expr,
-            reads: must.reads,
-        })),
-        None => Ok(None),
+    match must_of(alloc, tree, number, *spot, statement) {
+        Ok(Some(must)) => Ok(Some(rule_of(alloc, leaf, must)?)),
+        Ok(None) => Ok(None),
+        Err(memory) => Err(memory),
     }
 }
 
@@ -64,17 +79,18 @@ fn push_must(
     tree: &ModelTree,
     number: usize,
     leaf: &Option<Txt>,
-    spot: SpotRef,
+    spot: &SpotRef,
     statement: &Statement,
 ) -> Result<(), Memory>
     ensures { OnOk result (Gives musts.new (λ readers. musts.old ++ must_at tree.now readers number
-        leaf.now (spot_at spot.entry) (declaration statement.now))) }
+        leaf.now (spot_at spot.now) (declaration statement.now))) }
 {
     if statement.keyword.as_str() == "must" {
         let must = must_rule(alloc, tree, number, leaf, spot, statement)?;
-        push_some(musts, must)?;
+        push_some(musts, must)
+    } else {
+        Ok(())
     }
-    Ok(())
 }
 
 /// Adds the musts among some statements at a spot.
@@ -84,11 +100,11 @@ fn push_musts(
     tree: &ModelTree,
     number: usize,
     leaf: &Option<Txt>,
-    spot: SpotRef,
+    spot: &SpotRef,
     statements: &[Statement],
 ) -> Result<(), Memory>
     ensures { OnOk result (Gives musts.new (λ readers. musts.old
-        ++ flat_map (must_at tree.now readers number leaf.now (spot_at spot.entry))
+        ++ flat_map (must_at tree.now readers number leaf.now (spot_at spot.now))
         (map declaration statements.now))) }
 {
     for statement in statements {
@@ -114,7 +130,15 @@ fn push_leaf_musts<'t, 'a>(
         let number = container.number();
         let spot = SpotRef::Leaf(container, table, shape, statement);
         let block = statement.block.items();
-        push_musts(alloc, musts, tree, number, &statement.argument, spot, block)?;
+        push_musts(
+            alloc,
+            musts,
+            tree,
+            number,
+            &statement.argument,
+            &spot,
+            block,
+        )?;
     }
     Ok(())
 }
@@ -133,7 +157,7 @@ fn push_musts_at<'t, 'a>(
         container.now table.now shape.now (declaration statement.now))) }
 {
     let number = container.number();
-    let spot = SpotRef::Shape(container, table, shape);
+    let spot = &SpotRef::Shape(container, table, shape);
     push_must(alloc, musts, tree, number, &None, spot, statement)?;
     push_leaf_musts(alloc, musts, tree, container, table, shape, statement)?;
     Ok(())

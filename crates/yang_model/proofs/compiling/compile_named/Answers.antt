@@ -13,7 +13,7 @@ use Rattle.yang_faults.proofs.FaultFiles.{each_least}
 use Rattle.yang_model.proofs.FaultFiles.{faults_below}
 use Rattle.yang_model.proofs.FaultLess.{no_faults}
 use Rattle.yang_model.proofs.Sizes.{are_small}
-use Rattle.yang_model.proofs.compiling.compile.Goals as goal
+use Rattle.yang_model.proofs.compiling.compile_named.Goals as goal
 
 pub models_of-requires-clause-small : goal.models_of-requires-clause-small
 models_of-requires-clause-small c =
@@ -22,7 +22,7 @@ models_of-requires-clause-small c =
     let few : length ds ≤ most_files = omega (arith, length-map files (λ f. f.1), c.requires.few) in
     let light : All (λ d. total_weight d ≤ most_statements) ds = All-map (λ d. total_weight d ≤ most_statements) (λ f. f.1) files c.requires.small in
     let P : List Module → Type 0 = λ ms. All IsSmall (containers_of ms) in
-    subst P (sym (c.in_ok-tree.ensures ∙ c.in_ok-names.ensures)) (are_small ds few light)
+    subst P (sym (c.requires.same ∙ c.requires.named)) (are_small ds few light)
 
 pub models_of-requires-clause-files : goal.models_of-requires-clause-files
 models_of-requires-clause-files c = λ models gives.
@@ -32,14 +32,14 @@ models_of-requires-clause-files c = λ models gives.
       files = ds;
       readers = readers;
       none = no_faults (faults readers ds) (sym c.in-None.is ∙ c.in_ok-fault.ensures readers are);
-      are = gives readers are ∙ ap (λ (ms : List Module). models_of ms readers) c.in_ok-names.ensures;
+      are = gives readers are ∙ ap (λ (ms : List Module). models_of ms readers) c.requires.named;
     }
 
-pub returns-clause-models : goal.returns-clause-models
-returns-clause-models c = λ readers is.
+pub returns-in_ok-models_of-in-None-clause-models : goal.returns-in_ok-models_of-in-None-clause-models
+returns-in_ok-models_of-in-None-clause-models c = λ readers is.
     let ds : List (List Declaration) = map (λ f. f.1) c.args.files.now in (
       no_faults (faults readers ds) (sym c.in-None.is ∙ c.in_ok-fault.ensures readers is),
-      c.in_ok-models_of-in-None.ensures readers is ∙ ap (λ (ms : List Module). models_of ms readers) c.in_ok-names.ensures,
+      c.in_ok-models_of-in-None.ensures readers is ∙ ap (λ (ms : List Module). models_of ms readers) c.requires.named,
     )
 
 pub returns-in-Some-clause-file : goal.returns-in-Some-clause-file
