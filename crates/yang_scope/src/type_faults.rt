@@ -61,12 +61,14 @@ fn note_if_pattern(
         (bad_if_pattern is_pattern file (declaration statement.now))) }
 {
     match (statement.keyword.as_str(), &statement.argument) {
-        ("pattern", Some(text)) => {
-            if !is_pattern(alloc, text.as_str())? {
+        ("pattern", Some(text)) => match is_pattern(alloc, text.as_str()) {
+            Ok(true) => Ok(()),
+            Ok(false) => {
                 note(least, file, statement.line, ModelWhy::BadPattern);
+                Ok(())
             }
-            Ok(())
-        }
+            Err(failed) => Err(failed),
+        },
         _ => Ok(()),
     }
 }
@@ -103,10 +105,16 @@ fn note_path(
 {
     if !is_path(alloc, text)? {
         note(least, file, statement.line, ModelWhy::BadArgument);
-    } else if names.path_end(alloc, number, text)?.is_none() {
-        note(least, file, statement.line, ModelWhy::UnknownName);
+        return Ok(());
     }
-    Ok(())
+    match names.path_end(alloc, number, text) {
+        Ok(Some(_)) => Ok(()),
+        Ok(None) => {
+            note(least, file, statement.line, ModelWhy::UnknownName);
+            Ok(())
+        }
+        Err(failed) => Err(failed),
+    }
 }
 
 /// A statement that is a path, and what is wrong with it.
