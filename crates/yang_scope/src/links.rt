@@ -64,7 +64,8 @@ fn double(alloc: Global, links: &[Sequence<Meaning>]) -> Result<Links, Memory>
 {
     let mut next = Sequence::new(alloc);
     for row in links {
-        next.push(double_row(alloc, links, row.items())?)?;
+        let doubled = double_row(alloc, links, row.items())?;
+        next.push(doubled)?;
     }
     Ok(next)
 }
@@ -93,7 +94,8 @@ fn first_links(alloc: Global, set: &ModuleSet) -> Result<Links, Memory>
 {
     let mut links = Sequence::new(alloc);
     for (number, module) in set.items().iter().enumerate() {
-        links.push(first_row(alloc, set, number, module.statement().block.items())?)?;
+        let row = first_row(alloc, set, number, module.statement().block.items())?;
+        links.push(row)?;
     }
     Ok(links)
 }

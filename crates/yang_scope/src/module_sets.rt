@@ -83,7 +83,8 @@ fn push_module<'a>(
 {
     match statement.keyword.as_str() {
         "module" => {
-            modules.push(ModuleNames::new(alloc, file, statement)?)?;
+            let module = ModuleNames::new(alloc, file, statement)?;
+            modules.push(module)?;
             Ok(())
         }
         _ => Ok(()),
@@ -189,7 +190,7 @@ impl<'a> ModuleSet<'a> {
         ensures { option_map (λ s. declaration s.now) result
             ≡ option_and_then (prefix_giver prefix.now) (slice_get self.now number) }
     {
-        match self.modules.get(number) {
+        match self.items().get(number) {
             Some(module) => module.prefix_giver(prefix),
             None => None,
         }
@@ -216,7 +217,7 @@ impl<'a> ModuleSet<'a> {
     fn typedef_named(&self, number: usize, name: &str) -> Meaning
         ensures { result ≡ typedef_named self.now number name.now }
     {
-        match self.modules.get(number) {
+        match self.items().get(number) {
             Some(module) => match module.typedef_named(name) {
                 Some(place) => Meaning::Goes(number, place),
                 None => Meaning::Nothing,

@@ -3,7 +3,7 @@ ghost use Rattle.std.specs.Prelude.{◌≡◌, Bool, List, ℕ, map, IfOk, OnOk}
 ghost use Rattle.std.specs.List.{flat_map};
 ghost use Rattle.yang_text.specs.Statements.{declaration};
 ghost use Rattle.yang_scope.specs.Faults.{least_of};
-ghost use Rattle.yang_scope.specs.TypeFaults.{unknown_type, DecidesPatterns, bad_pattern, bad_if_pattern, bad_patterns, wrong_path, wrong_if_path, wrong_paths};
+ghost use Rattle.yang_scope.specs.TypeFaults.{unknown_type, DecidesPatterns, bad_if_pattern, bad_patterns, wrong_path, wrong_if_path, wrong_paths};
 
 use crate::faults::{Fault, note};
 use crate::meanings::Meaning;
@@ -49,28 +49,6 @@ fn is_pattern(alloc: Global, text: &str) -> Result<bool, Memory>
     }
 }
 
-/// A statement whose argument is no pattern.
-fn note_bad_pattern(
-    alloc: Global,
-    least: &mut Option<Fault>,
-    file: u32,
-    statement: &Statement,
-) -> Result<(), Memory>
-    ensures { IfOk result (λ _. (is_pattern : List ℕ → Bool) → DecidesPatterns is_pattern
-        → least.new ≡ least_of least.old
-        (bad_pattern is_pattern file (declaration statement.now))) }
-{
-    match &statement.argument {
-        Some(text) => {
-            if !is_pattern(alloc, text.as_str())? {
-                note(least, file, statement.line, ModelWhy::BadPattern);
-            }
-            Ok(())
-        }
-        None => Ok(()),
-    }
-}
-
 /// A pattern of a type that is none.
 fn note_if_pattern(
     alloc: Global,
@@ -82,8 +60,15 @@ fn note_if_pattern(
         → least.new ≡ least_of least.old
         (bad_if_pattern is_pattern file (declaration statement.now))) }
 {
-    match statement.keyword.as_str() {
-        "pattern" => note_bad_pattern(alloc, least, file, statement),
+    match (statement.keyword.as_str(), &statement.argument) {
+        ("pattern", Some(text)) => match is_pattern(alloc, text.as_str()) {
+            Ok(true) => Ok(()),
+            Ok(false) => {
+                note(least, file, statement.line, ModelWhy::BadPattern);
+                Ok(())
+            }
+            Err(failed) => Err(failed),
+        },
         _ => Ok(()),
     }
 }
@@ -120,10 +105,16 @@ fn note_path(
 {
     if !is_path(alloc, text)? {
         note(least, file, statement.line, ModelWhy::BadArgument);
-    } else if names.path_end(alloc, number, text)?.is_none() {
-        note(least, file, statement.line, ModelWhy::UnknownName);
+        return Ok(());
     }
-    Ok(())
+    match names.path_end(alloc, number, text) {
+        Ok(Some(_)) => Ok(()),
+        Ok(None) => {
+            note(least, file, statement.line, ModelWhy::UnknownName);
+            Ok(())
+        }
+        Err(failed) => Err(failed),
+    }
 }
 
 /// A statement that is a path, and what is wrong with it.

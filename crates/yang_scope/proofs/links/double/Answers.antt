@@ -8,7 +8,7 @@ pub loop-row-preserved : goal.loop-row-preserved
 loop-row-preserved c =
     let behind = link_behind c.args.links.now in
     map-more (map behind) c.args.links.now c.loop-row.row-index c.row-item.result _ _ _
-    c.loop-row-test.true c.row-item.is c.loop-row.invariant (c.in_ok-double_row.ensures ∙ ap (map behind) c.items.ensures) c.in_ok-push.ensures.ok
+    c.loop-row-test.true c.row-item.is c.loop-row.invariant (c.in_ok-doubled.ensures ∙ ap (map behind) c.items.ensures) c.in_ok-push.ensures.ok
 
 pub returns : goal.returns
 returns c =

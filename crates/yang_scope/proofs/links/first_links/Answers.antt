@@ -17,8 +17,8 @@ loop-number-preserved c =
     let m = c.module-item.result in
     let first : ℕ → Module → List Meaning = λ number x. map (typedef_meaning modules number) (block x.statement) in
     let is : get_or all n m ≡ m = search rules in
-    let row : c.in_ok-first_row.field-0 ≡ first n (get_or all n m) =
-    c.in_ok-first_row.ensures
+    let row : c.in_ok-row.row ≡ first n (get_or all n m) =
+    c.in_ok-row.ensures
     ∙ ap (map (typedef_meaning modules n)) (c.items.ensures ∙ sym (block-is c.statement.result.now) ∙ ap block c.statement.ensures)
     ∙ ap (first n) (sym is) in
     c.in_ok-push.ensures.ok
