@@ -165,8 +165,7 @@ fn write_parts<X: Written>(parts: &Sorted<X>, out: &mut Pretty) -> Result<(), Al
     for i in 0..parts.len() {
         write_member(parts.pair_at(i), out)?;
     }
-    out.token(Token::EndObject)?;
-    Ok(())
+    out.token(Token::EndObject)
 }
 
 fn write_texts(texts: &Names, out: &mut Pretty) -> Result<(), AllocError>
@@ -177,8 +176,7 @@ fn write_texts(texts: &Names, out: &mut Pretty) -> Result<(), AllocError>
     for text in texts.items() {
         write_text(text, out)?;
     }
-    out.token(Token::EndArray)?;
-    Ok(())
+    out.token(Token::EndArray)
 }
 
 fn write_member<X: Written>(pair: &(Txt, X), out: &mut Pretty) -> Result<(), AllocError>
