@@ -113,8 +113,14 @@ impl Written for Value {
 
     fn tree(&self, alloc: Global) -> Result<Tree, Memory> {
         match self {
-            Value::Text(text) => Ok(Tree::Text(text.copy(alloc)?)),
-            Value::List(texts) => Ok(Tree::List(items_of_texts(alloc, texts)?)),
+            Value::Text(text) => match text.copy(alloc) {
+                Ok(copy) => Ok(Tree::Text(copy)),
+                Err(_) => Err(Memory),
+            },
+            Value::List(texts) => match items_of_texts(alloc, texts) {
+                Ok(items) => Ok(Tree::List(items)),
+                Err(_) => Err(Memory),
+            },
         }
     }
 
