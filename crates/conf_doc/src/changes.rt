@@ -31,18 +31,18 @@ impl Config {
         ensures formed { IfOk result IsConfig }
     {
         match part {
-            Part::Table(table) => {
-                let table = table.copy(alloc)?;
-                self.set_table_at(alloc, path, Some(table))
-            }
-            Part::Entry(entry) => {
-                let entry = entry.copy(alloc)?;
-                self.set_entry_at(alloc, path, Some(entry))
-            }
-            Part::Value(value) => {
-                let value = value.copy(alloc)?;
-                self.set_value_at(alloc, path, Some(value))
-            }
+            Part::Table(table) => match table.copy(alloc) {
+                Ok(table) => self.set_table_at(alloc, path, Some(table)),
+                Err(_) => Err(Memory),
+            },
+            Part::Entry(entry) => match entry.copy(alloc) {
+                Ok(entry) => self.set_entry_at(alloc, path, Some(entry)),
+                Err(_) => Err(Memory),
+            },
+            Part::Value(value) => match value.copy(alloc) {
+                Ok(value) => self.set_value_at(alloc, path, Some(value)),
+                Err(_) => Err(Memory),
+            },
         }
     }
 

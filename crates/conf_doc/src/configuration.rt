@@ -85,8 +85,14 @@ impl Value {
         ensures formed { IfOk result IsValue }
     {
         match self {
-            Value::Text(text) => Ok(Value::Text(Txt::new(alloc, text.as_str())?)),
-            Value::List(texts) => Ok(Value::List(copy_texts(alloc, texts)?)),
+            Value::Text(text) => match Txt::new(alloc, text.as_str()) {
+                Ok(copy) => Ok(Value::Text(copy)),
+                Err(_) => Err(Memory),
+            },
+            Value::List(texts) => match copy_texts(alloc, texts) {
+                Ok(copies) => Ok(Value::List(copies)),
+                Err(_) => Err(Memory),
+            },
         }
     }
 }

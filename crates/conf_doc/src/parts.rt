@@ -53,9 +53,18 @@ impl Part {
         ensures { IfOk result (λ p. p ≡ self.now) }
     {
         match self {
-            Part::Table(table) => Ok(Part::Table(table.copy(alloc)?)),
-            Part::Entry(entry) => Ok(Part::Entry(entry.copy(alloc)?)),
-            Part::Value(value) => Ok(Part::Value(value.copy(alloc)?)),
+            Part::Table(table) => match table.copy(alloc) {
+                Ok(copy) => Ok(Part::Table(copy)),
+                Err(_) => Err(Memory),
+            },
+            Part::Entry(entry) => match entry.copy(alloc) {
+                Ok(copy) => Ok(Part::Entry(copy)),
+                Err(_) => Err(Memory),
+            },
+            Part::Value(value) => match value.copy(alloc) {
+                Ok(copy) => Ok(Part::Value(copy)),
+                Err(_) => Err(Memory),
+            },
         }
     }
 }

@@ -67,11 +67,7 @@ impl Path {
     pub fn copy(&self, alloc: Global) -> Result<Path, Memory>
         ensures { IfOk result (λ p. p ≡ self.now) }
     {
-        let mut names = SmallVec::new(alloc);
-        for name in self.names.as_slice() {
-            let text = String::from_str(alloc, name.as_str())?;
-            names.push(text)?;
-        }
+        let names = SmallVec::from_clones(alloc, self.names.as_slice())?;
         Ok(Path { names })
     }
 }

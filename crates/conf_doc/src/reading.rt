@@ -56,9 +56,18 @@ fn read_value(alloc: Global, value: Value) -> Result<Tree, Stop>
 {
     match value {
         Value::String(text) => Ok(Tree::Text(Txt::from(text))),
-        Value::Array(values) => Ok(Tree::List(read_items(alloc, values)?)),
-        Value::Object(values) => Ok(Tree::Map(read_members(alloc, values)?)),
-        Value::Null | Value::Bool(_) | Value::Number(_) => Err(Stop::here(alloc)),
+        Value::Array(values) => match read_items(alloc, values) {
+            Ok(items) => Ok(Tree::List(items)),
+            Err(stop) => Err(stop),
+        },
+        Value::Object(values) => match read_members(alloc, values) {
+            Ok(members) => Ok(Tree::Map(members)),
+            Err(stop) => Err(stop),
+        },
+        other => {
+            drop(other);
+            Err(Stop::here(alloc))
+        }
     }
 }
 

@@ -97,8 +97,14 @@ impl Shaped for Value {
     fn shape(alloc: Global, tree: Tree) -> Result<Value, Stop> {
         match tree {
             Tree::Text(text) => Ok(Value::Text(utf8(text))),
-            Tree::List(items) => Ok(Value::List(shape_texts(alloc, items)?)),
-            Tree::Map(_) => Err(Stop::here(alloc)),
+            Tree::List(items) => match shape_texts(alloc, items) {
+                Ok(texts) => Ok(Value::List(texts)),
+                Err(stop) => Err(stop),
+            },
+            other => {
+                drop(other);
+                Err(Stop::here(alloc))
+            }
         }
     }
 }
@@ -112,7 +118,10 @@ fn shape_map<X: Shaped>(alloc: Global, tree: Tree) -> Result<Sorted<X>, Stop>
 {
     match tree {
         Tree::Map(members) => shape_parts(alloc, members),
-        Tree::Text(_) | Tree::List(_) => Err(Stop::here(alloc)),
+        other => {
+            drop(other);
+            Err(Stop::here(alloc))
+        }
     }
 }
 
@@ -149,6 +158,7 @@ fn shape_named<X: Shaped>(alloc: Global, name: &str, tree: Tree) -> Result<X, St
     ensures formed { IfOk result X.IsWell }
 {
     if name.is_empty() {
+        drop(tree);
         return Err(Stop::here(alloc).below(alloc, name));
     }
     match X::shape(alloc, tree) {
@@ -176,7 +186,10 @@ fn shape_item(alloc: Global, i: usize, item: Tree) -> Result<Txt, Stop>
 {
     match item {
         Tree::Text(text) => Ok(utf8(text)),
-        Tree::List(_) | Tree::Map(_) => Err(Stop::here(alloc).below_item(alloc, i)),
+        other => {
+            drop(other);
+            Err(Stop::here(alloc).below_item(alloc, i))
+        }
     }
 }
 

@@ -1,6 +1,6 @@
 //! The list under tables, entries and fields: pairs of a name and a part, sorted by the names. A pair
 //! stands behind one pointer, so that a changed list shares every other pair with the old one.
-ghost use Rattle.std.specs.Prelude.{◌≡◌, ◌<◌, [], length, map, option_map, slice_get, Some, IfOk, OnOk};
+ghost use Rattle.std.specs.Prelude.{◌≡◌, ◌<◌, [], length, map, option_map, slice_get, Some, IfOk, IsUtf8, OnOk};
 ghost use Rattle.conf_doc.specs.Pairs.{find, first_from, put, set_part, without, IsRising};
 ghost use Rattle.conf_doc.specs.Shared.{pairs_of};
 ghost use Rattle.conf_doc.specs.WellFormed.{IsShaped};
@@ -9,6 +9,7 @@ use crate::indexes::index_of_pair;
 use host_core::{Memory, Txt};
 use std::alloc::Global;
 use std::marker::Model;
+use std::mem;
 use std::rc::Rc;
 
 /// Contracts see the list of the pairs. Names rise by their bytes, and none is empty.
@@ -132,7 +133,17 @@ impl<X: Drop> Sorted<X> {
         ensures { IfOk result (λ s. s ≡ put name.now part self.now) }
     {
         let pair = pair_up(alloc, name, part)?;
-        let pairs = share_with(alloc, &self.pairs, pair)?;
+        self.with_pair(alloc, pair)
+    }
+
+    /// The list with that pair, in the place of one of its name.
+    fn with_pair(&self, alloc: Global, pair: Rc<(Txt, X)>) -> Result<Sorted<X>, Memory>
+        requires named { 0 < length pair.value.0 }
+        requires utf8 { IsUtf8 pair.value.0 }
+        ensures { IfOk result (λ s. s ≡ put pair.value.0 pair.value.1 self.now) }
+    {
+        let mut pairs = share(alloc, &self.pairs)?;
+        put_pair(&mut pairs, pair)?;
         Ok(Sorted { pairs })
     }
 
@@ -177,21 +188,6 @@ fn pair_up<X: Drop>(alloc: Global, name: &str, part: X) -> Result<Rc<(Txt, X)>, 
     Ok(Rc::new(alloc, (name, part))?)
 }
 
-/// The same pairs and one more, in the place of one of that name.
-fn share_with<X: Drop>(
-    alloc: Global,
-    pairs: &[Rc<(Txt, X)>],
-    pair: Rc<(Txt, X)>,
-) -> Result<Vec<Rc<(Txt, X)>>, Memory>
-    requires { IsRising (pairs_of pairs.now) }
-    ensures { IfOk result (λ v. pairs_of v.items
-        ≡ put pair.value.0 pair.value.1 (pairs_of pairs.now)) }
-{
-    let mut shared = share(alloc, pairs)?;
-    put_pair(&mut shared, pair)?;
-    Ok(shared)
-}
-
 /// Puts a pair where its name belongs, in the place of one of that name.
 fn put_pair<X: Drop>(pairs: &mut Vec<Rc<(Txt, X)>>, pair: Rc<(Txt, X)>) -> Result<(), Memory>
     requires { IsRising (pairs_of pairs.old.items) }
@@ -200,7 +196,7 @@ fn put_pair<X: Drop>(pairs: &mut Vec<Rc<(Txt, X)>>, pair: Rc<(Txt, X)>) -> Resul
 {
     match index_of_pair(pairs, pair.as_ref().0.as_str()) {
         Ok(i) => {
-            pairs[i] = pair;
+            drop(mem::replace(&mut pairs[i], pair));
             Ok(())
         }
         Err(i) => Ok(pairs.insert(i, pair)?),

@@ -55,7 +55,10 @@ impl Taken for Value {
     fn into_tree(self, alloc: Global) -> Result<Tree, Memory> {
         match self {
             Value::Text(text) => Ok(Tree::Text(text)),
-            Value::List(texts) => Ok(Tree::List(take_texts(alloc, texts)?)),
+            Value::List(texts) => match take_texts(alloc, texts) {
+                Ok(items) => Ok(Tree::List(items)),
+                Err(_) => Err(Memory),
+            },
         }
     }
 }

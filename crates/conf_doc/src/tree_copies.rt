@@ -27,9 +27,18 @@ fn copy_tree(alloc: Global, tree: &Tree) -> Result<Tree, Memory>
     ensures { IfOk result (λ t. document t ≡ document tree.now) }
 {
     match tree {
-        Tree::Text(text) => Ok(Tree::Text(Txt::new(alloc, text.as_str())?)),
-        Tree::List(items) => Ok(Tree::List(copy_items(alloc, items)?)),
-        Tree::Map(members) => Ok(Tree::Map(copy_members(alloc, members)?)),
+        Tree::Text(text) => match text.copy(alloc) {
+            Ok(copy) => Ok(Tree::Text(copy)),
+            Err(_) => Err(Memory),
+        },
+        Tree::List(items) => match copy_items(alloc, items) {
+            Ok(copies) => Ok(Tree::List(copies)),
+            Err(_) => Err(Memory),
+        },
+        Tree::Map(members) => match copy_members(alloc, members) {
+            Ok(copies) => Ok(Tree::Map(copies)),
+            Err(_) => Err(Memory),
+        },
     }
 }
 
@@ -39,7 +48,8 @@ fn copy_items(alloc: Global, items: &Items) -> Result<Items, Memory>
 {
     let mut copies = Items::new(alloc);
     for item in items.items() {
-        copies.push(copy_tree(alloc, item)?)?;
+        let copy = copy_tree(alloc, item)?;
+        copies.push(copy)?;
     }
     Ok(copies)
 }
@@ -50,8 +60,9 @@ fn copy_members(alloc: Global, members: &Members) -> Result<Members, Memory>
 {
     let mut copies = Vec::new(alloc);
     for (name, tree) in members.members() {
-        let copy = copy_tree(alloc, tree)?;
-        copies.push((name.copy(alloc)?, copy))?;
+        let name = name.copy(alloc)?;
+        let tree = copy_tree(alloc, tree)?;
+        copies.push((name, tree))?;
     }
     Ok(Members::from_sorted(copies))
 }

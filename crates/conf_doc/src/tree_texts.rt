@@ -43,8 +43,7 @@ fn write_items(items: &Items, text: &mut Writer) -> Result<(), AllocError>
     for item in items.items() {
         write_tree(item, text)?;
     }
-    text.end_array()?;
-    Ok(())
+    text.end_array()
 }
 
 #[cycle(writing)]
@@ -58,8 +57,7 @@ fn write_members(members: &Members, text: &mut Writer) -> Result<(), AllocError>
         write_name(name, text)?;
         write_tree(tree, text)?;
     }
-    text.end_object()?;
-    Ok(())
+    text.end_object()
 }
 
 fn write_text(t: &Txt, text: &mut Writer) -> Result<(), AllocError>

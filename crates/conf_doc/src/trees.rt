@@ -229,10 +229,13 @@ impl Members {
         ensures err { OnErr result (self.new ≡ self.old) }
     {
         match index_of_member(&self.members, name.as_str()) {
-            Ok(i) => self.members[i].1 = tree,
-            Err(i) => self.members.insert(i, (name, tree))?,
+            Ok(i) => {
+                drop(name);
+                drop(mem::replace(&mut self.members[i].1, tree));
+                Ok(())
+            }
+            Err(i) => Ok(self.members.insert(i, (name, tree))?),
         }
-        Ok(())
     }
 
     /// Takes the member of that name out, or answers None where there is none.

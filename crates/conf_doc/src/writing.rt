@@ -113,8 +113,14 @@ impl Written for Value {
 
     fn tree(&self, alloc: Global) -> Result<Tree, Memory> {
         match self {
-            Value::Text(text) => Ok(Tree::Text(text.copy(alloc)?)),
-            Value::List(texts) => Ok(Tree::List(items_of_texts(alloc, texts)?)),
+            Value::Text(text) => match text.copy(alloc) {
+                Ok(copy) => Ok(Tree::Text(copy)),
+                Err(_) => Err(Memory),
+            },
+            Value::List(texts) => match items_of_texts(alloc, texts) {
+                Ok(items) => Ok(Tree::List(items)),
+                Err(_) => Err(Memory),
+            },
         }
     }
 
@@ -165,8 +171,7 @@ fn write_parts<X: Written>(parts: &Sorted<X>, out: &mut Pretty) -> Result<(), Al
     for i in 0..parts.len() {
         write_member(parts.pair_at(i), out)?;
     }
-    out.token(Token::EndObject)?;
-    Ok(())
+    out.token(Token::EndObject)
 }
 
 fn write_texts(texts: &Names, out: &mut Pretty) -> Result<(), AllocError>
@@ -177,8 +182,7 @@ fn write_texts(texts: &Names, out: &mut Pretty) -> Result<(), AllocError>
     for text in texts.items() {
         write_text(text, out)?;
     }
-    out.token(Token::EndArray)?;
-    Ok(())
+    out.token(Token::EndArray)
 }
 
 fn write_member<X: Written>(pair: &(Txt, X), out: &mut Pretty) -> Result<(), AllocError>

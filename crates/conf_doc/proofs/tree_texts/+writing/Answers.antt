@@ -1,4 +1,5 @@
 use Rattle.std.proofs.Common.{◌≤◌, [], ◌∷◌, ◌++◌, map, ap, subst, ◌∙◌, take_all, append_assoc, arith}
+use Rattle.std.proofs.lemmas.Result.{on_ok_weaker}
 use Rattle.json.specs.Token.{begin_array, begin_object, key}
 use Rattle.conf_doc.specs.Document.{items_of, list, members_of, object, weight, items_weight, members_weight}
 use Rattle.conf_doc.specs.Sound.{AreSoundMembers}
@@ -29,10 +30,11 @@ pub write_items-returns-clause-added : goal.write_items-returns-clause-added
 write_items-returns-clause-added t c =
     let inv = c.loop-item.invariant in
     let start = c.args.text.now.tokens in
-    let all = inv.tokens ∙ ap (λ ts. start ++ begin_array ∷ opened_items document ts) (take_all _ c.items-item-items.result.now c.loop-item-test.false) in record {
-      before = c.in_ok-end_array.ensures.room.0 ∙ inv.before;
-      tokens = items_written document _ _ _ _ all c.in_ok-end_array.ensures.ok ∙ ap (λ ds. start ++ document_tokens (list (items_of ds))) c.items-item-items.ensures;
-    }
+    let all = inv.tokens ∙ ap (λ ts. start ++ begin_array ∷ opened_items document ts) (take_all _ c.items-item-items.result.now c.loop-item-test.false) in
+    on_ok_weaker c.end_array.result (λ closed. record {
+      before = c.end_array.ensures.room.0 ∙ inv.before;
+      tokens = items_written document _ _ _ _ all closed ∙ ap (λ ds. start ++ document_tokens (list (items_of ds))) c.items-item-items.ensures;
+    }) c.end_array.ensures.ok
 
 pub write_members-write_tree-requires : goal.write_members-write_tree-requires
 write_members-write_tree-requires t c =
@@ -56,12 +58,13 @@ pub write_members-returns-clause-added : goal.write_members-returns-clause-added
 write_members-returns-clause-added t c =
     let inv = c.loop-name.invariant in
     let start = c.args.text.now.tokens in
-    let all = inv.tokens ∙ ap (λ ms. start ++ begin_object ∷ opened_members document ms) (take_all _ c.members-name-items.result.now c.loop-name-test.false) in record {
-      before = c.in_ok-end_object.ensures.room.0 ∙ inv.before;
-      tokens = members_written document _ _ _ _ all c.in_ok-end_object.ensures.ok ∙ ap (λ ms. start ++ document_tokens (object (members_of ms))) c.members-name-items.ensures.list;
-    }
+    let all = inv.tokens ∙ ap (λ ms. start ++ begin_object ∷ opened_members document ms) (take_all _ c.members-name-items.result.now c.loop-name-test.false) in
+    on_ok_weaker c.end_object.result (λ closed. record {
+      before = c.end_object.ensures.room.0 ∙ inv.before;
+      tokens = members_written document _ _ _ _ all closed ∙ ap (λ ms. start ++ document_tokens (object (members_of ms))) c.members-name-items.ensures.list;
+    }) c.end_object.ensures.ok
 
 pub write_members-returns-clause-sound : goal.write_members-returns-clause-sound
 write_members-returns-clause-sound t c =
     let sound = subst (λ ms. AreSoundMembers (members_of (map named_document ms))) (take_all _ c.members-name-items.result.now c.loop-name-test.false) c.loop-name.invariant.sound in
-    sound_object c.args.members.now c.members-name-items.ensures.rising (subst (λ ms. AreSoundMembers (members_of ms)) c.members-name-items.ensures.list sound)
+    on_ok_weaker c.end_object.result (λ _. sound_object c.args.members.now c.members-name-items.ensures.rising (subst (λ ms. AreSoundMembers (members_of ms)) c.members-name-items.ensures.list sound)) c.end_object.ensures.ok

@@ -1,4 +1,5 @@
 use Rattle.std.proofs.Common.{◌∷◌, ◌++◌, ap, ◌∙◌, take_all, arith}
+use Rattle.std.proofs.lemmas.Result.{on_ok_weaker}
 use Rattle.json.specs.Token.{begin_object}
 use Rattle.conf_doc.specs.Tokens.{opened_members}
 use Rattle.conf_doc.proofs.Lists.{take_more}
@@ -13,4 +14,4 @@ pub returns : goal.returns
 returns g c =
     let F = g.X.Written.as_document in
     let all = c.loop-i.invariant ∙ ap (λ ps. c.args.out.now ++ begin_object ∷ opened_members F ps) (take_all _ c.args.parts.now (omega arith)) in
-    members_written F _ _ _ _ all c.in_ok-token-2.ensures.ok
+    on_ok_weaker c.token-2.result (λ closed. members_written F _ _ _ _ all closed) c.token-2.ensures.ok

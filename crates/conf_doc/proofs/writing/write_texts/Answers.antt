@@ -1,4 +1,5 @@
 use Rattle.std.proofs.Common.{◌∷◌, ◌++◌, map, ap, ◌∙◌, take_all}
+use Rattle.std.proofs.lemmas.Result.{on_ok_weaker}
 use Rattle.json.specs.Token.{begin_array}
 use Rattle.conf_doc.specs.Document.{items_of, list, text}
 use Rattle.conf_doc.specs.Texts.{document_tokens}
@@ -14,4 +15,4 @@ loop-text-preserved c =
 pub returns : goal.returns
 returns c =
     let all = c.loop-text.invariant ∙ ap (λ ts. c.args.out.now ++ begin_array ∷ opened_items text ts) (take_all _ c.items-text-items.result.now c.loop-text-test.false) in
-    items_written text _ _ _ _ all c.in_ok-token-2.ensures.ok ∙ ap (λ ts. c.args.out.now ++ document_tokens (list (items_of (map text ts)))) c.items-text-items.ensures
+    on_ok_weaker c.token-2.result (λ closed. items_written text _ _ _ _ all closed ∙ ap (λ ts. c.args.out.now ++ document_tokens (list (items_of (map text ts)))) c.items-text-items.ensures) c.token-2.ensures.ok
