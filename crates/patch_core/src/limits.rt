@@ -1,4 +1,5 @@
 //! Operations within the limit on the size of a tree. The weight is kept, and not counted again.
+//! What is given up goes whole to `drop`: one call to the prover, where a removal at an end has many steps.
 ghost use Rattle.std.specs.Prelude.{◌≡◌, ◌+◌, ◌≤◌, false, length, IfErr, IfOk};
 ghost use Rattle.conf_doc.specs.Document.{depth, weight};
 ghost use Rattle.conf_doc.specs.Trees.{document};

@@ -1,4 +1,5 @@
 //! Edits at one node, of the child that a token names.
+//! What is given up goes whole to `drop`: one call to the prover, where a removal at an end has many steps.
 ghost use Rattle.std.specs.Prelude.{◌≡◌, IfErr, IfOk, IsOk, Some};
 ghost use Rattle.conf_doc.specs.Document.{list, object, items_of, members_of};
 ghost use Rattle.conf_doc.specs.Trees.{document};

@@ -1,4 +1,5 @@
 //! The operations of a patch, and what each makes of a tree (RFC 6902, section 4).
+//! What is given up goes whole to `drop`: one call to the prover, where a removal at an end has many steps.
 ghost use Rattle.std.specs.Prelude.{◌≡◌, IfOk};
 ghost use Rattle.conf_doc.specs.Trees.{document};
 ghost use Rattle.host_core.specs.Answers.{Gives};
@@ -105,8 +106,19 @@ fn copy_value(alloc: Global, from: &[Txt], path: &[Txt], tree: Tree) -> Result<C
         (result_of (copy_to from.now path.now) (document tree)) }
     ensures change { IfOk result (λ c. IsChange (copy_to from.now path.now) c (document tree)) }
 {
-    let value = target(from, &tree)?.copy(alloc)?;
-    edit_at(alloc, path, Edit::Add(value), tree)
+    match target(from, &tree) {
+        Ok(value) => match value.copy(alloc) {
+            Ok(value) => edit_at(alloc, path, Edit::Add(value), tree),
+            Err(_) => {
+                drop(tree);
+                Err(Stop::Memory)
+            }
+        },
+        Err(why) => {
+            drop(tree);
+            Err(Stop::Fails(why))
+        }
+    }
 }
 
 /// A test, which changes nothing.
@@ -116,7 +128,15 @@ fn test_value(path: &[Txt], value: &Tree, tree: Tree) -> Result<Change, Stop>
     ensures change { IfOk result (λ c.
         IsChange (test path.now (document value.now)) c (document tree)) }
 {
-    if !is_same(value, target(path, &tree)?) {
+    let found = match target(path, &tree) {
+        Ok(found) => found,
+        Err(why) => {
+            drop(tree);
+            return Err(Stop::Fails(why));
+        }
+    };
+    if !is_same(value, found) {
+        drop(tree);
         return Err(Stop::Fails(FailWhy::TestFailed));
     }
     Ok(Change {

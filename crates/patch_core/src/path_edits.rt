@@ -1,4 +1,5 @@
 //! Edits of what a path leads to.
+//! What is given up goes whole to `drop`: one call to the prover, where a removal at an end has many steps.
 ghost use Rattle.std.specs.Prelude.{suc, [], ◌∷◌, length, IfOk, Some};
 ghost use Rattle.conf_doc.specs.Trees.{document};
 ghost use Rattle.host_core.specs.Answers.{Gives};

@@ -1,4 +1,5 @@
 //! Operations and patches as documents and texts (RFC 6902, sections 3 and 4).
+//! What is given up goes whole to `drop`: one call to the prover, where a removal at an end has many steps.
 ghost use Rattle.std.specs.Prelude.{◌≡◌, ◌≤◌, [], ◌∷◌, codes, IfOk, OnOk, Ok};
 ghost use Rattle.conf_doc.specs.Document.{text};
 ghost use Rattle.conf_doc.specs.Pairs.{put};
