@@ -139,7 +139,7 @@ fn shape_parts<X: Shaped>(alloc: Global, members: Members) -> Result<Sorted<X>, 
     Ok(Sorted::from_shaped(pairs))
 }
 
-/// The pair of a name and its node, behind a pointer.
+/// The pair of a name and its node, behind a pointer. The name is looked at before what stands below it.
 fn shape_pair<X: Shaped>(alloc: Global, name: Txt, tree: Tree) -> Result<Rc<(Txt, X)>, Stop>
     ensures answer { Gives (λ p. p.value.1) stop_place result
         (located (below name (named name (X.shape (document tree))))) }
@@ -147,23 +147,13 @@ fn shape_pair<X: Shaped>(alloc: Global, name: Txt, tree: Tree) -> Result<Rc<(Txt
     ensures formed { IfOk result (λ p. X.IsWell p.value.1) }
     ensures utf8 { IsUtf8 name }
 {
-    let part = shape_named(alloc, name.as_str(), tree)?;
-    Ok(Rc::new(alloc, (name, part))?)
-}
-
-/// A node's own name is looked at before what stands below it.
-fn shape_named<X: Shaped>(alloc: Global, name: &str, tree: Tree) -> Result<X, Stop>
-    ensures answer { Gives (λ x. x) stop_place result
-        (located (below name.now (named name.now (X.shape (document tree))))) }
-    ensures formed { IfOk result X.IsWell }
-{
-    if name.is_empty() {
+    if name.as_str().is_empty() {
         drop(tree);
-        return Err(Stop::here(alloc).below(alloc, name));
+        return Err(Stop::here(alloc).below(alloc, name.as_str()));
     }
     match X::shape(alloc, tree) {
-        Ok(part) => Ok(part),
-        Err(stop) => Err(stop.below(alloc, name)),
+        Ok(part) => Ok(Rc::new(alloc, (name, part))?),
+        Err(stop) => Err(stop.below(alloc, name.as_str())),
     }
 }
 

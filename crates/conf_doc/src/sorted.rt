@@ -9,7 +9,6 @@ use crate::indexes::index_of_pair;
 use host_core::{Memory, Txt};
 use std::alloc::Global;
 use std::marker::Model;
-use std::mem;
 use std::rc::Rc;
 
 /// Contracts see the list of the pairs. Names rise by their bytes, and none is empty.
@@ -132,7 +131,8 @@ impl<X: Drop> Sorted<X> {
         requires { 0 < length name.now }
         ensures { IfOk result (λ s. s ≡ put name.now part self.now) }
     {
-        let pair = pair_up(alloc, name, part)?;
+        let text = Txt::new(alloc, name)?;
+        let pair = Rc::new(alloc, (text, part))?;
         self.with_pair(alloc, pair)
     }
 
@@ -180,14 +180,6 @@ fn share<X: Drop>(alloc: Global, pairs: &[Rc<(Txt, X)>]) -> Result<Vec<Rc<(Txt, 
     Ok(pairs.to_vec(alloc)?)
 }
 
-/// A name and a part behind a pointer.
-fn pair_up<X: Drop>(alloc: Global, name: &str, part: X) -> Result<Rc<(Txt, X)>, Memory>
-    ensures { IfOk result (λ p. p.value ≡ (name.now, part)) }
-{
-    let name = Txt::new(alloc, name)?;
-    Ok(Rc::new(alloc, (name, part))?)
-}
-
 /// Puts a pair where its name belongs, in the place of one of that name.
 fn put_pair<X: Drop>(pairs: &mut Vec<Rc<(Txt, X)>>, pair: Rc<(Txt, X)>) -> Result<(), Memory>
     requires { IsRising (pairs_of pairs.old.items) }
@@ -195,12 +187,10 @@ fn put_pair<X: Drop>(pairs: &mut Vec<Rc<(Txt, X)>>, pair: Rc<(Txt, X)>) -> Resul
         ≡ put pair.value.0 pair.value.1 (pairs_of pairs.old.items)) }
 {
     match index_of_pair(pairs, pair.as_ref().0.as_str()) {
-        Ok(i) => {
-            drop(mem::replace(&mut pairs[i], pair));
-            Ok(())
-        }
-        Err(i) => Ok(pairs.insert(i, pair)?),
+        Ok(i) => pairs[i] = pair,
+        Err(i) => pairs.insert(i, pair)?,
     }
+    Ok(())
 }
 
 /// Takes out the pair of that name, where there is one.

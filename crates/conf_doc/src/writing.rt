@@ -1,6 +1,5 @@
 //! The trees and texts of configurations, and the texts of trees.
 ghost use Rattle.std.specs.Prelude.{◌≡◌, ◌≤◌, ◌++◌, ◌∷◌, [], map, IfOk, OnOk, Ok, Some};
-ghost use Rattle.json.specs.Layout.{pretty};
 ghost use Rattle.json.specs.Token.{key};
 ghost use Rattle.conf_doc.specs.Configuration.{entry_tree, mapping, table_tree, tree, value_tree};
 ghost use Rattle.conf_doc.specs.Document.{items_of, list, members_of, object, text};
@@ -33,18 +32,11 @@ pub fn file_bytes(alloc: Global, config: &Config) -> Result<Vec<u8>, Memory>
     ensures shapes_back { shaping (tree config.now) ≡ Ok config.now }
 {
     let _ = config.len();
-    let mut bytes = pretty_bytes(alloc, config)?;
-    bytes.push(b'\n')?;
-    Ok(bytes)
-}
-
-/// The same without the line feed.
-fn pretty_bytes(alloc: Global, config: &Config) -> Result<Vec<u8>, AllocError>
-    ensures { IfOk result (λ b. b.items ≡ pretty (document_tokens (tree config.now))) }
-{
     let mut text = Pretty::new(alloc);
     config.write(&mut text)?;
-    Ok(text.into_inner())
+    let mut bytes = text.into_inner();
+    bytes.push(b'\n')?;
+    Ok(bytes)
 }
 
 /// The compact JSON text of a tree.

@@ -7,7 +7,7 @@ use Rattle.conf_doc.proofs.sorted.put_pair.Goals as goal
 pub returns-in-Ok : goal.returns-in-Ok
 returns-in-Ok g c =
     let name = c.as_str.ensures.text ∙ ap (λ p. p.0) c.as_ref.ensures in
-    set_seen pair_of _ _ _ _ c.deref.ensures.value c.args.pair.value.1 c.replace.new.dest c.requires (subst (λ n. IsAt (pairs_of c.deref.result.now) n c.in-Ok.i) name c.in-Ok.ensures.found) (ap pair_of c.replace.ensures.after)
+    set_seen pair_of _ _ _ _ c.deref.ensures.value c.args.pair.value.1 c.args.pair c.requires (subst (λ n. IsAt (pairs_of c.deref.result.now) n c.in-Ok.i) name c.in-Ok.ensures.found) refl
 
 pub returns-in_ok-insert-in-Err : goal.returns-in_ok-insert-in-Err
 returns-in_ok-insert-in-Err g c =
