@@ -26,8 +26,7 @@ pub fn note_file_faults(
 {
     note_files(least, files);
     note_modules_twice(alloc, least, files)?;
-    note_tables_twice(alloc, least, files)?;
-    Ok(())
+    note_tables_twice(alloc, least, files)
 }
 
 /// What is wrong with a module and all that stands in it.

@@ -38,8 +38,7 @@ fn note_default_of(
         scope.number,
         ty,
         default,
-    )?;
-    Ok(())
+    )
 }
 
 /// The default of a leaf with these statements, where it has one and a type.
@@ -77,7 +76,7 @@ fn note_default_at(
 {
     if statement.keyword.as_str() == "leaf" && !is_key_leaf(keys, &statement.argument) {
         let block = statement.block.items();
-        note_default_in(alloc, least, scope, block)?;
+        return note_default_in(alloc, least, scope, block);
     }
     Ok(())
 }
@@ -115,8 +114,7 @@ pub(crate) fn note_list_defaults(
 {
     let statements = list.block.items();
     let keys = key_names(alloc, statements)?;
-    note_defaults(alloc, least, scope, &keys, statements)?;
-    Ok(())
+    note_defaults(alloc, least, scope, &keys, statements)
 }
 
 /// The defaults of the fields of a fixed container.
@@ -132,6 +130,5 @@ pub(crate) fn note_fixed_defaults(
 {
     let statements = container.block.items();
     let keys = NameSet::new(alloc);
-    note_defaults(alloc, least, scope, &keys, statements)?;
-    Ok(())
+    note_defaults(alloc, least, scope, &keys, statements)
 }

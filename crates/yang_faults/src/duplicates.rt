@@ -96,8 +96,7 @@ fn note_duplicates(
         (duplicates file (map declaration statements.now) (needed need.now))) }
 {
     let mut set = NameSet::new(alloc);
-    note_all_given(alloc, least, &mut set, file, need, statements)?;
-    Ok(())
+    note_all_given(alloc, least, &mut set, file, need, statements)
 }
 
 /// The names in a statement of a kind, each once among those of its group.
@@ -132,8 +131,7 @@ fn note_prefixes_of(
         return note_given(alloc, least, set, file, &PREFIX, statement);
     }
     let block = statement.block.items();
-    note_all_given(alloc, least, set, file, &PREFIX, block)?;
-    Ok(())
+    note_all_given(alloc, least, set, file, &PREFIX, block)
 }
 
 /// The prefixes of a module, its own and those of its imports, each once.

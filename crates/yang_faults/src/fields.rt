@@ -63,8 +63,7 @@ fn set_in(alloc: Global, key: &str) -> Result<NameSet, Memory>
     ensures { IfOk result (λ set. IsSetOf set.names (names_in key.now)) }
 {
     let names = names_in(alloc, key)?;
-    let set = set_of(alloc, names.as_slice())?;
-    Ok(set)
+    set_of(alloc, names.as_slice())
 }
 
 /// The names that the key of a list gives.

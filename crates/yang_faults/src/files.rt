@@ -98,8 +98,7 @@ fn note_container_tables(
         return Ok(());
     }
     let block = statement.block.items();
-    note_all_given(alloc, least, set, file, &CONTAINER, block)?;
-    Ok(())
+    note_all_given(alloc, least, set, file, &CONTAINER, block)
 }
 
 /// The tables of a module.

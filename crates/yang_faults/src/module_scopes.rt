@@ -92,8 +92,7 @@ impl<'n, 'a> ModuleScope<'n, 'a> {
             (declaration statement.now))) }
     {
         note_bad_patterns(alloc, least, self.file, statement)?;
-        note_bad_bounds(alloc, least, self.names, self.file, self.number, statement)?;
-        Ok(())
+        note_bad_bounds(alloc, least, self.names, self.file, self.number, statement)
     }
 
     /// What is wrong with a type statement of a kind by its name and its restrictions.
@@ -143,8 +142,7 @@ impl<'n, 'a> ModuleScope<'n, 'a> {
             self.number,
             statement,
         )?;
-        self.note_type_alone(alloc, least, kind, statement)?;
-        Ok(())
+        self.note_type_alone(alloc, least, kind, statement)
     }
 }
 
