@@ -76,8 +76,7 @@ fn first_of_entry(nodes: &ConfigNodes, table: usize, key: usize) -> Option<Fault
     }
 }
 
-/// The same, where the configuration isn't known as nodes. They are made for musts alone, since for them
-/// the shape of each entry is asked.
+/// The same, where the configuration isn't known as nodes. They are made for musts alone.
 fn first_at(models: &Models, config: &Config, table: usize, key: usize) -> Option<Fault>
     ensures { IsFirstHere models.now config.now table key result }
 {

@@ -14,7 +14,7 @@ pub(crate) struct ConfigNodes<'a> {
     ghost known: { Known models.now config.now } by { Known-once models.now config.now },
 }
 
-/// The nodes of a configuration, for which the shape of each of its entries is asked once.
+/// The nodes of a configuration. That the shapes of its entries are known is a law, so nothing is asked.
 pub(crate) fn nodes_of<'a>(models: &'a Models, config: &'a Config) -> ConfigNodes<'a>
     ensures models { result.models.now ≡ models.now }
     ensures config { result.config.now ≡ config.now }
