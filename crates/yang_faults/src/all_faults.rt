@@ -26,7 +26,8 @@ pub fn note_file_faults(
 {
     note_files(least, files);
     note_modules_twice(alloc, least, files)?;
-    note_tables_twice(alloc, least, files)
+    note_tables_twice(alloc, least, files)?;
+    Ok(())
 }
 
 /// What is wrong with a module and all that stands in it.

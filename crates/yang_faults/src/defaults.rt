@@ -38,7 +38,8 @@ fn note_default_of(
         scope.number,
         ty,
         default,
-    )
+    )?;
+    Ok(())
 }
 
 /// The default of a leaf with these statements, where it has one and a type.
@@ -76,7 +77,7 @@ fn note_default_at(
 {
     if statement.keyword.as_str() == "leaf" && !is_key_leaf(keys, &statement.argument) {
         let block = statement.block.items();
-        return note_default_in(alloc, least, scope, block);
+        note_default_in(alloc, least, scope, block)?;
     }
     Ok(())
 }
@@ -114,7 +115,8 @@ pub(crate) fn note_list_defaults(
 {
     let statements = list.block.items();
     let keys = key_names(alloc, statements)?;
-    note_defaults(alloc, least, scope, &keys, statements)
+    note_defaults(alloc, least, scope, &keys, statements)?;
+    Ok(())
 }
 
 /// The defaults of the fields of a fixed container.
@@ -130,5 +132,6 @@ pub(crate) fn note_fixed_defaults(
 {
     let statements = container.block.items();
     let keys = NameSet::new(alloc);
-    note_defaults(alloc, least, scope, &keys, statements)
+    note_defaults(alloc, least, scope, &keys, statements)?;
+    Ok(())
 }

@@ -96,7 +96,8 @@ fn note_duplicates(
         (duplicates file (map declaration statements.now) (needed need.now))) }
 {
     let mut set = NameSet::new(alloc);
-    note_all_given(alloc, least, &mut set, file, need, statements)
+    note_all_given(alloc, least, &mut set, file, need, statements)?;
+    Ok(())
 }
 
 /// The names in a statement of a kind, each once among those of its group.
@@ -131,7 +132,8 @@ fn note_prefixes_of(
         return note_given(alloc, least, set, file, &PREFIX, statement);
     }
     let block = statement.block.items();
-    note_all_given(alloc, least, set, file, &PREFIX, block)
+    note_all_given(alloc, least, set, file, &PREFIX, block)?;
+    Ok(())
 }
 
 /// The prefixes of a module, its own and those of its imports, each once.

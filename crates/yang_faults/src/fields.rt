@@ -63,7 +63,8 @@ fn set_in(alloc: Global, key: &str) -> Result<NameSet, Memory>
     ensures { IfOk result (λ set. IsSetOf set.names (names_in key.now)) }
 {
     let names = names_in(alloc, key)?;
-    set_of(alloc, names.as_slice())
+    let set = set_of(alloc, names.as_slice())?;
+    Ok(set)
 }
 
 /// The names that the key of a list gives.

@@ -98,7 +98,8 @@ fn note_container_tables(
         return Ok(());
     }
     let block = statement.block.items();
-    note_all_given(alloc, least, set, file, &CONTAINER, block)
+    note_all_given(alloc, least, set, file, &CONTAINER, block)?;
+    Ok(())
 }
 
 /// The tables of a module.

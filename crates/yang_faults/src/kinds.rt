@@ -1,7 +1,7 @@
 //! What each kind of statement may hold.
 
 /// A kind of statement: what it may hold, and what its argument is.
-#[derive(Clone, Copy)]
+#[derive(Clone, Copy, Debug, PartialEq, Eq)]
 pub(crate) enum Kind {
     File,
     Module,

@@ -92,7 +92,8 @@ impl<'n, 'a> ModuleScope<'n, 'a> {
             (declaration statement.now))) }
     {
         note_bad_patterns(alloc, least, self.file, statement)?;
-        note_bad_bounds(alloc, least, self.names, self.file, self.number, statement)
+        note_bad_bounds(alloc, least, self.names, self.file, self.number, statement)?;
+        Ok(())
     }
 
     /// What is wrong with a type statement of a kind by its name and its restrictions.
@@ -142,7 +143,8 @@ impl<'n, 'a> ModuleScope<'n, 'a> {
             self.number,
             statement,
         )?;
-        self.note_type_alone(alloc, least, kind, statement)
+        self.note_type_alone(alloc, least, kind, statement)?;
+        Ok(())
     }
 }
 

@@ -76,7 +76,8 @@ fn note_list(
         (list_faults file (map declaration statements.now))) }
 {
     note_keys(alloc, least, file, statements)?;
-    note_list_fields(alloc, least, file, statements)
+    note_list_fields(alloc, least, file, statements)?;
+    Ok(())
 }
 
 /// The sentences on a module.
@@ -91,7 +92,8 @@ fn note_module(
         (module_faults file name.now (map declaration statements.now))) }
 {
     note_all_misnamed(least, file, name, statements);
-    note_prefixes(alloc, least, file, statements)
+    note_prefixes(alloc, least, file, statements)?;
+    Ok(())
 }
 
 /// The sentences on a statement of its kind alone.

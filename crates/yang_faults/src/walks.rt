@@ -50,7 +50,8 @@ fn note_sentences<S: Scope>(
     note_missing(least, file, kind, statement.line, block);
     note_duplicates_in(alloc, least, file, kind, block)?;
     note_own(alloc, least, scope, file, kind, statement)?;
-    scope.note_named(alloc, least, kind, statement)
+    scope.note_named(alloc, least, kind, statement)?;
+    Ok(())
 }
 
 /// All faults of a statement of a kind.
@@ -68,7 +69,8 @@ pub(crate) fn note_statement<S: Scope>(
         (declaration statement.now) kind)) }
 {
     note_sentences(alloc, least, scope, file, kind, statement)?;
-    note_block(alloc, least, scope, file, kind, &statement.block)
+    note_block(alloc, least, scope, file, kind, &statement.block)?;
+    Ok(())
 }
 
 /// All faults of the statements in one of a kind.

@@ -1,5 +1,4 @@
 use Rattle.std.proofs.Common.{List, [], ap, sym, ◌∙◌}
-use Rattle.std.proofs.lemmas.Result.{on_ok_weaker}
 use Rattle.yang_text.specs.Declarations.{Declaration}
 use Rattle.yang_scope.specs.Faults.{least_of}
 use Rattle.yang_scope.proofs.Blocks.{block-is}
@@ -7,9 +6,7 @@ use Rattle.yang_faults.specs.DefaultFaults.{bad_defaults}
 use Rattle.yang_faults.proofs.defaults.note_fixed_defaults.Goals as goal
 
 pub returns : goal.returns
-returns c = on_ok_weaker c.note_defaults.result
-    (λ done. λ tests decide.
-    done [] c.new-keys.ensures tests decide
+returns c = λ tests decide.
+    c.in_ok-note_defaults.ensures [] c.new-keys.ensures tests decide
     ∙ ap (λ (ds : List Declaration). least_of c.args.least.now (bad_defaults c.args.scope.now.names.now tests c.args.scope.now.file c.args.scope.now.number [] ds))
-    (c.items-statements.ensures ∙ sym (block-is c.args.container.now)))
-    c.note_defaults.ensures
+    (c.items-statements.ensures ∙ sym (block-is c.args.container.now))

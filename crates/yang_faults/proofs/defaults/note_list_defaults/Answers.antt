@@ -1,5 +1,4 @@
 use Rattle.std.proofs.Common.{List, map, ap, sym, ◌∙◌}
-use Rattle.std.proofs.lemmas.Result.{on_ok_weaker}
 use Rattle.yang_text.specs.Declarations.{Declaration}
 use Rattle.yang_text.specs.Statements.{declaration}
 use Rattle.yang_scope.specs.Faults.{least_of}
@@ -9,9 +8,7 @@ use Rattle.yang_faults.specs.Fields.{key_names}
 use Rattle.yang_faults.proofs.defaults.note_list_defaults.Goals as goal
 
 pub returns : goal.returns
-returns c = on_ok_weaker c.note_defaults.result
-    (λ done. λ tests decide.
-    done (key_names (map declaration c.items-statements.result.now)) c.in_ok-keys.ensures tests decide
+returns c = λ tests decide.
+    c.in_ok-note_defaults.ensures (key_names (map declaration c.items-statements.result.now)) c.in_ok-keys.ensures tests decide
     ∙ ap (λ (ds : List Declaration). least_of c.args.least.now (bad_defaults c.args.scope.now.names.now tests c.args.scope.now.file c.args.scope.now.number (key_names ds) ds))
-    (c.items-statements.ensures ∙ sym (block-is c.args.list.now)))
-    c.note_defaults.ensures
+    (c.items-statements.ensures ∙ sym (block-is c.args.list.now))

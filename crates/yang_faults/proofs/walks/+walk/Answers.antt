@@ -1,6 +1,5 @@
 use Rattle.std.proofs.Common.{◌≤◌, ap, ◌∙◌, sym, map, take_all, arith, List, refl}
 use Rattle.std.specs.List.{flat_map}
-use Rattle.std.proofs.lemmas.Result.{on_ok_weaker}
 use Rattle.yang_text.specs.Declarations.{Declaration, block_of, weight, total_weight}
 use Rattle.yang_text.specs.Falls.{block_weighs}
 use Rattle.yang_text.specs.Statements.{declaration}
@@ -42,8 +41,7 @@ pub note_statement-note_block-requires : goal.note_statement-note_block-requires
 note_statement-note_block-requires g t c κs within = (omega (arith, block_weighs c.args.statement.now.block), within)
 
 pub note_statement-returns : goal.note_statement-returns
-note_statement-returns g t c = on_ok_weaker c.note_block.result
-    (λ done. λ tests decide.
+note_statement-returns g t c = λ tests decide.
     let s = c.args.statement.now in
     let knows = g.S.Scope.knows c.args.scope.now in
     let settles = g.S.Scope.settles c.args.scope.now in
@@ -52,5 +50,4 @@ note_statement-returns g t c = on_ok_weaker c.note_block.result
     (sentence_faults knows named c.args.file c.args.kind (declaration s))
     (block_faults knows settles named c.args.file (block_of s.block) c.args.kind)
     (c.in_ok-note_sentences.ensures tests decide)
-    (done tests decide))
-    c.note_block.ensures
+    (c.in_ok-note_block.ensures tests decide)

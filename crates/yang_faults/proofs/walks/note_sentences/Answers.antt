@@ -1,5 +1,4 @@
 use Rattle.std.proofs.Common.{◌≡◌, ap, ◌∙◌, sym, map, List}
-use Rattle.std.proofs.lemmas.Result.{on_ok_weaker}
 use Rattle.yang_text.specs.Declarations.{Declaration, block_of, declarations}
 use Rattle.yang_text.specs.Statements.{declaration}
 use Rattle.yang_scope.specs.Faults.{least_of}
@@ -11,8 +10,7 @@ use Rattle.yang_faults.proofs.FaultLists.{least_of-six}
 use Rattle.yang_faults.proofs.walks.note_sentences.Goals as goal
 
 pub returns : goal.returns
-returns g c = on_ok_weaker c.note_named.result
-    (λ done. λ tests decide.
+returns g c = λ tests decide.
     let s = c.args.statement.now in
     let ds = declarations (block_of s.block) in
     let whole : map declaration c.items-block.result.now ≡ ds = c.items-block.ensures ∙ sym (declarations-block_of s.block) in
@@ -28,5 +26,4 @@ returns g c = on_ok_weaker c.note_named.result
     (c.note_missing.ensures ∙ ap (λ (es : List Declaration). least_of c.note_repeated_in.new.least (missing_in c.args.file c.args.kind s.line es)) whole)
     (c.in_ok-note_duplicates_in.ensures ∙ ap (λ (es : List Declaration). least_of c.note_missing.new.least (duplicates_in c.args.file c.args.kind es)) whole)
     c.in_ok-note_own.ensures
-    (done tests decide))
-    c.note_named.ensures
+    (c.in_ok-note_named.ensures tests decide)

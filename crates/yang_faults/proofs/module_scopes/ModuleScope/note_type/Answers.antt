@@ -1,4 +1,3 @@
-use Rattle.std.proofs.lemmas.Result.{on_ok_weaker}
 use Rattle.yang_text.specs.Statements.{declaration}
 use Rattle.yang_values.specs.Circles.{circle}
 use Rattle.yang_faults.specs.Types.{type_faults}
@@ -6,13 +5,11 @@ use Rattle.yang_faults.proofs.FaultLists.{least_of-two}
 use Rattle.yang_faults.proofs.module_scopes.ModuleScope.note_type.Goals as goal
 
 pub returns : goal.returns
-returns c = on_ok_weaker c.note_type_alone.result
-    (λ done. λ tests decide.
+returns c = λ tests decide.
     let s = c.args.self.now in
     let d = declaration c.args.statement.now in
     least_of-two c.args.least.now c.note_if_circle.new.least c.note_type_alone.new.least
     (circle (tests.is_on_circle s.names.now) s.file s.number d)
     (type_faults s.names.now tests s.file s.number c.args.kind d)
     (c.in_ok-note_if_circle.ensures (tests.is_on_circle s.names.now) (decide.circles s.names.now))
-    (done tests decide))
-    c.note_type_alone.ensures
+    (c.in_ok-note_type_alone.ensures tests decide)
