@@ -1,4 +1,5 @@
-//! Paths: the names of a place in a configuration.
+//! Paths: the names of a place in a configuration. They stand behind one pointer, so that a copy of a path shares
+//! them.
 ghost use Rattle.std.specs.Prelude.{◌≡◌, ◌↔◌, ◌<◌, length, map, slice_get, Some, IfOk, IsTrue};
 ghost use Rattle.conf_doc.specs.Paths.{IsPath};
 
@@ -6,12 +7,13 @@ use host_core::Memory;
 use smallvec::SmallVec;
 use std::alloc::Global;
 use std::marker::Model;
+use std::rc::Rc;
 
 /// The place of a table, of an entry (table and key) or of a field (table, key and field's name). No
 /// name is empty. Contracts see the list of the names.
 #[derive(Drop)]
 pub struct Path {
-    names: SmallVec<String, 3>,
+    names: Rc<SmallVec<String, 3>>,
 }
 
 impl Model for Path {
@@ -20,9 +22,9 @@ impl Model for Path {
 
     ghost Value = { List (List ℕ) };
 
-    ghost view = { λ p. map string_bytes p.names.items };
+    ghost view = { λ p. map string_bytes p.names.value.items };
 
-    ghost invariant = { λ p. IsPath (map string_bytes p.names.items) };
+    ghost invariant = { λ p. IsPath (map string_bytes p.names.value.items) };
 }
 
 impl Path {
@@ -36,7 +38,9 @@ impl Path {
             let text = String::from_str(alloc, *name)?;
             path.push(text)?;
         }
-        Ok(Path { names: path })
+        Ok(Path {
+            names: Rc::new(alloc, path)?,
+        })
     }
 
     /// How many names there are.
@@ -44,7 +48,7 @@ impl Path {
         ensures len { result ≡ length self.now }
         ensures formed { IsPath self.now }
     {
-        self.names.len()
+        self.names.as_ref().len()
     }
 
     /// The name at an index, counted from 0.
@@ -53,21 +57,22 @@ impl Path {
         ensures name { slice_get self.now i ≡ Some result.now }
         ensures named { 0 < length result.now }
     {
-        self.names.as_slice()[i].as_str()
+        self.names.as_ref().as_slice()[i].as_str()
     }
 
     /// Whether the paths are the same.
     pub fn same(&self, other: &Path) -> bool
         ensures { IsTrue result ↔ (self.now ≡ other.now) }
     {
-        self.names.as_slice() == other.names.as_slice()
+        self.names.as_ref().as_slice() == other.names.as_ref().as_slice()
     }
 
-    /// The same path.
+    /// The same path, with shared names.
     pub fn copy(&self, alloc: Global) -> Result<Path, Memory>
         ensures { IfOk result (λ p. p ≡ self.now) }
     {
-        let names = SmallVec::from_clones(alloc, self.names.as_slice())?;
-        Ok(Path { names })
+        Ok(Path {
+            names: self.names.clone()?,
+        })
     }
 }
