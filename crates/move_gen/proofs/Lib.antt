@@ -7,6 +7,7 @@ pub mod OfKinds
 pub mod Owned
 pub mod Parted
 pub mod SamePairs
+pub mod Settled
 pub mod TableMoves
 pub mod Walks
 pub mod WantNames

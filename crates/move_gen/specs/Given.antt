@@ -47,6 +47,11 @@ IsForEntry t k g = (slice_get g.place 0 ≡ Some t) × (slice_get g.place 1 ≡ 
 abbrev pub AreForEntries : EntryGiver → Type 0
 AreForEntries Is = (t k : List ℕ) (e : Entry) (g : Generated) → Is t k e g → IsForEntry t k g
 
+-- each is for an entry that the other configuration lacks
+abbrev pub AreOfMissing : EntryGiver → Config → Type 0
+AreOfMissing Is other =
+    (t k : List ℕ) (e : Entry) (g : Generated) → Is t k e g → Lacks other (t ∷ k ∷ [])
+
 -- what is given for the entries of a table
 abbrev pub IsOfTable : EntryGiver → Giver Table Generated
 IsOfTable Is t table g = IsOfSome (Is t) table g

@@ -29,3 +29,7 @@ pub record IsOfFirst {A B : Type 0} (Is : Giver A B) (ps : List (List ℕ × A))
   pub part : A
   pub there : slice_get (map (λ p. p.1) ps) index ≡ Some part
   pub is : Is name part b
+
+-- none is for a pair before an index
+abbrev pub IsNoneOfFirst : {A B : Type 0} → Giver A B → List (List ℕ × A) → ℕ → Type 0
+IsNoneOfFirst {A} {B} Is ps n = (b : B) → ¬ IsOfFirst Is ps n b

@@ -1,5 +1,6 @@
 -- what only private clauses cite
 pub mod Adding
+pub mod Beside
 pub mod Choosing
 pub mod EntryLaws
 pub mod FieldWants

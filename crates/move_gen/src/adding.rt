@@ -60,6 +60,10 @@ impl<'a> EntryMoves for AddedEntries<'a> {
         self.cur
     }
 
+    fn is_of_missing(&self) -> bool {
+        true
+    }
+
     fn give(
         &self,
         alloc: Global,

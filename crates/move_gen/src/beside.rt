@@ -1,41 +1,24 @@
-//! Entries of a table that is gone through beside another one: where both have the same keys, each is found
-//! next to the last.
-ghost use Rattle.std.specs.Prelude.{◌≡◌, ◌<◌, length, map, option_and_then, option_copied, slice_get, Some, IsTrue};
-ghost use Rattle.conf_doc.specs.Pairs.{find};
+//! Entries of a table that is gone through beside another one, and fields of an entry: where both have the same
+//! names, each is found next to the last.
+ghost use Rattle.std.specs.Prelude.{◌≡◌, ◌<◌, ◌≤◌, length, map, option_and_then, option_copied, slice_get, Some, IsTrue};
+ghost use Rattle.conf_doc.specs.Pairs.{IsRising, find};
+ghost use Rattle.move_gen.specs.Beside.{AreNamedAlike};
 
-use conf_doc::{Entry, Table};
+use conf_doc::{Entry, Table, Value};
 
-/// Whether a key stands at an index.
-fn stands_at(table: &Table, i: usize, key: &str) -> bool
-    ensures within { IsTrue result → i < length table.now }
-    ensures key { IsTrue result → slice_get (map (λ e. e.0) table.now) i ≡ Some key.now }
+/// How many keys two tables begin with alike.
+pub(crate) fn same_keys_front(table: &Table, other: &Table) -> usize
+    ensures within { result ≤ length table.now }
+    ensures alike { AreNamedAlike result table.now other.now }
+    ensures rising { IsRising other.now }
 {
-    i < table.len() && table.name_at(i) == key
-}
-
-/// The entry of a key, looked for first at an index.
-fn entry_near<'t>(table: &'t Table, key: &str, near: usize) -> Option<&'t Entry>
-    ensures { option_copied result ≡ find key.now table.now }
-{
-    if stands_at(table, near, key) {
-        Some(table.part_at(near))
-    } else {
-        table.entry(key)
+    let both = table.len().min(other.len());
+    for i in 0..both {
+        if table.name_at(i) != other.name_at(i) {
+            return i;
+        }
     }
-}
-
-/// The same of a table that may be there.
-pub(crate) fn entry_beside<'t>(
-    table: Option<&'t Table>,
-    key: &str,
-    near: usize,
-) -> Option<&'t Entry>
-    ensures { option_copied result ≡ option_and_then (find key.now) (option_copied table.entry) }
-{
-    match table {
-        Some(table) => entry_near(table, key, near),
-        None => None,
-    }
+    both
 }
 
 /// The first index from one on at which a key above that one stands. Any other is as right, since it only
@@ -49,16 +32,38 @@ fn first_above(table: &Table, key: &str, from: usize) -> usize {
     table.len()
 }
 
-/// Where to look for the key after that one.
-pub(crate) fn near_next(table: Option<&Table>, key: &str, near: usize) -> usize {
+/// The entry of a key, looked for first at an index, and where to look for the key after that one.
+fn look_near<'t>(table: &'t Table, key: &str, near: usize) -> (Option<&'t Entry>, usize)
+    ensures { option_copied result.0 ≡ find key.now table.now }
+{
+    if near < table.len() && table.name_at(near) == key {
+        (Some(table.part_at(near)), near + 1)
+    } else {
+        (table.entry(key), first_above(table, key, near))
+    }
+}
+
+/// The same of a table that may be there.
+pub(crate) fn look_beside<'t>(
+    table: Option<&'t Table>,
+    key: &str,
+    near: usize,
+) -> (Option<&'t Entry>, usize)
+    ensures { option_copied result.0 ≡ option_and_then (find key.now) (option_copied table.entry) }
+{
     match table {
-        Some(table) => {
-            if near < table.len() && table.name_at(near) == key {
-                near + 1
-            } else {
-                first_above(table, key, near)
-            }
-        }
-        None => 0,
+        Some(table) => look_near(table, key, near),
+        None => (None, 0),
+    }
+}
+
+/// The value of a field, looked for first at an index.
+pub(crate) fn field_near<'e>(entry: &'e Entry, field: &str, near: usize) -> Option<&'e Value>
+    ensures { option_copied result ≡ find field.now entry.now }
+{
+    if near < entry.len() && entry.name_at(near) == field {
+        Some(entry.part_at(near))
+    } else {
+        entry.field(field)
     }
 }

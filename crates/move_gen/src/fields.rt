@@ -5,6 +5,7 @@ ghost use Rattle.move_gen.specs.EntryLaws.{changed_for};
 ghost use Rattle.move_gen.specs.Given.{IsChangedEntry, IsOfFields, IsRemovedField, IsReplace, IsSetField};
 ghost use Rattle.move_gen.specs.Giving.{Gives, IsOfSome};
 
+use crate::beside::field_near;
 use crate::entries::{EntryMoves, give_entries};
 use crate::giving::{FIELD_CLASS, give_own};
 use conf_doc::{Config, Entry, Part, Path, Value};
@@ -59,6 +60,10 @@ impl<'a> EntryMoves for ChangedEntries<'a> {
         self.cur
     }
 
+    fn is_of_missing(&self) -> bool {
+        false
+    }
+
     fn give(
         &self,
         alloc: Global,
@@ -77,7 +82,7 @@ impl<'a> EntryMoves for ChangedEntries<'a> {
     ghost for_entries = { λ s. changed_for s.cur.now };
 }
 
-/// Puts the remove of a field that goal's entry lacks.
+/// Puts the remove of a field that goal's entry lacks. There it is looked for first at an index.
 fn remove_field(
     alloc: Global,
     table: &str,
@@ -85,6 +90,7 @@ fn remove_field(
     field: &str,
     value: &Value,
     new: &Entry,
+    near: usize,
     out: &mut Vec<Generated>,
 ) -> Result<(), Memory>
     requires table { 0 < length table.now }
@@ -93,7 +99,7 @@ fn remove_field(
     ensures { let Is = IsRemovedField table.now key.now new.now field.now value.now in
         Gives Is result out.old.items out.new.items }
 {
-    match new.field(field) {
+    match field_near(new, field, near) {
         Some(_) => Ok(()),
         None => {
             let path = Path::new(alloc, &[table, key, field])?;
@@ -102,7 +108,8 @@ fn remove_field(
     }
 }
 
-/// Puts the move of a field to goal's value, where cur's entry has another one or none.
+/// Puts the move of a field to goal's value, where cur's entry has another one or none. There it is
+/// looked for first at an index.
 fn set_field(
     alloc: Global,
     table: &str,
@@ -110,6 +117,7 @@ fn set_field(
     field: &str,
     value: &Value,
     old: &Entry,
+    near: usize,
     out: &mut Vec<Generated>,
 ) -> Result<(), Memory>
     requires table { 0 < length table.now }
@@ -118,7 +126,7 @@ fn set_field(
     ensures { let Is = IsSetField table.now key.now old.now field.now value.now in
         Gives Is result out.old.items out.new.items }
 {
-    match old.field(field) {
+    match field_near(old, field, near) {
         Some(before) => replace_field(alloc, table, key, field, value, before, out),
         None => {
             let path = Path::new(alloc, &[table, key, field])?;
@@ -167,7 +175,16 @@ fn remove_fields(
         Gives Is result out.old.items out.new.items }
 {
     for i in 0..old.len() {
-        remove_field(alloc, table, key, old.name_at(i), old.part_at(i), new, out)?;
+        remove_field(
+            alloc,
+            table,
+            key,
+            old.name_at(i),
+            old.part_at(i),
+            new,
+            i,
+            out,
+        )?;
     }
     Ok(())
 }
@@ -187,7 +204,16 @@ fn set_fields(
         Gives Is result out.old.items out.new.items }
 {
     for i in 0..new.len() {
-        set_field(alloc, table, key, new.name_at(i), new.part_at(i), old, out)?;
+        set_field(
+            alloc,
+            table,
+            key,
+            new.name_at(i),
+            new.part_at(i),
+            old,
+            i,
+            out,
+        )?;
     }
     Ok(())
 }

@@ -60,6 +60,10 @@ impl<'a> EntryMoves for RemovedEntries<'a> {
         self.goal
     }
 
+    fn is_of_missing(&self) -> bool {
+        true
+    }
+
     fn give(
         &self,
         alloc: Global,

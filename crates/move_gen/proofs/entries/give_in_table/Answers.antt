@@ -1,19 +1,23 @@
 use Rattle.std.proofs.Common.{ap, ◌∙◌, arith}
 use Rattle.conf_doc.specs.Pairs.{find}
+use Rattle.move_gen.specs.Giving.{IsOfFirst}
+use Rattle.move_gen.proofs.Appended.{appends_none}
 use Rattle.move_gen.proofs.Named.{key_name}
 use Rattle.move_gen.proofs.Parted.{found_there}
-use Rattle.move_gen.proofs.Walks.{letters_at, walk_begins, walk_ends, walk_more, walk_stops}
+use Rattle.move_gen.proofs.Walks.{letters_at, walk_ends, walk_more, walk_stops}
 use Rattle.move_gen.proofs.entries.give_in_table.Goals as goal
 
 pub loop-i-init : goal.loop-i-init
-loop-i-init g c = walk_begins (g.M.EntryMoves.is_given c.args.moves.now c.args.name.now) c.args.table.now c.args.out.now.items
+loop-i-init g c =
+    let Is = g.M.EntryMoves.is_given c.args.moves.now c.args.name.now in
+    appends_none (IsOfFirst Is c.args.table.now c.count_settled-first.result) c.args.out.now.items c.count_settled-first.ensures.none
 
 pub give-requires-clause-key : goal.give-requires-clause-key
 give-requires-clause-key g c = letters_at c.args.table.now c.loop-i.i c.name_at-key.result.now c.len-i-end.ensures.formed.shaped.named c.name_at-key.ensures
 
 pub give-requires-clause-there : goal.give-requires-clause-there
 give-requires-clause-there g c =
-    found_there (g.M.EntryMoves.other c.args.moves.now) c.args.name.now c.name_at-key.result.now _ _ c.entry_beside-there.ensures
+    found_there (g.M.EntryMoves.other c.args.moves.now) c.args.name.now c.name_at-key.result.now _ _ c.look_beside-next.ensures
     (c.table-other.ensures.table ∙ ap (find c.args.name.now) c.beside.ensures)
 
 pub returns-in_err-give : goal.returns-in_err-give
@@ -35,3 +39,6 @@ returns g c =
     let end = c.loop-i-test.false in let all = c.len-i-end.ensures.len in
     walk_ends (g.M.EntryMoves.is_given c.args.moves.now c.args.name.now) c.args.table.now c.len-i-end.ensures.formed.shaped.rising
     c.loop-i.i c.args.out.now.items c.loop-i.out.items (omega (arith, end, all)) c.loop-i.invariant
+
+pub count_settled-first-requires : goal.count_settled-first-requires
+count_settled-first-requires g c = c.table-other.ensures.table ∙ ap (find c.args.name.now) c.beside.ensures

@@ -9,4 +9,4 @@ found a o is none = cc
 pub returns-in-Some : goal.returns-in-Some
 returns-in-Some c =
     appends_none (IsRemovedField c.args.table.now c.args.key.now c.args.new.now c.args.field.now c.args.value.now) c.args.out.now.items
-    (λ g is. found c.in-Some.field-0.now _ c.in-Some.ensures.field is.0)
+    (λ g is. found c.in-Some.field-0.now _ c.in-Some.ensures is.0)
