@@ -31,6 +31,15 @@ module _ {A : Type 0} where
     once = none_once (λ a b. a ≢ b);
   }
 
+  -- nothing was put
+  pub some_none : (P : A → Type 0) (xs ys : List A) → ys ≡ xs → AppendsSome P xs ys
+  some_none P xs ys same = record {
+    more = [];
+    follows = same ∙ sym (append-nil xs);
+    each = λ k d below. absurd (omega arith);
+    once = none_once (λ a b. a ≢ b);
+  }
+
   -- what is meant is said in other words
   pub appends_alike : (P Q : A → Type 0) (xs ys : List A) → ((a : A) → P a ↔ Q a) → Appends P xs ys → Appends Q xs ys
   appends_alike P Q xs ys alike h = record {
