@@ -1,4 +1,4 @@
-//! The list of moves at a configuration, whole and tier by tier.
+//! The list of moves at a configuration, whole and part by part.
 ghost use Rattle.std.specs.Prelude.{◌≤◌};
 ghost use Rattle.move_examples.specs.Situations.{IsReady};
 
@@ -9,7 +9,7 @@ use crate::ranks::ranked_at;
 use crate::situations::{Situation, situation_at};
 use example_rows::{Fail, Table, items_at, number_at, text_bytes};
 use move_core::{Boxes, Kit, Move, Ranked};
-use plan_lists::{listed, listed_in_tier};
+use plan_lists::{listed, listed_in_part};
 use serde_json::Value;
 use std::alloc::Global;
 
@@ -37,26 +37,30 @@ impl<'a> KitTable for Lists<'a> {
         row: &Value,
     ) -> Result<bool, Fail> {
         let said = items_at(row, "list")?;
-        let first = is_tier(alloc, situation, kit, 1, said)?;
-        let second = is_tier(alloc, situation, kit, 2, said)?;
-        let third = is_tier(alloc, situation, kit, 3, said)?;
-        let fourth = is_tier(alloc, situation, kit, 4, said)?;
-        Ok(first && second && third && fourth && is_list(alloc, situation, kit, said)?)
+        let alone = is_part(alloc, situation, kit, 1, said)?;
+        let once = is_part(alloc, situation, kit, 2, said)?;
+        let twice = is_part(alloc, situation, kit, 3, said)?;
+        let thrice = is_part(alloc, situation, kit, 4, said)?;
+        let far = is_part(alloc, situation, kit, 5, said)?;
+        let restoring = is_part(alloc, situation, kit, 6, said)?;
+        let others = is_part(alloc, situation, kit, 7, said)?;
+        let extended = once && twice && thrice && far;
+        Ok(alone && extended && restoring && others && is_list(alloc, situation, kit, said)?)
     }
 }
 
-/// Whether the moves of a tier are those that are said.
-fn is_tier(
+/// Whether the moves of a part are those that are said.
+fn is_part(
     alloc: Global,
     situation: &Situation,
     kit: &mut Kit,
-    tier: u8,
+    part: u8,
     said: &[Value],
 ) -> Result<bool, Fail>
     requires kinds { ⟦<Kit as Boxes>⟧.HasKinds kit.old }
     requires ready { IsReady situation.now }
-    requires low { 1 ≤ tier }
-    requires high { tier ≤ 4 }
+    requires low { 1 ≤ part }
+    requires high { part ≤ 7 }
     ensures kinds { ⟦<Kit as Boxes>⟧.HasKinds kit.new }
 {
     let Situation {
@@ -65,8 +69,8 @@ fn is_tier(
         cur,
         goal,
     } = situation;
-    let moves = listed_in_tier(alloc, ctx, kit, start, cur, goal, tier)?;
-    are_texts(alloc, &moves, said, Some(u64::from(tier)))
+    let moves = listed_in_part(alloc, ctx, kit, start, cur, goal, part)?;
+    are_texts(alloc, &moves, said, Some(part))
 }
 
 /// Whether the whole list is what is said, and so are the ranks.
@@ -93,27 +97,42 @@ fn are_listed(alloc: Global, moves: &[Move], said: &[Value]) -> Result<bool, Fai
     Ok(are_texts(alloc, moves, said, None)? && are_ranked(alloc, moves, said)?)
 }
 
-/// Whether the texts of moves are those that are said, of one tier or of all.
+/// Whether the texts of moves are those that are said, of one part or of all.
 fn are_texts(
     alloc: Global,
     moves: &[Move],
     said: &[Value],
-    tier: Option<u64>,
+    part: Option<u8>,
 ) -> Result<bool, Fail> {
-    let said = said_texts(alloc, said, tier)?;
+    let said = said_texts(alloc, said, part)?;
     let texts = move_texts(alloc, moves)?;
     Ok(texts == said)
 }
 
-/// The texts of the moves that are said, of one tier or of all.
-fn said_texts(alloc: Global, said: &[Value], tier: Option<u64>) -> Result<Lines, Fail> {
+/// The texts of the moves that are said, of one part or of all.
+fn said_texts(alloc: Global, said: &[Value], part: Option<u8>) -> Result<Lines, Fail> {
     let mut texts = Vec::new(alloc);
     for row in said {
-        if tier.is_none() || tier == Some(number_at(row, "tier")?) {
+        if part.is_none() || part == Some(part_said(row)?) {
             texts.push(text_bytes(alloc, row, "move")?)?;
         }
     }
     Ok(texts)
+}
+
+/// The part of the list in which a row's rank lies.
+fn part_said(row: &Value) -> Result<u8, Fail> {
+    Ok(
+        match (number_at(row, "tier")?, number_at(row, "extensions")?) {
+            (1, _) => 1,
+            (2, 1) => 2,
+            (2, 2) => 3,
+            (2, 3) => 4,
+            (2, _) => 5,
+            (3, _) => 6,
+            _ => 7,
+        },
+    )
 }
 
 /// Whether the moves with the ranks that are said stand in order.

@@ -130,12 +130,8 @@ equal≢Greater Less e g = absurd (cc)
 equal≢Greater Equal e g = absurd (cc)
 equal≢Greater Greater e g = absurd (cc)
 
-nat_cmp_same : (a b : ℕ) → a ≡ b → nat_cmp a b ≡ Equal
+pub nat_cmp_same : (a b : ℕ) → a ≡ b → nat_cmp a b ≡ Equal
 nat_cmp_same a b e = subst (λ x. nat_cmp a x ≡ Equal) e (nat_itself a)
-
--- a lesser tier comes first
-pub less_tier : (r s : Ranked) → r.tier < s.tier → rank_cmp r s ≢ Greater
-less_tier r s lt = less≢Greater (nat_cmp r.tier s.tier) _ (nat_less r.tier s.tier lt)
 
 -- of the same tier and class the one with fewer extensions comes first
 pub no_deeper : (r s : Ranked) → r.tier ≡ s.tier → r.depth ≤ s.depth → r.class ≡ s.class → rank_cmp r s ≢ Greater

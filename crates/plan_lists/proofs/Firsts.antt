@@ -6,24 +6,23 @@ use Rattle.std.specs.List.Sorted.{IsPermutation, IsSorted}
 use Rattle.std.specs.Ordering.{is_gt, is_lt, ordering_reverse, ordering_then}
 use Rattle.std.specs.declared.cmp.Ordering.{Ordering}
 use Rattle.std.specs.declared.cmp.Ordering.TheVariants.{Less, Equal, Greater}
-use Rattle.std.proofs.lemmas.List.Elements.{Contains-append_left, Contains-get_or, Contains-push, Contains-push_cases, All-contains, All-map, All-nil, All-push, All-weaker}
+use Rattle.std.proofs.lemmas.List.Elements.{Contains-append_left, Contains-get_or, Contains-push, Contains-push_cases, All-contains, All-nil, All-push, All-weaker}
 use Rattle.std.proofs.lemmas.List.MinMax.{ranks_by}
 use Rattle.std.proofs.lemmas.List.Quantifiers.{all_pairs_push}
-use Rattle.std.proofs.lemmas.List.Sorted.{All-permutation, Contains-permutation, sorted_far}
+use Rattle.std.proofs.lemmas.List.Sorted.{All-permutation, Contains-permutation, IsPermutation-sym, sorted_far}
 use Rattle.conf_doc.specs.declared.configuration.Config.{Config}
 use Rattle.move_core.specs.Contexts.{rulebook}
-use Rattle.move_core.specs.Listed.{AreListed, IsListed, IsRanked, moves_of}
+use Rattle.move_core.specs.Listed.{IsRanked, moves_of}
 use Rattle.move_core.specs.ListedOrder.{listed_cmp, move_cmp, rank_cmp}
 use Rattle.move_core.specs.ListedOrderLaws.{listed_same, listed_total}
-use Rattle.move_core.specs.Rulebook.{Rulebook}
 use Rattle.move_core.specs.declared.moves.Move.{Move}
 use Rattle.move_core.specs.declared.moves.Ranked.{Ranked}
-use Rattle.plan_lists.specs.Ranking.{AreChainsIn, AreEarlier, AreFirsts, AreInOrder, AreSorted, HasFirsts, HasLeast, IsChain, IsEarlier, IsInTier}
+use Rattle.plan_lists.specs.Parts.{AreRankedIn, part_of}
+use Rattle.plan_lists.specs.Ranking.{AreChainsIn, AreEarlier, AreFirsts, AreInOrder, AreSorted, HasFirsts, HasLeast, IsChain, IsEarlier, IsInPart}
 use Rattle.plan_lists.specs.Reaches.{Depths, HasMove, IsNoted}
-use Rattle.plan_lists.specs.Tiers.{AreListedIn, AreRankedIn}
 use Rattle.plan_lists.specs.declared.asking.Question.{Question}
-use Rattle.plan_lists.proofs.Chains.{less_tier}
 use Rattle.plan_lists.proofs.Members.{first_member, later_member, member_cases, no_member}
+use Rattle.plan_lists.proofs.PartOrder.{less_part}
 
 -- ---- orders
 
@@ -248,63 +247,63 @@ pub has_firsts : (known : Depths) (rs : List Ranked) (seen : Depths) (ms : List 
 has_firsts known rs seen ms so is =
     (so.kept, so.firsts, is ∙ ap (map (λ e. e.0)) so.is ∙ map_map (λ e. e.0) entry so.kept)
 
--- ---- the list of a tier
+-- ---- the list of a part
 
 less_only : (o : Ordering) → o ≢ Greater → o ≢ Equal → o ≡ Less
 less_only Less g e = refl
 less_only Equal g e = absurd (e refl)
 less_only Greater g e = absurd (g refl)
 
-module _ (q : Question) (start : Config) (tier : ℕ) (known : Depths) (rs : List Ranked) (chains : AreChainsIn q start tier rs)
-    (earlier : AreEarlier q start tier known) (sorted kept : List Ranked) (turned : IsPermutation rs sorted) (firsts : AreFirsts known sorted kept) where
+module _ (q : Question) (start : Config) (part : ℕ) (known : Depths) (rs : List Ranked) (chains : AreChainsIn q start part rs)
+    (earlier : AreEarlier q start part rs known) (sorted kept : List Ranked) (turned : IsPermutation rs sorted) (firsts : AreFirsts known sorted kept) where
   abbrev IsKeptChain : Ranked → Type 0
   IsKeptChain r = Contains sorted r × ¬ HasMove known r.mv
 
   in_kept : (r : Ranked) → Contains kept r → IsKeptChain r
   in_kept r h = All-contains IsKeptChain kept r firsts.each h
 
-  is_chain : (r : Ranked) → Contains kept r → IsChain q start r × (r.tier ≡ tier)
+  is_chain : (r : Ranked) → Contains kept r → IsChain q start r × (part_of r ≡ part)
   is_chain r h =
-      All-contains (λ x. IsChain q start x × (x.tier ≡ tier)) sorted r
-      (All-permutation (λ x. IsChain q start x × (x.tier ≡ tier)) rs sorted turned chains.each) (in_kept r h).0
+      All-contains (λ x. IsChain q start x × (part_of x ≡ part)) sorted r
+      (All-permutation (λ x. IsChain q start x × (part_of x ≡ part)) rs sorted turned chains.each) (in_kept r h).0
 
   module _ (r : Ranked) (h : Contains kept r) where
-    not_earlier : ¬ IsEarlier q start tier r.mv
-    not_earlier e = (in_kept r h).1 (earlier.all r.mv e)
+    not_earlier : ¬ IsEarlier q start part r.mv
+    not_earlier e = (in_kept r h).1 (earlier.all r (Contains-permutation sorted rs r (IsPermutation-sym rs sorted turned) (in_kept r h).0) e)
 
-    of_tier : (s : Ranked) → s.mv ≡ r.mv → HasLeast rs s ⊎ IsEarlier q start tier s.mv → rank_cmp r s ≢ Greater
-    of_tier s e (inl c) =
+    of_part : (s : Ranked) → s.mv ≡ r.mv → HasLeast rs s ⊎ IsEarlier q start part s.mv → rank_cmp r s ≢ Greater
+    of_part s e (inl c) =
         rank_chain r c.0 s
         (by_rank (rank_cmp r c.0) (move_cmp r.mv c.0.mv) (firsts.least r c.0 h (Contains-permutation rs sorted c.0 turned c.1) (sym (c.2 ∙ e)))) c.3
-    of_tier s e (inr before) = absurd (not_earlier (subst (IsEarlier q start tier) e before))
+    of_part s e (inr before) = absurd (not_earlier (subst (IsEarlier q start part) e before))
 
     split : (a b : ℕ) → (a < b) ⊎ ((a ≡ b) ⊎ (b < a))
     split a b = grind arith
 
     least : (s : Ranked) → s.mv ≡ r.mv → IsChain q start s → rank_cmp r s ≢ Greater
-    least s e is = by (split s.tier tier)
+    least s e is = by (split (part_of s) part)
       where
-        by : (s.tier < tier) ⊎ ((s.tier ≡ tier) ⊎ (tier < s.tier)) → rank_cmp r s ≢ Greater
+        by : (part_of s < part) ⊎ ((part_of s ≡ part) ⊎ (part < part_of s)) → rank_cmp r s ≢ Greater
         by (inl lt) = absurd (not_earlier (s, is, e, lt))
-        by (inr (inl same)) = of_tier s e (chains.least s is same)
-        by (inr (inr more)) = let t = (is_chain r h).1 in less_tier r s (omega (arith, t, more))
+        by (inr (inl same)) = of_part s e (chains.least s is same)
+        by (inr (inr more)) = let t = (is_chain r h).1 in less_part r s (omega (arith, t, more))
 
-    is_ranked : IsRanked (rulebook q.ctx.now) start q.cur.now q.goal.now r × (r.tier ≡ tier)
+    is_ranked : IsRanked (rulebook q.ctx.now) start q.cur.now q.goal.now r × (part_of r ≡ part)
     is_ranked = (record { ends = (is_chain r h).0; least = least }, (is_chain r h).1)
 
-  there : (s : Ranked) → IsChain q start s → s.tier ≡ tier → Contains (moves_of kept) s.mv ⊎ IsEarlier q start tier s.mv
+  there : (s : Ranked) → IsChain q start s → part_of s ≡ part → Contains (moves_of kept) s.mv ⊎ IsEarlier q start part s.mv
   there s is same = by (chains.least s is same)
     where
       found : (c : Ranked) → c.mv ≡ s.mv → HasMove known c.mv ⊎ ((k : Ranked) × Contains kept k × (k.mv ≡ c.mv))
-          → Contains (moves_of kept) s.mv ⊎ IsEarlier q start tier s.mv
-      found c e (inl h) = inr (subst (IsEarlier q start tier) e (earlier.each c.mv h))
+          → Contains (moves_of kept) s.mv ⊎ IsEarlier q start part s.mv
+      found c e (inl h) = inr (subst (IsEarlier q start part) e (earlier.each c.mv h))
       found c e (inr k) = inl (subst (Contains (moves_of kept)) (k.2 ∙ e) (member_map (λ r. r.mv) kept k.0 k.1))
 
-      by : HasLeast rs s ⊎ IsEarlier q start tier s.mv → Contains (moves_of kept) s.mv ⊎ IsEarlier q start tier s.mv
+      by : HasLeast rs s ⊎ IsEarlier q start part s.mv → Contains (moves_of kept) s.mv ⊎ IsEarlier q start part s.mv
       by (inl c) = found c.0 c.2 (firsts.all c.0 (Contains-permutation rs sorted c.0 turned c.1))
       by (inr e) = inr e
 
-  ranked_in : AreRankedIn (rulebook q.ctx.now) start q.cur.now q.goal.now tier kept
+  ranked_in : AreRankedIn (rulebook q.ctx.now) start q.cur.now q.goal.now part kept
   ranked_in = record {
     each = λ k d lt. is_ranked (get_or kept k d) (Contains-get_or kept k d lt);
     all = there;
@@ -313,31 +312,7 @@ module _ (q : Question) (start : Config) (tier : ℕ) (known : Depths) (rs : Lis
         (λ e. firsts.distinct i j d lt within (ap (λ (r : Ranked). r.mv) (listed_same (get_or kept i d) (get_or kept j d) e)));
   }
 
-pub in_tier : (q : Question) (start : Config) (tier : ℕ) (known : Depths) (rs : List Ranked) (ms : List Move) → AreChainsIn q start tier rs
-    → AreEarlier q start tier known → AreInOrder known rs ms → IsInTier q start tier ms
-in_tier q start tier known rs ms chains earlier has =
-    (has.2.0, ranked_in q start tier known rs chains earlier has.0 has.2.0 has.1 has.2.1, has.2.2)
-
--- ---- what lists hold
-
-module _ (book : Rulebook) (start cur goal : Config) where
-  ends_listed : (r : Ranked) → IsRanked book start cur goal r → IsListed book cur goal r.mv
-  ends_listed r is = record { first = is.ends.first; depth = r.depth; generated = is.ends.generated; leads = is.ends.leads }
-
-  each_of : (P : Ranked → Type 0) (rs : List Ranked) (ms : List Move) → ((r : Ranked) → P r → IsRanked book start cur goal r) → All P rs → ms ≡ moves_of rs
-      → All (IsListed book cur goal) ms
-  each_of P rs ms ranked each is =
-      subst (All (IsListed book cur goal)) (sym is)
-      (All-map (IsListed book cur goal) (λ r. r.mv) rs (All-weaker P (λ r. IsListed book cur goal r.mv) (λ r p. ends_listed r (ranked r p)) rs each))
-
-  -- the list has listed moves
-  pub listed_each : (ms : List Move) → AreListed book start cur goal ms → All (IsListed book cur goal) ms
-  listed_each ms are = each_of (IsRanked book start cur goal) are.0 ms (λ r is. is) are.1.each are.2
-
-  -- it has all
-  pub listed_all : (ms : List Move) → AreListed book start cur goal ms → (m : Move) → IsListed book cur goal m → Contains ms m
-  listed_all ms are m is = subst (λ l. Contains l m) (sym are.2) (are.1.all m is)
-
-  -- so has the list of a tier
-  pub tier_each : (tier : ℕ) (ms : List Move) → AreListedIn book start cur goal tier ms → All (IsListed book cur goal) ms
-  tier_each tier ms are = each_of (λ r. IsRanked book start cur goal r × (r.tier ≡ tier)) are.0 ms (λ r is. is.0) are.1.each are.2
+pub in_part : (q : Question) (start : Config) (part : ℕ) (known : Depths) (rs : List Ranked) (ms : List Move) → AreChainsIn q start part rs
+    → AreEarlier q start part rs known → AreInOrder known rs ms → IsInPart q start part ms
+in_part q start part known rs ms chains earlier has =
+    (has.2.0, ranked_in q start part known rs chains earlier has.0 has.2.0 has.1 has.2.1, has.2.2)

@@ -4,13 +4,15 @@ pub mod Existing
 pub mod Finite
 pub mod Firsts
 pub mod Gathered
+pub mod Joined
 pub mod Known
 pub mod Members
 pub mod Noted
 pub mod Ordered
+pub mod PartOrder
+pub mod Parts
 pub mod Reached
 pub mod Selected
 pub mod Standing
 pub mod Surely
-pub mod Tiers
 pub mod Walked

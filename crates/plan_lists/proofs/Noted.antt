@@ -1,14 +1,16 @@
 -- A map whose keys are moves, as a list of moves with their numbers of extensions.
-use Rattle.std.proofs.Common.{◌≡◌, ◌⊎◌, inl, inr, ℕ, Bool, true, false, [], ◌∷◌, ◌++◌, is_some, if◌then◌else◌, refl, sym, ap, subst, ◌∙◌, true≢false}
+use Rattle.std.proofs.Common.{◌≡◌, ◌⊎◌, inl, inr, ℕ, Bool, true, false, [], ◌∷◌, ◌++◌, is_some, if◌then◌else◌, Some, refl, sym, ap, subst, ◌∙◌, true≢false}
+use Rattle.std.specs.HashMap.{HashMap, IsUnique, get}
 use Rattle.std.specs.List.{Contains}
 use Rattle.std.specs.Map.{lookup}
 use Rattle.std.specs.Ordering.{eq_by_cmp}
 use Rattle.std.proofs.lemmas.Map.Entries.{lookup_head, lookup_tail}
+use Rattle.std.proofs.lemmas.Map.Views.{hash_map_get_iff}
 use Rattle.indexmap.specs.IndexMap.{insert_entry}
 use Rattle.move_core.specs.ListedOrder.{move_cmp}
 use Rattle.move_core.specs.declared.moves.Move.{Move}
-use Rattle.plan_lists.specs.MoveKeys.{keys_decide}
-use Rattle.plan_lists.specs.Reaches.{Depths, HasMove}
+use Rattle.plan_lists.specs.MoveKeys.{keys_decide, keys_equiv}
+use Rattle.plan_lists.specs.Reaches.{AreOnce, Depths, HasMove}
 use Rattle.plan_lists.proofs.Members.{first_member, later_member, member_cases, no_member}
 
 -- whether two keys are equal
@@ -72,3 +74,13 @@ put_last (e ∷ es) m d new = by (put_last es m d (λ h. new (has_later e es m h
 -- a new key goes last
 pub put : (es now : Depths) (m : Move) (d : ℕ) → es ≡ now → ¬ HasMove now m → insert_entry is_same es m d ≡ now ++ (m, d) ∷ []
 put es now m d view new = ap (λ l. insert_entry is_same l m d) view ∙ put_last now m d new
+
+-- a map has each key once
+pub entries_once : {S : Type 0} (m : HashMap Move ℕ S) (now : Depths) → m.entries ≡ now → IsUnique is_same m → AreOnce now
+entries_once m now view unique mv d e a b = same d e (sym (found d a) ∙ found e b)
+  where
+    found : (n : ℕ) → Contains now (mv, n) → get is_same m mv ≡ Some n
+    found n h = (hash_map_get_iff keys_equiv (λ x y. (keys_decide x y).0) m unique mv n).1 (subst (λ (l : Depths). Contains l (mv, n)) (sym view) h)
+
+    same : (x y : ℕ) → Some x ≡ Some y → x ≡ y
+    same x y is = cc

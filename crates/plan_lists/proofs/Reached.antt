@@ -9,7 +9,7 @@ use Rattle.move_core.specs.Listed.{IsListed}
 use Rattle.move_core.specs.Moves.{IsDefined, place}
 use Rattle.move_core.specs.declared.moves.Move.{Move}
 use Rattle.plan_lists.specs.Questions.{FollowsIn, LeadsIn}
-use Rattle.plan_lists.specs.Reaches.{AreNoted, AreReached, CanSpread, Depths, HasMove, HasWithin, HoldsAll, IsClosed, IsFirst, IsLedTo, IsNoted, IsSpread, IsSpreadBefore, SharesAbove, most_moves}
+use Rattle.plan_lists.specs.Reaches.{AreNoted, AreReached, CanSpread, Depths, HasBelow, HasMove, HasWithin, HoldsAll, HoldsWithin, IsClosed, IsFirst, IsLedTo, IsNoted, IsSpread, IsSpreadBefore, SharesAbove, most_moves}
 use Rattle.plan_lists.specs.declared.asking.Question.{Question}
 use Rattle.plan_lists.proofs.Members.{no_member}
 
@@ -41,6 +41,19 @@ module _ {A : Type 0} where
           → ((suc i < length (y ∷ xs)) × (slice_get xs i ≡ Some x)) ⊎ ((length (y ∷ xs) ≤ suc i) × Contains ys x)
       by (inl l) = let h = l.0 in inl (omega arith, l.1)
       by (inr r) = let h = r.0 in inr (omega arith, r.1)
+
+-- one stands at an index within the list
+at_index : {A : Type 0} (xs : List A) (i : ℕ) → i < length xs → (x : A) × (slice_get xs i ≡ Some x)
+at_index [] i lt = absurd (omega (arith, lt))
+at_index (x ∷ xs) zero lt = (x, refl)
+at_index (x ∷ xs) (suc i) lt = at_index xs i (omega (arith, lt))
+
+-- one entry stands at an index
+pub depth_at : (es : Depths) (i : ℕ) (a b : Move × ℕ) → slice_get es i ≡ Some a → slice_get es i ≡ Some b → a.1 ≡ b.1
+depth_at es i a b at_a at_b = ap (λ (e : Move × ℕ). e.1) (same a b (sym at_a ∙ at_b))
+  where
+    same : (x y : Move × ℕ) → Some x ≡ Some y → x ≡ y
+    same x y e = cc
 
 -- ---- moves noted
 
@@ -244,16 +257,67 @@ module _ (q : Question) (beside : Depths) (first : List Move) where
           let lt = slice_get_within es at.0 _ at.1 in
           on w.0 w.1 (are.spread at.0 (leads.0, w.0) (omega (arith, lt, end)) at.1 x leads.2)
 
+-- ---- moves reached within a limit
+
+module _ (q : Question) (first : List Move) (limit : ℕ) where
+  -- moves that were reached, none by more extensions
+  pub record AreWithin (es : Depths) (i : ℕ) : Type 0 where
+    pub reached : AreReached q [] first es i
+    pub few : All (λ e. e.1 ≤ limit) es
+
+  pub within_begun : (es : Depths) → AreNoted [] [] es first 0 → AreWithin es 0
+  within_begun es are = record {
+    reached = reached_begun q [] first es are;
+    few = subst (All (λ (e : Move × ℕ). e.1 ≤ limit)) (sym are.follows)
+        (All-weaker (λ (e : Move × ℕ). Contains first e.0 × (e.1 ≡ 0)) (λ (e : Move × ℕ). e.1 ≤ limit)
+        (λ e h. let none = h.1 in omega (arith, none)) are.more are.each);
+  }
+
+  pub within_more : (es new : Depths) (i : ℕ) → AreWithin es i → HasBelow es i limit → IsSpread q [] es new i → AreWithin new (i + 1)
+  within_more es new i are below on = record {
+    reached = reached_more q [] first es new i are.reached on;
+    few = subst (All (λ (e : Move × ℕ). e.1 ≤ limit)) (sym on.follows)
+        (All-append (λ (e : Move × ℕ). e.1 ≤ limit) es on.more are.few
+        (All-weaker (λ (e : Move × ℕ). FollowsIn q on.mv e.0 × (e.1 ≡ on.depth + 1)) (λ (e : Move × ℕ). e.1 ≤ limit)
+        (λ e h. let is = h.1 in let lt = less in omega (arith, is, lt)) on.more on.each));
+  }
+    where
+      less : on.depth < limit
+      less = subst (λ n. n < limit) (depth_at es i below.0 (on.mv, on.depth) below.1 on.at) below.2
+
+  -- all that no more extensions lead to
+  pub within_all : (es : Depths) (i : ℕ) → AreWithin es i → ¬ HasBelow es i limit → HoldsWithin q limit first es
+  within_all es i are none f zero x there most leads = by (are.reached.begun f there)
+    where
+      by : HasMove [] f ⊎ HasWithin es 0 f → HasWithin es 0 x
+      by (inl b) = absurd (no_member _ b.1)
+      by (inr w) = subst (HasWithin es 0) (sym leads) w
+  within_all es i are none f (suc n) x there most leads =
+      by (within_all es i are none f n leads.0 there (omega (arith, most)) leads.1)
+    where
+      on : (d : ℕ) → d ≤ n → HasMove [] x ⊎ HasWithin es (d + 1) x → HasWithin es (suc n) x
+      on d le (inl b) = absurd (no_member _ b.1)
+      on d le (inr w) = let p = w.1 in (w.0, omega (arith, p, le), w.2)
+
+      split : (a b : ℕ) → (a < b) ⊎ (b ≤ a)
+      split a b = grind arith
+
+      -- a move with fewer extensions stands before the index
+      before : (k d : ℕ) → d ≤ n → slice_get es k ≡ Some (leads.0, d) → (k < i) ⊎ (i ≤ k) → k < i
+      before k d le at (inl lt) = lt
+      before k d le at (inr ge) =
+          let here = at_index es i (let within = slice_get_within es k _ at in omega (arith, within, ge)) in
+          let low = are.reached.rising i k here.0 (leads.0, d) ge here.1 at in
+          absurd (none (here.0, here.1, omega (arith, low, le, most)))
+
+      by : HasWithin es n leads.0 → HasWithin es (suc n) x
+      by w =
+          let at = index_of_member es (leads.0, w.0) w.2 in
+          on w.0 w.1 (are.reached.spread at.0 (leads.0, w.0) (before at.0 w.0 w.1 at.1 (split at.0 i)) at.1 x leads.2)
+
 -- ---- extensions noted
 
--- one entry stands at an index
-pub depth_at : (es : Depths) (i : ℕ) (a b : Move × ℕ) → slice_get es i ≡ Some a → slice_get es i ≡ Some b → a.1 ≡ b.1
-depth_at es i a b at_a at_b = ap (λ (e : Move × ℕ). e.1) (same a b (sym at_a ∙ at_b))
-  where
-    same : (x y : Move × ℕ) → Some x ≡ Some y → x ≡ y
-    same x y e = cc
-
--- what the place above becomes is known where the move before shares it
+-- what the place above becomes is known where a move before shares it
 pub above_known : (q : Question) (beside es : Depths) (i : ℕ) (mv : Move) (depth : ℕ) → slice_get es i ≡ Some (mv, depth)
     → IsSpreadBefore q beside es i → SharesAbove es i → (m : Move) → IsUpper q.goal.now mv m → HasMove beside m ⊎ HasMove es m
 above_known q beside es i mv depth at before shares m is =
@@ -289,11 +353,6 @@ spread_noted q beside old new i mv depth ms K at each all known are = record {
 
 -- ---- the extenders asked
 
-at_index : {A : Type 0} (xs : List A) (i : ℕ) → i < length xs → (x : A) × (slice_get xs i ≡ Some x)
-at_index [] i lt = absurd (omega (arith, lt))
-at_index (x ∷ xs) zero lt = (x, refl)
-at_index (x ∷ xs) (suc i) lt = at_index xs i (omega (arith, lt))
-
 -- what generated moves lead to is listed
 pub led_listed : (q : Question) (first : List Move) (e : Move × ℕ) → All (IsFirst q) first → IsLedTo q first e
     → IsListed (rulebook q.ctx.now) q.cur.now q.goal.now e.0
@@ -316,7 +375,20 @@ can_spread q beside first es i are lt small firsts defined =
       small = omega (arith, lt, small);
     }
 
--- the extensions of the one before it are known
+-- so where it has fewer extensions
+pub below_spreads : (q : Question) (first : List Move) (es : Depths) (i limit : ℕ) → AreReached q [] first es i → HasBelow es i limit
+    → i < most_moves → All (IsFirst q) first
+    → ((m : Move) → IsListed (rulebook q.ctx.now) q.cur.now q.goal.now m → IsDefined q.cur.now m) → CanSpread q es i
+below_spreads q first es i limit are (e, at, lt) small firsts defined = record {
+  mv = e.0;
+  depth = e.1;
+  at = at;
+  defined = defined e.0 (led_listed q first e firsts (All-contains (IsLedTo q first) es e are.each (member_at es i e at)));
+  shallow = are.shallow i e at;
+  small = small;
+}
+
+-- the extensions of those before it are known
 pub spread_before : (q : Question) (beside : Depths) (first : List Move) (es : Depths) (i : ℕ) → AreReached q beside first es i
     → IsSpreadBefore q beside es i
 spread_before q beside first es i are k e follows at x extends = by (are.spread k e (omega (arith, follows)) at x extends)

@@ -1,6 +1,6 @@
 -- what public clauses cite
 pub mod Finite
-pub mod Tiers
+pub mod Parts
 -- what only private clauses cite
 pub mod MoveKeys
 pub mod Places

@@ -1,5 +1,5 @@
 -- Chains and their ranks, and what is kept of them.
-use Rattle.std.specs.Prelude.{◌≡◌, ◌≢◌, ◌⊎◌, ℕ, ◌<◌, Bool, true, false, List, ◌++◌, All}
+use Rattle.std.specs.Prelude.{◌≡◌, ◌≢◌, ◌⊎◌, ℕ, ◌≤◌, Bool, true, false, List, ◌++◌, All}
 use Rattle.std.specs.List.{AllPairs, Contains}
 use Rattle.std.specs.List.Sorted.{IsPermutation}
 use Rattle.std.specs.declared.cmp.Ordering.TheVariants.{Greater}
@@ -11,8 +11,8 @@ use Rattle.move_core.specs.ListedOrder.{listed_cmp, rank_cmp}
 use Rattle.move_core.specs.declared.moves.Generated.{Generated}
 use Rattle.move_core.specs.declared.moves.Move.{Move}
 use Rattle.move_core.specs.declared.moves.Ranked.{Ranked}
+use Rattle.plan_lists.specs.Parts.{AreListedIn, EndsEarlier, part_of}
 use Rattle.plan_lists.specs.Reaches.{Depths, HasMove, HoldsAll, IsLedTo}
-use Rattle.plan_lists.specs.Tiers.{AreListedIn, EndsEarlier}
 use Rattle.plan_lists.specs.declared.asking.Question.{Question}
 use Rattle.plan_lists.specs.declared.ranking.Choice.{Choice}
 use Rattle.plan_lists.specs.declared.ranking.Choice.TheVariants.{Early, Late, Restoring, Other}
@@ -79,46 +79,49 @@ pub record AddsAlone (start goal : Config) (restoring : Bool) (firsts : List Gen
       (g : Generated) → Contains firsts g → Meets restoring (IsRestoring start goal g)
       → (r : Ranked) × Contains more r × IsAlone start goal g r
 
--- a move that was reached by extensions, in a tier
-pub record IsExtended (reached : Depths) (tier : ℕ) (r : Ranked) : Type 0 where
+-- a move that was reached by so many extensions or more, in a tier
+pub record IsExtended (reached : Depths) (tier least : ℕ) (r : Ranked) : Type 0 where
   pub there : Contains reached (r.mv, r.depth)
-  pub extended : 0 < r.depth
+  pub extended : least ≤ r.depth
   pub tier_is : r.tier ≡ tier
   pub class : r.class ≡ place_class r.mv
 
--- moves that were reached by extensions are put at the end
-pub record AddsExtended (reached : Depths) (tier : ℕ) (old new : List Ranked) : Type 0 where
+-- moves that were reached by so many extensions or more are put at the end
+pub record AddsExtended (reached : Depths) (tier least : ℕ) (old new : List Ranked) : Type 0 where
   pub more : List Ranked
   pub follows : new ≡ old ++ more
-  pub each : All (IsExtended reached tier) more
+  pub each : All (IsExtended reached tier least) more
   pub all :
-      (m : Move) (d : ℕ) → Contains reached (m, d) → 0 < d
-      → (r : Ranked) × Contains more r × (r.mv ≡ m) × (r.depth ≡ d) × IsExtended reached tier r
+      (m : Move) (d : ℕ) → Contains reached (m, d) → least ≤ d
+      → (r : Ranked) × Contains more r × (r.mv ≡ m) × (r.depth ≡ d)
+      × IsExtended reached tier least r
 
 -- a chain that the question has, with its rank
 abbrev pub IsChain : Question → Config → Ranked → Type 0
 IsChain q start r = EndsChain (rulebook q.ctx.now) start q.cur.now q.goal.now r
 
--- a chain of a lesser tier ends with the move
+-- a chain of a lesser part ends with the move
 abbrev pub IsEarlier : Question → Config → ℕ → Move → Type 0
-IsEarlier q start tier m =
-    EndsEarlier (rulebook q.ctx.now) start q.cur.now q.goal.now tier m
+IsEarlier q start part m =
+    EndsEarlier (rulebook q.ctx.now) start q.cur.now q.goal.now part m
 
 -- some chain among them ends with the move, and its rank isn't greater
 abbrev pub HasLeast : List Ranked → Ranked → Type 0
 HasLeast rs s = (r : Ranked) × Contains rs r × (r.mv ≡ s.mv) × (rank_cmp r s ≢ Greater)
 
--- chains of a tier, one of least rank for each move that no chain of a lesser tier ends with
-pub record AreChainsIn (q : Question) (start : Config) (tier : ℕ) (rs : List Ranked) : Type 0 where
-  pub each : All (λ r. IsChain q start r × (r.tier ≡ tier)) rs
+-- chains of a part, one of least rank for each move that no chain of a lesser part ends with
+pub record AreChainsIn (q : Question) (start : Config) (part : ℕ) (rs : List Ranked) : Type 0 where
+  pub each : All (λ r. IsChain q start r × (part_of r ≡ part)) rs
   pub least :
-      (s : Ranked) → IsChain q start s → s.tier ≡ tier
-      → HasLeast rs s ⊎ IsEarlier q start tier s.mv
+      (s : Ranked) → IsChain q start s → part_of s ≡ part
+      → HasLeast rs s ⊎ IsEarlier q start part s.mv
 
--- they are the moves that chains of lesser tiers end with
-pub record AreEarlier (q : Question) (start : Config) (tier : ℕ) (known : Depths) : Type 0 where
-  pub each : (m : Move) → HasMove known m → IsEarlier q start tier m
-  pub all : (m : Move) → IsEarlier q start tier m → HasMove known m
+-- chains of lesser parts end with them, and they are all such moves that chains among those end with
+pub record AreEarlier (q : Question) (start : Config) (part : ℕ) (rs : List Ranked)
+    (known : Depths) : Type 0 where
+  pub each : (m : Move) → HasMove known m → IsEarlier q start part m
+  pub all :
+      (r : Ranked) → Contains rs r → IsEarlier q start part r.mv → HasMove known r.mv
 
 -- what extensions reach from the generated moves that are chosen
 abbrev pub IsReachOf
@@ -126,10 +129,10 @@ abbrev pub IsReachOf
 IsReachOf q P firsts beside es =
     (ms : List Move) × AreMovesOf P firsts ms × All (IsLedTo q ms) es × HoldsAll q beside ms es
 
--- the listed moves of a tier
-abbrev pub IsInTier : Question → Config → ℕ → List Move → Type 0
-IsInTier q start tier ms =
-    AreListedIn (rulebook q.ctx.now) start q.cur.now q.goal.now tier ms
+-- the listed moves of a part
+abbrev pub IsInPart : Question → Config → ℕ → List Move → Type 0
+IsInPart q start part ms =
+    AreListedIn (rulebook q.ctx.now) start q.cur.now q.goal.now part ms
 
 -- ---- the first chain of each move
 

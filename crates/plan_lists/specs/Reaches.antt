@@ -1,5 +1,5 @@
 -- How moves are reached from others by extensions.
-use Rattle.std.specs.Prelude.{◌≡◌, ◌⊎◌, ℕ, suc, ◌+◌, ◌<◌, ◌≤◌, List, [], ◌∷◌, ◌++◌, Some, slice_get, All}
+use Rattle.std.specs.Prelude.{◌≡◌, ◌⊎◌, ℕ, ◌+◌, ◌<◌, ◌≤◌, List, [], ◌∷◌, ◌++◌, Some, slice_get, All}
 use Rattle.std.specs.List.{Contains}
 use Rattle.move_core.specs.Extensions.{upper}
 use Rattle.move_core.specs.Moves.{IsDefined, place}
@@ -24,6 +24,14 @@ HasMove es m = (d : ℕ) × Contains es (m, d)
 abbrev pub HasWithin : Depths → ℕ → Move → Type 0
 HasWithin es n m = (d : ℕ) × (d ≤ n) × Contains es (m, d)
 
+-- each move is there with one number of extensions
+abbrev pub AreOnce : Depths → Type 0
+AreOnce es = (m : Move) (d e : ℕ) → Contains es (m, d) → Contains es (m, e) → d ≡ e
+
+-- at an index stands a move with fewer extensions
+abbrev pub HasBelow : Depths → ℕ → ℕ → Type 0
+HasBelow es i limit = (e : Move × ℕ) × (slice_get es i ≡ Some e) × (e.1 < limit)
+
 -- the move was known, or now stands at the end
 abbrev pub IsNoted : Depths → Depths → Depths → Move → ℕ → Type 0
 IsNoted beside old new m d =
@@ -47,18 +55,18 @@ pub record IsSpread (q : Question) (beside old new : Depths) (i : ℕ) : Type 0 
   pub each : All (λ e. FollowsIn q mv e.0 × (e.1 ≡ depth + 1)) more
   pub all : (m : Move) → FollowsIn q mv m → HasMove beside m ⊎ HasMove new m
 
--- the extensions of the move before an index are known
+-- the extensions of the moves before an index are known
 abbrev pub IsSpreadBefore : Question → Depths → Depths → ℕ → Type 0
 IsSpreadBefore q beside es i =
-    (k : ℕ) (e : Move × ℕ) → suc k ≡ i → slice_get es k ≡ Some e
+    (k : ℕ) (e : Move × ℕ) → k < i → slice_get es k ≡ Some e
     → (x : Move) → FollowsIn q e.0 x → HasMove beside x ⊎ HasMove es x
 
--- the moves at an index and before it have the same place above
+-- the move at an index and one before it have the same place above
 pub record SharesAbove (es : Depths) (i : ℕ) : Type 0 where
   pub k : ℕ
   pub before : Move × ℕ
   pub here : Move × ℕ
-  pub follows : suc k ≡ i
+  pub follows : k < i
   pub at_before : slice_get es k ≡ Some before
   pub at : slice_get es i ≡ Some here
   pub same : upper (place before.0) ≡ upper (place here.0)
@@ -89,6 +97,12 @@ abbrev pub HoldsAll : Question → Depths → List Move → Depths → Type 0
 HoldsAll q beside first es =
     (f : Move) (n : ℕ) (x : Move) → Contains first f → LeadsIn q f n x
     → HasMove beside x ⊎ HasWithin es n x
+
+-- what no more extensions of the moves than that lead to is there
+abbrev pub HoldsWithin : Question → ℕ → List Move → Depths → Type 0
+HoldsWithin q limit first es =
+    (f : Move) (n : ℕ) (x : Move) → Contains first f → n ≤ limit → LeadsIn q f n x
+    → HasWithin es n x
 
 -- moves that some lead to, in the order of their numbers of extensions; the extensions of those before an
 -- index are known

@@ -1,13 +1,15 @@
-//! What holds of the set of listed moves and of the lists of the tiers.
+//! What holds of the set of listed moves and of the lists of the parts.
 ghost use Rattle.conf_doc.specs.declared.configuration.Config.{Config};
+ghost use Rattle.move_core.specs.Contexts.{rulebook};
 ghost use Rattle.move_core.specs.declared.contexts.Ctx.{Ctx};
 ghost use Rattle.plan_lists.specs.Finite.{ListsExist, MovesAreFinite};
-ghost use Rattle.plan_lists.specs.Tiers.{TiersMakeTheList};
+ghost use Rattle.plan_lists.specs.Parts.{PartsMakeTheList};
 
-/// The lists of the tiers 1 to 4 one after another are the list of moves. The body does nothing: the law is
+/// The lists of the parts 1 to 7 one after another are the list of moves. The body does nothing: the law is
 /// the contract.
-pub fn tiers_make_the_list()
-    ensures { (ctx : Ctx) (start cur goal : Config) → TiersMakeTheList ctx start cur goal }
+pub fn parts_make_the_list()
+    ensures { (ctx : Ctx) (start cur goal : Config)
+        → PartsMakeTheList (rulebook ctx) start cur goal }
 {}
 
 /// The listed moves are finitely many, at each configuration and for each goal.

@@ -1,4 +1,4 @@
-//! The list of moves at a configuration, tier by tier.
+//! The list of moves at a configuration, part by part.
 #![tactic(auto)]
 
 mod agreeing;
@@ -10,5 +10,5 @@ mod places_above;
 mod ranking;
 mod reaches;
 
-pub use laws::{lists_exist, moves_are_finite, tiers_make_the_list};
-pub use listing::{listed, listed_in_tier};
+pub use laws::{lists_exist, moves_are_finite, parts_make_the_list};
+pub use listing::{listed, listed_in_part};

@@ -1,15 +1,15 @@
 //! The list of moves at a configuration.
-ghost use Rattle.std.specs.Prelude.{◌≡◌, ◌≤◌, ◌++◌, [], All, IfOk};
+ghost use Rattle.std.specs.Prelude.{◌≡◌, ◌+◌, ◌≤◌, ◌++◌, [], All, IfOk};
 ghost use Rattle.move_core.specs.Contexts.{IsNamed, IsValidIn, rulebook};
 ghost use Rattle.move_core.specs.Listed.{AreListed};
+ghost use Rattle.plan_lists.specs.Parts.{AreListedIn};
 ghost use Rattle.plan_lists.specs.Questions.{CanAsk, IsOffered};
-ghost use Rattle.plan_lists.specs.Ranking.{AreInOrder, AreSorted, HasFirsts, IsInTier, IsReachOf, LeadsEarly};
-ghost use Rattle.plan_lists.specs.Tiers.{AreListedIn};
+ghost use Rattle.plan_lists.specs.Ranking.{AreInOrder, AreSorted, HasFirsts, IsInPart, IsReachOf, LeadsEarly};
 
 use crate::asking::{Question, generated_moves};
-use crate::laws::tiers_make_the_list;
+use crate::laws::parts_make_the_list;
 use crate::ranking::{Choice, chosen_moves, rank_alone, rank_reached};
-use crate::reaches::{Reach, reach_from};
+use crate::reaches::{Reach, reach_from, reach_within};
 use conf_doc::Config;
 use host_core::{Memory, Sequence};
 use move_core::{Boxes, Ctx, Generated, Kit, Move, Moves, Ranked};
@@ -19,6 +19,9 @@ use std::alloc::Global;
 const EXTENDED: u8 = 2;
 
 const OTHER: u8 = 4;
+
+/// The least number of extensions in the last part of tier 2.
+const MANY: usize = 4;
 
 /// All listed moves at a configuration towards goal, each once, in the order of the list.
 pub fn listed(
@@ -37,15 +40,21 @@ pub fn listed(
     ensures rules { kit.new.rules ≡ kit.old.rules }
     ensures listed { IfOk result (AreListed (rulebook ctx.now) start.now cur.now goal.now) }
 {
-    tiers_make_the_list();
+    parts_make_the_list();
     let question = Question { ctx, cur, goal };
-    let first = first_tier(alloc, &question, kit, start)?;
-    let second = second_tier(alloc, &question, kit, start)?;
-    let third = third_tier(alloc, &question, kit, start)?;
-    let fourth = fourth_tier(alloc, &question, kit, start)?;
-    let last = joined(third, fourth)?;
-    let rest = joined(second, last)?;
-    let moves = joined(first, rest)?;
+    let alone = list_alone(alloc, &question, kit, start)?;
+    let once = list_extended(alloc, &question, kit, start, 1)?;
+    let twice = list_extended(alloc, &question, kit, start, 2)?;
+    let thrice = list_extended(alloc, &question, kit, start, 3)?;
+    let far = list_far_extended(alloc, &question, kit, start)?;
+    let restoring = list_restoring(alloc, &question, kit, start)?;
+    let others = list_others(alloc, &question, kit, start)?;
+    let to_second = joined(alone, once)?;
+    let to_third = joined(to_second, twice)?;
+    let to_fourth = joined(to_third, thrice)?;
+    let to_fifth = joined(to_fourth, far)?;
+    let to_sixth = joined(to_fifth, restoring)?;
+    let moves = joined(to_sixth, others)?;
     Ok(Sequence::from_vec(moves))
 }
 
@@ -59,39 +68,42 @@ fn joined(first: Vec<Move>, rest: Vec<Move>) -> Result<Vec<Move>, Memory>
     Ok(moves)
 }
 
-/// The listed moves whose least rank has a tier, each once, in the order of the list. For tier 1 no
-/// extender is asked.
-pub fn listed_in_tier(
+/// The listed moves whose least rank lies in a part, each once, in the order of the list. For part 1 no
+/// extender is asked, and for parts 2 to 4 none about a move with as many extensions as the part has.
+pub fn listed_in_part(
     alloc: Global,
     ctx: &Ctx,
     kit: &mut Kit,
     start: &Config,
     cur: &Config,
     goal: &Config,
-    tier: u8,
+    part: u8,
 ) -> Result<Vec<Move>, Memory>
     requires kinds { ⟦<Kit as Boxes>⟧.HasKinds kit.old }
     requires named { IsNamed ctx.now }
     requires cur { IsValidIn ctx.now cur.now }
     requires goal { IsValidIn ctx.now goal.now }
-    requires low { 1 ≤ tier }
-    requires high { tier ≤ 4 }
+    requires low { 1 ≤ part }
+    requires high { part ≤ 7 }
     ensures kinds { ⟦<Kit as Boxes>⟧.HasKinds kit.new }
     ensures rules { kit.new.rules ≡ kit.old.rules }
     ensures listed { IfOk result
-        (λ ms. AreListedIn (rulebook ctx.now) start.now cur.now goal.now tier ms.items) }
+        (λ ms. AreListedIn (rulebook ctx.now) start.now cur.now goal.now part ms.items) }
 {
     let question = Question { ctx, cur, goal };
-    match tier {
-        1 => first_tier(alloc, &question, kit, start),
-        2 => second_tier(alloc, &question, kit, start),
-        3 => third_tier(alloc, &question, kit, start),
-        _ => fourth_tier(alloc, &question, kit, start),
+    match part {
+        1 => list_alone(alloc, &question, kit, start),
+        2 => list_extended(alloc, &question, kit, start, 1),
+        3 => list_extended(alloc, &question, kit, start, 2),
+        4 => list_extended(alloc, &question, kit, start, 3),
+        5 => list_far_extended(alloc, &question, kit, start),
+        6 => list_restoring(alloc, &question, kit, start),
+        _ => list_others(alloc, &question, kit, start),
     }
 }
 
-/// Tier 1: the generated moves that aren't restoring.
-fn first_tier(
+/// Part 1: the generated moves that aren't restoring.
+fn list_alone(
     alloc: Global,
     question: &Question<'_>,
     kit: &mut Kit,
@@ -101,7 +113,7 @@ fn first_tier(
     requires asked { CanAsk question.now }
     ensures kinds { ⟦<Kit as Boxes>⟧.HasKinds kit.new }
     ensures rules { kit.new.rules ≡ kit.old.rules }
-    ensures listed { IfOk result (λ ms. IsInTier question.now start.now 1 ms.items) }
+    ensures listed { IfOk result (λ ms. IsInPart question.now start.now 1 ms.items) }
 {
     let firsts = generated_moves(alloc, question, kit)?;
     let ranked = rank_alone(alloc, start, question.goal, &firsts, false)?;
@@ -109,22 +121,27 @@ fn first_tier(
     in_order(alloc, &none, ranked)
 }
 
-/// Tier 2: what extensions reach from those that are a remove or a replace, without those of tier 1.
-fn second_tier(
+/// Parts 2 to 4: what one, two or three extensions reach from those that are a remove or a replace, without
+/// what fewer reach.
+fn list_extended(
     alloc: Global,
     question: &Question<'_>,
     kit: &mut Kit,
     start: &Config,
+    extensions: usize,
 ) -> Result<Vec<Move>, Memory>
     requires kinds { ⟦<Kit as Boxes>⟧.HasKinds kit.old }
     requires asked { CanAsk question.now }
+    requires some { 1 ≤ extensions }
+    requires few { extensions ≤ 3 }
     ensures kinds { ⟦<Kit as Boxes>⟧.HasKinds kit.new }
     ensures rules { kit.new.rules ≡ kit.old.rules }
-    ensures listed { IfOk result (λ ms. IsInTier question.now start.now 2 ms.items) }
+    ensures listed { IfOk result (λ ms. IsInPart question.now start.now (1 + extensions) ms.items) }
 {
     let firsts = generated_moves(alloc, question, kit)?;
-    let early = early_reach(alloc, question, kit, start, &firsts)?;
-    let ranked = rank_reached(alloc, &early, EXTENDED)?;
+    let early = chosen_moves(alloc, start, question.goal, &firsts, Choice::Early)?;
+    let early = reach_within(alloc, question, kit, early, extensions)?;
+    let ranked = rank_reached(alloc, &early, EXTENDED, extensions)?;
     let others = chosen_moves(alloc, start, question.goal, &firsts, Choice::Other)?;
     let none = Reach::new(alloc);
     let mut known = Reach::new(alloc);
@@ -132,8 +149,8 @@ fn second_tier(
     in_order(alloc, &known, ranked)
 }
 
-/// Tier 3: the generated moves that are restoring, without those of tiers 1 and 2.
-fn third_tier(
+/// Part 5: what more extensions reach from them, without what fewer reach.
+fn list_far_extended(
     alloc: Global,
     question: &Question<'_>,
     kit: &mut Kit,
@@ -143,7 +160,30 @@ fn third_tier(
     requires asked { CanAsk question.now }
     ensures kinds { ⟦<Kit as Boxes>⟧.HasKinds kit.new }
     ensures rules { kit.new.rules ≡ kit.old.rules }
-    ensures listed { IfOk result (λ ms. IsInTier question.now start.now 3 ms.items) }
+    ensures listed { IfOk result (λ ms. IsInPart question.now start.now 5 ms.items) }
+{
+    let firsts = generated_moves(alloc, question, kit)?;
+    let early = early_reach(alloc, question, kit, start, &firsts)?;
+    let ranked = rank_reached(alloc, &early, EXTENDED, MANY)?;
+    let others = chosen_moves(alloc, start, question.goal, &firsts, Choice::Other)?;
+    let none = Reach::new(alloc);
+    let mut known = Reach::new(alloc);
+    known.note_all(&none, others, 0)?;
+    in_order(alloc, &known, ranked)
+}
+
+/// Part 6: the generated moves that are restoring, without those of the lesser parts.
+fn list_restoring(
+    alloc: Global,
+    question: &Question<'_>,
+    kit: &mut Kit,
+    start: &Config,
+) -> Result<Vec<Move>, Memory>
+    requires kinds { ⟦<Kit as Boxes>⟧.HasKinds kit.old }
+    requires asked { CanAsk question.now }
+    ensures kinds { ⟦<Kit as Boxes>⟧.HasKinds kit.new }
+    ensures rules { kit.new.rules ≡ kit.old.rules }
+    ensures listed { IfOk result (λ ms. IsInPart question.now start.now 6 ms.items) }
 {
     let firsts = generated_moves(alloc, question, kit)?;
     let mut known = early_reach(alloc, question, kit, start, &firsts)?;
@@ -154,8 +194,8 @@ fn third_tier(
     in_order(alloc, &known, ranked)
 }
 
-/// Tier 4: what extensions reach from the other generated moves, without those of the lesser tiers.
-fn fourth_tier(
+/// Part 7: what extensions reach from the other generated moves, without those of the lesser parts.
+fn list_others(
     alloc: Global,
     question: &Question<'_>,
     kit: &mut Kit,
@@ -165,14 +205,14 @@ fn fourth_tier(
     requires asked { CanAsk question.now }
     ensures kinds { ⟦<Kit as Boxes>⟧.HasKinds kit.new }
     ensures rules { kit.new.rules ≡ kit.old.rules }
-    ensures listed { IfOk result (λ ms. IsInTier question.now start.now 4 ms.items) }
+    ensures listed { IfOk result (λ ms. IsInPart question.now start.now 7 ms.items) }
 {
     let goal = question.goal;
     let firsts = generated_moves(alloc, question, kit)?;
     let mut known = early_reach(alloc, question, kit, start, &firsts)?;
     let late = chosen_moves(alloc, start, goal, &firsts, Choice::Late)?;
     let late = reach_from(alloc, question, kit, &known, late)?;
-    let ranked = rank_reached(alloc, &late, OTHER)?;
+    let ranked = rank_reached(alloc, &late, OTHER, 1)?;
     let none = Reach::new(alloc);
     let others = chosen_moves(alloc, start, goal, &firsts, Choice::Other)?;
     known.note_all(&none, others, 0)?;

@@ -1,8 +1,9 @@
-//! Chains of one tier with their ranks: at least one of least rank for each move that none of a lesser
-//! tier ends with.
+//! Chains of one part with their ranks: at least one of least rank for each move that none of a lesser
+//! part ends with.
 ghost use Rattle.std.specs.Prelude.{◌≡◌, ◌↔◌, [], IsTrue, IfOk};
 ghost use Rattle.move_core.specs.Listed.{place_class};
 ghost use Rattle.plan_lists.specs.Ranking.{AddsAlone, AddsExtended, AreMovesOf, IsChosen, LeadsEarly, lone_tier};
+ghost use Rattle.plan_lists.specs.Reaches.{AreOnce};
 
 use crate::agreeing::agree_at;
 use crate::reaches::Reach;
@@ -114,14 +115,20 @@ fn place_class(mv: &Move) -> u8
     mv.place().len() as u8 - 1
 }
 
-/// The extended chains of a tier.
-pub(crate) fn rank_reached(alloc: Global, reached: &Reach, tier: u8) -> Result<Vec<Ranked>, Memory>
-    ensures { IfOk result (λ rs. AddsExtended reached.now tier [] rs.items) }
+/// The chains of a tier with so many extensions or more.
+pub(crate) fn rank_reached(
+    alloc: Global,
+    reached: &Reach,
+    tier: u8,
+    least: usize,
+) -> Result<Vec<Ranked>, Memory>
+    ensures added { IfOk result (λ rs. AddsExtended reached.now tier least [] rs.items) }
+    ensures once { AreOnce reached.now }
 {
     let mut ranked = Vec::new(alloc);
     for i in 0..reached.len() {
         let (mv, depth) = reached.at(i);
-        if depth > 0 {
+        if depth >= least {
             let class = place_class(mv);
             let mv = mv.copy(alloc)?;
             ranked.push(Ranked {

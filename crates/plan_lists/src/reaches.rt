@@ -1,7 +1,7 @@
 //! Moves with the number of extensions by which each was reached first.
-ghost use Rattle.std.specs.Prelude.{◌≡◌, ◌<◌, ◌^◌, [], length, map, slice_get, Some, OnOk, IfOk, IsTrue, All};
+ghost use Rattle.std.specs.Prelude.{◌≡◌, ◌↔◌, ◌<◌, ◌≤◌, ◌^◌, [], length, map, slice_get, Some, OnOk, IfOk, IsTrue, All};
 ghost use Rattle.plan_lists.specs.Questions.{CanAsk};
-ghost use Rattle.plan_lists.specs.Reaches.{AreNoted, CanSpread, HoldsAll, IsClosed, IsFirst, IsLedTo, IsNoted, IsSpread, IsSpreadBefore, SharesAbove};
+ghost use Rattle.plan_lists.specs.Reaches.{AreNoted, AreOnce, CanSpread, HasBelow, HoldsAll, HoldsWithin, IsClosed, IsFirst, IsLedTo, IsNoted, IsSpread, IsSpreadBefore, SharesAbove};
 
 use crate::asking::{Question, extended_moves};
 use crate::move_keys::MoveKey;
@@ -11,6 +11,10 @@ use indexmap::IndexMap;
 use move_core::{Boxes, Kit, Move, listed_moves_are_defined};
 use std::alloc::Global;
 use std::marker::Model;
+
+/// How many moves before one are looked at for the same place above: the extensions of a field's move come side
+/// by side, the place above, the delete and a required value.
+const LOOK_BACK: usize = 3;
 
 /// Moves in the order in which they were reached. Contracts see the list of pairs of a move and its number
 /// of extensions.
@@ -42,6 +46,7 @@ impl Reach {
     pub(crate) fn len(&self) -> usize
         ensures len { result ≡ length self.now }
         ensures small { result < 2 ^ 63 }
+        ensures once { AreOnce self.now }
     {
         self.depths.len()
     }
@@ -55,6 +60,18 @@ impl Reach {
             Some((key, depth)) => (&key.mv, *depth),
             None => unreachable!(),
         }
+    }
+
+    /// Whether a move with fewer extensions stands at an index.
+    fn is_below(&self, i: usize, limit: usize) -> bool
+        ensures below { IsTrue result ↔ HasBelow self.now i limit }
+        ensures small { IsTrue result → i < 2 ^ 63 }
+    {
+        if i >= self.len() {
+            return false;
+        }
+        let (_, depth) = self.at(i);
+        depth < limit
     }
 
     /// The moves in order.
@@ -95,21 +112,32 @@ impl Reach {
         Ok(())
     }
 
-    /// Whether the place above that of the move at an index is the one above that of the move before it too.
-    fn shares_above(&self, i: usize) -> bool
-        requires { i < length self.now }
+    /// Whether the move at an index and one before it have the same place above.
+    fn shares_above_of(&self, k: usize, i: usize) -> bool
+        requires before { k < i }
+        requires within { i < length self.now }
         ensures { IsTrue result → SharesAbove self.now i }
     {
-        if i == 0 {
-            return false;
-        }
-        let (before, _) = self.at(i - 1);
+        let (before, _) = self.at(k);
         let (mv, _) = self.at(i);
         is_same_above(before.place(), mv.place())
     }
 
-    /// Adds the extensions of the move at an index. Those of the move before it are known, so what the place
-    /// above becomes isn't made again where both share it.
+    /// Whether the move at an index has the same place above as one of the few before it.
+    fn shares_above(&self, i: usize) -> bool
+        requires { i < length self.now }
+        ensures { IsTrue result → SharesAbove self.now i }
+    {
+        for k in i.saturating_sub(LOOK_BACK)..i {
+            if self.shares_above_of(k, i) {
+                return true;
+            }
+        }
+        false
+    }
+
+    /// Adds the extensions of the move at an index. Those of the moves before it are known, so what the place
+    /// above becomes isn't made again where one of the few before it shares it.
     fn spread(
         &mut self,
         alloc: Global,
@@ -157,6 +185,36 @@ pub(crate) fn reach_from(
     let mut i = 0;
     while i < reached.len() {
         reached.spread(alloc, question, kit, beside, i)?;
+        i += 1;
+    }
+    Ok(reached)
+}
+
+/// What no more extensions than a limit lead to from some moves.
+pub(crate) fn reach_within(
+    alloc: Global,
+    question: &Question<'_>,
+    kit: &mut Kit,
+    first: Vec<Move>,
+    limit: usize,
+) -> Result<Reach, Memory>
+    requires kinds { ⟦<Kit as Boxes>⟧.HasKinds kit.old }
+    requires asked { CanAsk question.now }
+    requires first { All (IsFirst question.now) first.items }
+    ensures kinds { ⟦<Kit as Boxes>⟧.HasKinds kit.new }
+    ensures rules { kit.new.rules ≡ kit.old.rules }
+    ensures each { IfOk result (λ r. All (IsLedTo question.now first.items) r) }
+    ensures few { IfOk result (λ r. All (λ e. e.1 ≤ limit) r) }
+    ensures all { IfOk result (λ r. HoldsWithin question.now limit first.items r) }
+{
+    listed_moves_are_defined();
+    let _tables = question.cur.len();
+    let none = Reach::new(alloc);
+    let mut reached = Reach::new(alloc);
+    reached.note_all(&none, first, 0)?;
+    let mut i = 0;
+    while reached.is_below(i, limit) {
+        reached.spread(alloc, question, kit, &none, i)?;
         i += 1;
     }
     Ok(reached)

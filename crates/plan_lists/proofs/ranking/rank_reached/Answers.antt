@@ -3,21 +3,21 @@ use Rattle.move_core.specs.declared.moves.Ranked.{Ranked}
 use Rattle.plan_lists.specs.Ranking.{AddsExtended}
 use Rattle.plan_lists.proofs.Adding.{extended_step, unextended_step}
 use Rattle.plan_lists.proofs.ranking.rank_reached.Goals as goal
-use Rattle.plan_lists.proofs.ranking.rank_reached.Goals.{then-depth-gt0+in_ok-mv+in_ok-push, else-depth-gt0}
+use Rattle.plan_lists.proofs.ranking.rank_reached.Goals.{then-depth-least+in_ok-mv+in_ok-push, else-depth-least}
 
 pub loop-i-preserved : goal.loop-i-preserved
 loop-i-preserved c =
     let es = c.args.reached.now in
     let old = [] in
-    elim c.if-depth-gt0.branch [
-      | then-depth-gt0+in_ok-mv+in_ok-push w ↦
+    elim c.if-depth-least.branch [
+      | then-depth-least+in_ok-mv+in_ok-push w ↦
           let r : Ranked = record { tier = c.args.tier; depth = c.at-depth.result.1; class = w.place_class-class.result; mv = w.in_ok-mv.mv } in
-          extended_step c.args.tier es c.loop-i.i c.at-depth.result.0.now c.at-depth.result.1 old c.loop-i.ranked.items
-          c.if-depth-gt0.ranked.items r c.loop-i.invariant c.at-depth.ensures w.if-depth-gt0.true w.in_ok-mv.ensures refl refl
+          extended_step c.args.tier c.args.least es c.loop-i.i c.at-depth.result.0.now c.at-depth.result.1 old c.loop-i.ranked.items
+          c.if-depth-least.ranked.items r c.loop-i.invariant c.at-depth.ensures w.if-depth-least.true w.in_ok-mv.ensures refl refl
           w.place_class-class.ensures (ap (λ v. v.items) w.ranked-is ∙ w.in_ok-push.ensures.items)
-      | else-depth-gt0 w ↦
-          let none = w.if-depth-gt0.false in
-          subst (λ l. AddsExtended (take (c.loop-i.i + 1) es) c.args.tier old l) (sym (ap (λ v. v.items) w.ranked-is))
-          (unextended_step c.args.tier es c.loop-i.i c.at-depth.result.0.now c.at-depth.result.1 old c.loop-i.ranked.items
+      | else-depth-least w ↦
+          let none = w.if-depth-least.false in
+          subst (λ l. AddsExtended (take (c.loop-i.i + 1) es) c.args.tier c.args.least old l) (sym (ap (λ v. v.items) w.ranked-is))
+          (unextended_step c.args.tier c.args.least es c.loop-i.i c.at-depth.result.0.now c.at-depth.result.1 old c.loop-i.ranked.items
           c.loop-i.invariant c.at-depth.ensures (λ pos. omega (arith, pos, none)))
     ]

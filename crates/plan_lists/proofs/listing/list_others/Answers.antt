@@ -2,11 +2,11 @@ use Rattle.std.proofs.Common.{[], Result, Ok, Err, IfOk, subst}
 use Rattle.move_core.specs.Generated.{IsRestoring}
 use Rattle.move_core.specs.declared.moves.Generated.{Generated}
 use Rattle.plan_lists.specs.Ranking.{AreMovesOf, IsReachOf, LeadsEarly}
-use Rattle.plan_lists.proofs.Firsts.{in_tier}
+use Rattle.plan_lists.proofs.Firsts.{in_part}
 use Rattle.plan_lists.specs.Reaches.{AreNoted}
 use Rattle.plan_lists.proofs.Chains.{early_closed, moves_first}
-use Rattle.plan_lists.proofs.Tiers.{chains_four, earlier_four}
-use Rattle.plan_lists.proofs.listing.fourth_tier.Goals as goal
+use Rattle.plan_lists.proofs.Parts.{chains_others, earlier_others}
+use Rattle.plan_lists.proofs.listing.list_others.Goals as goal
 
 if_ok : {T E : Type 0} {P Q : T → Type 0} (r : Result T E) → ((x : T) → P x → Q x) → IfOk r P → IfOk r Q
 if_ok (Ok x) f h = f x h
@@ -51,6 +51,6 @@ returns-clause-listed g c =
     let noted : AreNoted [] early first others 0 = subst (λ l. AreNoted l early first others 0) c.new-none.ensures c.in_ok-note_all.ensures in
     let again : AreNoted [] first known restorings 0 = subst (λ l. AreNoted l first known restorings 0) c.new-none.ensures c.in_ok-note_all-2.ensures in
     if_ok c.in_order.result
-    (λ ms is. in_tier q start 4 known ranked ms.items
-    (chains_four q start firsts each all early late ranked reach (late_ms, late_of, c.in_ok-late-2.ensures.each, c.in_ok-late-2.ensures.all) c.in_ok-ranked.ensures)
-    (earlier_four q start firsts each all others of_others early reach restorings first known of_restorings noted again) is) c.in_order.ensures
+    (λ ms is. in_part q start 7 known ranked ms.items
+    (chains_others q start firsts each all early late ranked reach (late_ms, late_of, c.in_ok-late-2.ensures.each, c.in_ok-late-2.ensures.all) c.in_ok-ranked.ensures.added)
+    (earlier_others q start firsts each all others of_others early reach ranked restorings first known of_restorings noted again) is) c.in_order.ensures

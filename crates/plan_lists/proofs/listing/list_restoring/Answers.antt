@@ -2,9 +2,9 @@ use Rattle.std.proofs.Common.{[], Result, Ok, Err, true, IfOk, subst}
 use Rattle.move_core.specs.Generated.{IsRestoring}
 use Rattle.plan_lists.specs.Ranking.{AddsAlone, AreMovesOf, IsReachOf, LeadsEarly}
 use Rattle.plan_lists.specs.Reaches.{AreNoted}
-use Rattle.plan_lists.proofs.Firsts.{in_tier}
-use Rattle.plan_lists.proofs.Tiers.{chains_three, earlier_three}
-use Rattle.plan_lists.proofs.listing.third_tier.Goals as goal
+use Rattle.plan_lists.proofs.Firsts.{in_part}
+use Rattle.plan_lists.proofs.Parts.{chains_restoring, earlier_restoring}
+use Rattle.plan_lists.proofs.listing.list_restoring.Goals as goal
 
 if_ok : {T E : Type 0} {P Q : T → Type 0} (r : Result T E) → ((x : T) → P x → Q x) → IfOk r P → IfOk r Q
 if_ok (Ok x) f h = f x h
@@ -29,5 +29,5 @@ returns-clause-listed g c =
     let alone : AddsAlone start q.goal.now true firsts [] ranked =
     subst (λ l. AddsAlone start q.goal.now true l [] ranked) c.deref-3.ensures.value c.in_ok-ranked.ensures in
     if_ok c.in_order.result
-    (λ ms is. in_tier q start 3 known ranked ms.items (chains_three q start firsts each all ranked alone)
-    (earlier_three q start firsts each all others of_others early reach known noted) is) c.in_order.ensures
+    (λ ms is. in_part q start 6 known ranked ms.items (chains_restoring q start firsts each all ranked alone)
+    (earlier_restoring q start firsts each all others of_others early reach ranked known noted) is) c.in_order.ensures
