@@ -1,4 +1,5 @@
 pub mod Ended
+pub mod FieldMoves
 pub mod Frames
 pub mod Kept
 pub mod Members
@@ -7,6 +8,7 @@ pub mod Orders
 pub mod Pairs
 pub mod Parts
 pub mod Positions
+pub mod Refused
 pub mod Routes
 pub mod Ruled
 pub mod Same

@@ -1,4 +1,4 @@
--- The list of a tier as a part.
+-- What is listed in a part as a part of the list.
 use Rattle.std.proofs.Common.{◌≡◌, ◌≢◌, ℕ, ◌+◌, ◌<◌, List, [], ◌∷◌, get_or, refl, sym, ap, subst, ◌∙◌, All, arith, nat_le, Bool, true, false, IsTrue, ◌⊎◌, inl, inr}
 use Rattle.std.specs.Cmp.{nat_cmp_is}
 use Rattle.std.specs.List.{AllPairs, Contains}
@@ -18,8 +18,9 @@ use Rattle.move_core.specs.declared.contexts.Ctx.{Ctx}
 use Rattle.move_core.specs.declared.moves.Move.{Move}
 use Rattle.move_core.specs.declared.moves.Ranked.{Ranked}
 use Rattle.plan_search.specs.FirstWays.{StandsBefore}
-use Rattle.plan_lists.specs.Tiers.{AreListedIn, EndsEarlier}
-use Rattle.plan_search.specs.Kits.{IsInTiers, move_problem, move_tied}
+use Rattle.plan_lists.specs.Parts.{AreListedIn, EndsEarlier, part_of}
+use Rattle.plan_lists.proofs.PartOrder.{part_first}
+use Rattle.plan_search.specs.Kits.{IsInParts, move_problem, move_tied}
 use Rattle.plan_search.specs.Problems.{IsPart, PrecedesLater}
 use Rattle.plan_search.proofs.Pairs.{pairs_first, pairs_none, pairs_tail}
 
@@ -79,40 +80,37 @@ module _ (book : Rulebook) (start goal cur : Config) where
   listed_order ms are =
       subst (AllPairs (StandsBefore book start goal cur)) (sym are.2) (in_order are.0 are.1.each are.1.order)
 
--- ---- tiers
+-- ---- parts
 
--- a tier that is no lesser one but not above the next is the next
-next_tier : (t k : ℕ) → nat_le t (k + 1) ≡ true → nat_le t k ≡ false → t ≡ k + 1
-next_tier t k a b = grind (arith, nat_tests)
+-- a part that is no lesser one but not above the next is the next
+next_part : (t k : ℕ) → nat_le t (k + 1) ≡ true → nat_le t k ≡ false → t ≡ k + 1
+next_part t k a b = grind (arith, nat_tests)
 
-lesser_tier : (t k : ℕ) → t < k + 1 → nat_le t k ≡ true
-lesser_tier t k lt = grind (arith, nat_tests)
+lesser_part : (t k : ℕ) → t < k + 1 → nat_le t k ≡ true
+lesser_part t k lt = grind (arith, nat_tests)
 
-above_tier : (t k : ℕ) → ¬ IsTrue (nat_le t k) → k < t
-above_tier t k out = grind (arith, nat_tests)
+above_part : (t k : ℕ) → ¬ IsTrue (nat_le t k) → k < t
+above_part t k out = grind (arith, nat_tests)
 
--- the tier decides first
-by_tier : (r s : Ranked) → r.tier < s.tier → listed_cmp r s ≡ Less
-by_tier r s lt =
-    ap (λ o. ordering_then (ordering_then o (ordering_then (nat_cmp r.depth s.depth) (nat_cmp r.class s.class))) (move_cmp r.mv s.mv))
-    (sym (nat_cmp_is r.tier s.tier Less lt))
+between : (t u k : ℕ) → t ≡ k → k < u → t < u
+between t u k here above = omega arith
 
 module _ (ctx : Ctx) (start goal cur : Config) (k : ℕ) (ms : List Move)
     (are : AreListedIn (rulebook ctx) start cur goal (k + 1) ms) where
   abbrev IsHere : Ranked → Type 0
-  IsHere r = IsRanked (rulebook ctx) start cur goal r × (r.tier ≡ k + 1)
+  IsHere r = IsRanked (rulebook ctx) start cur goal r × (part_of r ≡ k + 1)
 
-  within_again : (m : Move) → IsInTiers (rulebook ctx) start goal cur (k + 1) m
-      → ¬ IsInTiers (rulebook ctx) start goal cur k m → Contains ms m
-  within_again m s out = by (nat_le s.0.tier k) refl
+  within_again : (m : Move) → IsInParts (rulebook ctx) start goal cur (k + 1) m
+      → ¬ IsInParts (rulebook ctx) start goal cur k m → Contains ms m
+  within_again m s out = by (nat_le (part_of s.0) k) refl
     where
       of : Contains (moves_of are.0) s.0.mv ⊎ EndsEarlier (rulebook ctx) start cur goal (k + 1) s.0.mv → Contains ms m
       of (inl h) = subst (λ l. Contains l m) (sym are.2) (subst (Contains (moves_of are.0)) s.2 h)
-      of (inr e) = absurd (out (e.0, e.1, e.2 ∙ s.2, lesser_tier e.0.tier k e.3))
+      of (inr e) = absurd (out (e.0, e.1, e.2 ∙ s.2, lesser_part (part_of e.0) k e.3))
 
-      by : (b : Bool) → nat_le s.0.tier k ≡ b → Contains ms m
+      by : (b : Bool) → nat_le (part_of s.0) k ≡ b → Contains ms m
       by true e = absurd (out (s.0, s.1, s.2, e))
-      by false e = of (are.1.all s.0 s.1 (next_tier s.0.tier k s.3 e))
+      by false e = of (are.1.all s.0 s.1 (next_part (part_of s.0) k s.3 e))
 
   before_later : (r : Ranked) → IsHere r → PrecedesLater (move_problem ctx start goal) cur (k + 1) r.mv
   before_later r is n listed out = record {
@@ -120,14 +118,13 @@ module _ (ctx : Ctx) (start goal cur : Config) (k : ℕ) (ms : List Move)
     ends = is.0.ends;
     mv = refl;
     before = λ s ends same.
-        let above = above_tier s.tier (k + 1) (λ le. out (s, ends, same, le)) in
-        let here = is.1 in
-        by_tier r s (omega (arith, above, here));
+        part_first r s
+        (between (part_of r) (part_of s) (k + 1) is.1 (above_part (part_of s) (k + 1) (λ le. out (s, ends, same, le))));
   }
 
-  -- what is listed in a tier is a part of the list
-  pub part_of_tier : IsPart (move_problem ctx start goal) cur k ms
-  part_of_tier = record {
+  -- what is listed in a part is that part of the list
+  pub listed_part : IsPart (move_problem ctx start goal) cur k ms
+  listed_part = record {
     each =
         subst (All (λ m. IsListed (rulebook ctx) cur goal m)) (sym are.2)
         (All-map (λ m. IsListed (rulebook ctx) cur goal m) (λ r. r.mv) are.0

@@ -1,5 +1,6 @@
 -- The problem of a search whose moves come from a kit.
-use Rattle.std.proofs.Common.{◌≡◌, ◌≢◌, ◌⊎◌, inl, inr, ℕ, zero, suc, IsTrue, nat_le, refl, sym, ap, ◌∙◌, true≢false}
+use Rattle.std.proofs.Common.{◌≡◌, ◌≢◌, ◌⊎◌, inl, inr, ℕ, zero, suc, ◌+◌, Bool, true, false, if◌then◌else◌, IsTrue, nat_le, refl, sym, ap, ◌∙◌, true≢false, arith}
+use Rattle.std.proofs.lemmas.Bool.Decides.{nat_tests}
 use Rattle.std.specs.Cmp.{tied_itself}
 use Rattle.std.specs.Ordering.{is_gt, is_lt, ordering_reverse}
 use Rattle.std.specs.declared.cmp.Ordering.{Ordering}
@@ -17,13 +18,14 @@ use Rattle.move_core.specs.declared.moves.Generated.{Generated}
 use Rattle.move_core.specs.declared.moves.Move.{Move}
 use Rattle.move_core.specs.declared.moves.Move.TheVariants.{Add, Remove, Replace}
 use Rattle.move_core.specs.declared.moves.Ranked.{Ranked}
+use Rattle.plan_lists.specs.Parts.{part_at, part_of}
 use Rattle.plan_search.specs.FirstWays.{StandsBefore}
-use Rattle.plan_search.specs.Problems.{Problem, IsLawful}
+use Rattle.plan_search.specs.Problems.{Problem, IsLawful, part_count}
 
--- some chain of that tier or a lesser one ends with the move
-abbrev pub IsInTiers : Rulebook → Config → Config → Config → ℕ → Move → Type 0
-IsInTiers book start goal cur k m =
-    (s : Ranked) × EndsChain book start cur goal s × (s.mv ≡ m) × IsTrue (nat_le s.tier k)
+-- some chain of that part or a lesser one ends with the move
+abbrev pub IsInParts : Rulebook → Config → Config → Config → ℕ → Move → Type 0
+IsInParts book start goal cur k m =
+    (s : Ranked) × EndsChain book start cur goal s × (s.mv ≡ m) × IsTrue (nat_le (part_of s) k)
 
 -- the moves of a context from start to goal; moves can be asked for where a configuration is valid
 abbrev pub move_problem : Ctx → Config → Config → Problem
@@ -33,12 +35,23 @@ move_problem ctx start goal =
       goal = goal;
       IsAllowed = IsAllowed (rulebook ctx) goal;
       IsListed = λ c m. IsListed (rulebook ctx) c goal m;
-      IsWithin = IsInTiers (rulebook ctx) start goal;
+      IsWithin = IsInParts (rulebook ctx) start goal;
       Precedes = StandsBefore (rulebook ctx) start goal;
       IsFit = IsValidIn ctx;
     }
 
--- ---- tiers
+-- ---- parts
+
+-- a chain of the part 0 has the tier 0
+first_tier : (t d : ℕ) → IsTrue (nat_le (part_at t d) 0) → IsTrue (nat_le t 0)
+first_tier t d le = by (nat_le t 1) (nat_le t 2) (nat_le d 3) le
+  where
+    by : (a b c : Bool) → IsTrue (nat_le (if a then t else if b then (if c then 1 + d else 5) else t + 3) 0)
+        → IsTrue (nat_le t 0)
+    by true b c h = h
+    by false true true h = grind (arith, nat_tests)
+    by false true false h = absurd (true≢false (sym h))
+    by false false c h = grind (arith, nat_tests)
 
 no_restoring : (d t : ℕ) → t ≡ restoring_tier d → ¬ IsTrue (nat_le t 0)
 no_restoring zero t e le = true≢false (sym le ∙ ap (λ x. nat_le x 0) e)
@@ -50,11 +63,23 @@ no_other (Add p part) (suc d) t e le = true≢false (sym le ∙ ap (λ x. nat_le
 no_other (Remove p) (suc d) t e le = true≢false (sym le ∙ ap (λ x. nat_le x 0) e)
 no_other (Replace p part) (suc d) t e le = true≢false (sym le ∙ ap (λ x. nat_le x 0) e)
 
--- no chain has the tier 0
-no_tier : (start goal : Config) (g : Generated) (d t : ℕ)
-    → HasTier start goal g d t → ¬ IsTrue (nat_le t 0)
-no_tier start goal g d t has le =
-    no_other g.mv d t (has.other (λ r. no_restoring d t (has.restoring r) le)) le
+-- no chain has the part 0
+no_part : (start goal : Config) (g : Generated) (d t : ℕ)
+    → HasTier start goal g d t → ¬ IsTrue (nat_le (part_at t d) 0)
+no_part start goal g d t has le =
+    no_other g.mv d t
+    (has.other (λ r. no_restoring d t (has.restoring r) (first_tier t d le))) (first_tier t d le)
+
+-- of the tiers up to 4 there are seven parts
+few : (t d : ℕ) → IsTrue (nat_le t 4) → IsTrue (nat_le (part_at t d) part_count)
+few t d le = by (nat_le t 1) (nat_le t 2) (nat_le d 3) refl refl
+  where
+    by : (a b c : Bool) → nat_le t 1 ≡ a → nat_le d 3 ≡ c
+        → IsTrue (nat_le (if a then t else if b then (if c then 1 + d else 5) else t + 3) part_count)
+    by true b c low near = grind (arith, nat_tests)
+    by false true true low near = grind (arith, nat_tests)
+    by false true false low near = refl
+    by false false c low near = grind (arith, nat_tests)
 
 few_restoring : (d : ℕ) → IsTrue (nat_le (restoring_tier d) 4)
 few_restoring zero = refl
@@ -66,16 +91,16 @@ few_other (Add p part) (suc d) = refl
 few_other (Remove p) (suc d) = refl
 few_other (Replace p part) (suc d) = refl
 
--- a listed move has a chain of a tier up to 4
-some_tier : (book : Rulebook) (start goal cur : Config) (m : Move)
-    → IsListed book cur goal m → ¬ ¬ IsInTiers book start goal cur 4 m
-some_tier book start goal cur m is out =
+-- a listed move has a chain of some part
+some_part : (book : Rulebook) (start goal cur : Config) (m : Move)
+    → IsListed book cur goal m → ¬ ¬ IsInParts book start goal cur part_count m
+some_part book start goal cur m is out =
     otherwise (λ r. out (chain (restoring_tier is.depth)
     (record { restoring = λ x. refl; other = λ n. absurd (n r) }) (few_restoring is.depth)))
   where
     chain : (t : ℕ) → HasTier start goal is.first is.depth t → IsTrue (nat_le t 4)
-        → IsInTiers book start goal cur 4 m
-    chain t has few = (
+        → IsInParts book start goal cur part_count m
+    chain t has le = (
       record { tier = t; depth = is.depth; class = chain_class is.first is.depth m; mv = m },
       record {
         first = is.first;
@@ -85,7 +110,7 @@ some_tier book start goal cur m is out =
         class = refl;
       },
       refl,
-      few,
+      few t is.depth le,
     )
 
     otherwise : ¬ IsRestoring start goal is.first → ⊥
@@ -126,14 +151,14 @@ told_by m n Greater e =
 pub moves_told : (m n : Move) → (m ≡ n) ⊎ (m ≢ n)
 moves_told m n = told_by m n (move_cmp m n) refl
 
--- an allowed move is a listed one, and its result is valid; each has a tier; the order is one
+-- an allowed move is a listed one, and its result is valid; each has a part; the order is one
 pub moves_lawful : (ctx : Ctx) (start goal : Config) → IsLawful (move_problem ctx start goal)
 moves_lawful ctx start goal =
     record {
       listed = λ c m is. is.listed;
       fit = λ c m valid is. is.rules.full;
-      none = λ c m h. no_tier start goal h.1.first h.0.depth h.0.tier h.1.tier h.3;
-      all = some_tier (rulebook ctx) start goal;
+      none = λ c m h. no_part start goal h.1.first h.0.depth h.0.tier h.1.tier h.3;
+      all = some_part (rulebook ctx) start goal;
       one_way = one_before (rulebook ctx) start goal;
       told = moves_told;
     }

@@ -7,5 +7,6 @@ pub mod Searches
 pub mod Answers
 pub mod Kits
 pub mod Problems
+pub mod Refusals
 pub mod Searching
 pub mod Stacks

@@ -9,7 +9,7 @@ use move_core::Move;
 use std::alloc::Global;
 
 /// Into how many parts the list at a configuration is divided.
-pub(crate) const PART_COUNT: u8 = 4;
+pub(crate) const PART_COUNT: u8 = 7;
 
 /// A search's problem, asked by a kit that may change with each call.
 pub(crate) trait Expanding {

@@ -1,6 +1,7 @@
 //! The search for the first plan over the listed moves.
 #![tactic(auto)]
 
+mod early_refusals;
 mod errors;
 mod expanding;
 mod laws;

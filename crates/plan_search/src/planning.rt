@@ -5,6 +5,7 @@ ghost use Rattle.move_core.specs.Kinds.{AreBefore, AreOfKinds, extender_kinds, g
 ghost use Rattle.plan_search.specs.Kits.{move_problem, moves_lawful};
 ghost use Rattle.plan_search.specs.Searches.{IsSearchAnswer};
 
+use crate::early_refusals::is_refused;
 use crate::expanding::Expanding;
 use crate::rules::keep_rules;
 use crate::searching::find_plan;
@@ -14,7 +15,7 @@ use host_core::Memory;
 use move_core::{
     Boxes, Ctx, Kit, Move, MoveExt, MoveGen, MoveRule, Plan, listed_moves_are_defined, step,
 };
-use plan_lists::listed_in_tier;
+use plan_lists::listed_in_part;
 use std::alloc::Global;
 use std::marker::PhantomData;
 use std::sync::ledger::Ledger;
@@ -64,7 +65,7 @@ impl<'a> Expanding for KitMoves<'a> {
         cur: &Config,
         part: u8,
     ) -> Result<Vec<Move>, Memory> {
-        listed_in_tier(alloc, self.ctx, kit, self.start, cur, self.goal, part + 1)
+        listed_in_part(alloc, self.ctx, kit, self.start, cur, self.goal, part + 1)
     }
 
     fn try_move(
@@ -76,6 +77,9 @@ impl<'a> Expanding for KitMoves<'a> {
     ) -> Result<Option<Config>, Memory> {
         listed_moves_are_defined();
         let _tables = cur.len();
+        if is_refused(&self.ctx.settings, cur, mv) {
+            return Ok(None);
+        }
         let next = step(alloc, cur, mv)?;
         if !keep_rules(self.ctx, kit, cur, &next, self.goal, mv) || next.same(cur) {
             Ok(None)

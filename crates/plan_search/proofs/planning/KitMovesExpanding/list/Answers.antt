@@ -1,5 +1,5 @@
 use Rattle.std.proofs.Common.{Result, Ok, Err, IfOk}
-use Rattle.plan_search.proofs.Parts.{part_of_tier}
+use Rattle.plan_search.proofs.Parts.{listed_part}
 use Rattle.plan_search.proofs.planning.KitMovesExpanding.list.Goals as goal
 
 if_ok : {T E : Type 0} {P Q : T → Type 0} (r : Result T E) → ((x : T) → P x → Q x) → IfOk r P → IfOk r Q
@@ -9,6 +9,6 @@ if_ok (Err e) f h = h
 pub returns-clause-part : goal.returns-clause-part
 returns-clause-part g c =
     let s = c.args.self.now in
-    if_ok c.listed_in_tier.result (λ ms are.
-    part_of_tier s.ctx.now s.start.now s.goal.now c.args.cur.now c.args.part ms.items are)
-    c.listed_in_tier.ensures.listed
+    if_ok c.listed_in_part.result (λ ms are.
+    listed_part s.ctx.now s.start.now s.goal.now c.args.cur.now c.args.part ms.items are)
+    c.listed_in_part.ensures.listed

@@ -1,0 +1,116 @@
+-- Why the settings refuse a move of a field.
+use Rattle.std.proofs.Common.{◌≡◌, ℕ, List, [], ◌∷◌, length, slice_get, Option, Some, None, option_map, IsSome, refl, sym, ap, ◌∙◌, subst, arith}
+use Rattle.std.specs.Option.{option_to_list}
+use Rattle.conf_doc.specs.Changes.{part_at, with_part, Fits, HasParent, HasPlace}
+use Rattle.conf_doc.specs.declared.configuration.Config.{Config}
+use Rattle.conf_doc.specs.declared.configuration.Value.{Value}
+use Rattle.conf_doc.specs.declared.parts.Part.{Part}
+use Rattle.conf_doc.specs.declared.parts.Part.TheVariants as part
+use Rattle.move_core.specs.Extensions.{ChangesFor}
+use Rattle.move_core.specs.Moves.{Agree, IsDefined, Place, new_part, place, step}
+use Rattle.move_core.specs.declared.moves.Move.{Move}
+use Rattle.move_core.specs.declared.moves.Move.TheVariants.{Add, Remove, Replace}
+use Rattle.move_core.specs.declared.settings.Settings.{Settings}
+use Rattle.plan_search.specs.Refusals.{ChangesPlace, HasUnmetRule, IsCreateOnly, KeepsSettings}
+use Rattle.plan_search.proofs.FieldMoves.{entry_stays, field_after, field_in_entry}
+
+no_part : (new : Part) → None ≡ Some new → ⊥
+no_part new e = cc
+
+some_part : (o : Option Part) → IsSome o → o ≡ None → ⊥
+some_part None has e = cc
+some_part (Some p) has e = cc
+
+-- a place of three names
+pub three_names : (p : Place) (t k f : List ℕ) → length p ≡ 3
+    → slice_get p 0 ≡ Some t → slice_get p 1 ≡ Some k → slice_get p 2 ≡ Some f → p ≡ t ∷ k ∷ f ∷ []
+three_names [] t k f long first second third = absurd (omega arith)
+three_names (a ∷ []) t k f long first second third = absurd (omega arith)
+three_names (a ∷ b ∷ []) t k f long first second third = absurd (omega arith)
+three_names (a ∷ b ∷ c ∷ []) t k f long first second third =
+    λ i. same_Some a t first i ∷ same_Some b k second i ∷ same_Some c f third i ∷ []
+  where
+    same_Some : (x y : List ℕ) → Some x ≡ Some y → x ≡ y
+    same_Some x y e = cc
+three_names (a ∷ b ∷ c ∷ d ∷ ns) t k f long first second third = absurd (omega arith)
+
+module _ (cur : Config) (t k f : List ℕ) where
+  -- a move of a field has its entry there
+  entry_there : (m : Move) → IsDefined cur m → place m ≡ t ∷ k ∷ f ∷ [] → HasPlace cur (t ∷ k ∷ [])
+  entry_there (Add path new) defined at = subst (HasParent cur) at defined.1
+  entry_there (Remove path) defined at = field_in_entry cur t k f (subst (HasPlace cur) at defined)
+  entry_there (Replace path new) defined at = field_in_entry cur t k f (subst (HasPlace cur) at defined.1)
+
+  fitting : (new : Part) → Fits (t ∷ k ∷ f ∷ []) new → (v : Value) × (Some new ≡ Some (part.Value v))
+  fitting (part.Table table) fits = absurd (omega (arith, fits))
+  fitting (part.Entry entry) fits = absurd (omega (arith, fits))
+  fitting (part.Value v) fits = (v, refl)
+
+  -- it leaves a value or nothing
+  value_left : (m : Move) → IsDefined cur m → place m ≡ t ∷ k ∷ f ∷ []
+      → (v : Option Value) × (new_part m ≡ option_map part.Value v)
+  value_left (Add path new) defined at =
+      let v = fitting new (subst (λ p. Fits p new) at defined.0) in (Some v.0, v.1)
+  value_left (Remove path) defined at = (None, refl)
+  value_left (Replace path new) defined at =
+      let v = fitting new (subst (λ p. Fits p new) at defined.0) in (Some v.0, v.1)
+
+  module _ (m : Move) (defined : IsDefined cur m) (at : place m ≡ t ∷ k ∷ f ∷ []) where
+    -- where it leaves something else it changes the place
+    pub changes_by : ¬ (part_at cur (t ∷ k ∷ f ∷ []) ≡ new_part m) → ChangesPlace cur m
+    changes_by other agree =
+        other (subst (λ p. part_at cur p ≡ part_at (with_part cur p (new_part m)) p) at agree
+        ∙ ap (λ x. part_at (with_part cur (t ∷ k ∷ f ∷ []) x) (t ∷ k ∷ f ∷ [])) left.1
+        ∙ field_after cur t k f left.0 (entry_there m defined at) ∙ sym left.1)
+      where
+        left : (v : Option Value) × (new_part m ≡ option_map part.Value v)
+        left = value_left m defined at
+
+    pub add_changes : (path : Place) (new : Part) → m ≡ Add path new → ChangesPlace cur m
+    add_changes path new is =
+        changes_by (λ same. no_part new
+        (sym (subst (λ p. part_at cur p ≡ None) (sym (ap place is) ∙ at) (subst (IsDefined cur) is defined).2) ∙ same
+        ∙ ap new_part is))
+
+    pub remove_changes : (path : Place) → m ≡ Remove path → ChangesPlace cur m
+    remove_changes path is =
+        changes_by (λ same. some_part (part_at cur (t ∷ k ∷ f ∷ []))
+        (subst (HasPlace cur) (sym (ap place is) ∙ at) (subst (IsDefined cur) is defined)) (same ∙ ap new_part is))
+
+    pub replace_changes : (path : Place) (new : Part) → m ≡ Replace path new
+        → ¬ (part_at cur (t ∷ k ∷ f ∷ []) ≡ Some new) → ChangesPlace cur m
+    replace_changes path new is other = changes_by (λ same. other (same ∙ ap new_part is))
+
+    stays : (u j : List ℕ) → HasPlace cur (u ∷ j ∷ []) → HasPlace (step cur m) (u ∷ j ∷ [])
+    stays u j has =
+        subst (λ p. HasPlace (with_part cur p (new_part m)) (u ∷ j ∷ [])) (sym at)
+        (entry_stays cur t k f (new_part m) u j has)
+
+    module _ (settings : Settings) (changes : ChangesPlace cur m) where
+      differs : ¬ Agree cur (step cur m) (t ∷ k ∷ f ∷ [])
+      differs = subst (λ p. ¬ Agree cur (step cur m) p) at changes
+
+      pub by_create_only : IsCreateOnly settings t f → ¬ KeepsSettings settings cur m
+      by_create_only is keeps =
+          differs (subst (λ n. Agree cur (step cur m) (t ∷ k ∷ n ∷ [])) is.field
+          (subst (λ u. Agree cur (step cur m) (u ∷ k ∷ is.rule.field ∷ [])) is.table
+          (keeps.0 is.rule k is.listed before (stays is.rule.table k before))))
+        where
+          before : HasPlace cur (is.rule.table ∷ k ∷ [])
+          before = subst (λ u. HasPlace cur (u ∷ k ∷ [])) (sym is.table) (entry_there m defined at)
+
+      pub by_required : HasUnmetRule settings cur t k f → ¬ KeepsSettings settings cur m
+      by_required is keeps =
+          let unmet = is.unmet.unmet in
+          let changed : ChangesFor is.rule unmet.named cur (step cur m) = record {
+            at = t ∷ k ∷ f ∷ [];
+            requires = record {
+              requiring = is.unmet.requiring;
+              listed = is.unmet.listed;
+              key = k;
+              part = unmet.part;
+              is = sym (λ i. unmet.here.0 i ∷ k ∷ option_to_list (unmet.here.1 i));
+            };
+            differs = differs;
+          } in
+          unmet.lacks.1 (keeps.1 is.rule unmet.named is.listed changed unmet.lacks.0 (stays is.rule.table unmet.named unmet.lacks.0)).0

@@ -1,0 +1,162 @@
+//! What the settings refuse of a move of a field, told before the move's result is made.
+ghost use Rattle.std.specs.Prelude.{◌≡◌, ◌↔◌, [], ◌∷◌, IsTrue, option_map};
+ghost use Rattle.conf_doc.specs.Changes.{part_at};
+ghost use Rattle.conf_doc.specs.declared.parts.Part.TheVariants as part;
+ghost use Rattle.move_core.specs.Extensions.{HasRequired};
+ghost use Rattle.move_core.specs.Moves.{IsDefined, place};
+ghost use Rattle.plan_search.specs.Refusals.{ChangesPlace, HasUnmet, HasUnmetRule, IsCreateOnly, IsForField, IsUnmet, KeepsSettings, LacksRequired};
+
+use conf_doc::{Config, Entry, Part, Value};
+use key_split::KeyView;
+use move_core::{Move, Required, Requiring, Settings};
+
+/// The entry of a table at a key.
+fn entry_at<'c>(config: &'c Config, table: &str, key: &str) -> Option<&'c Entry>
+    ensures { let at = table.now ∷ key.now ∷ [] in
+        option_map (λ e. part.Entry e.now) result ≡ part_at config.now at }
+{
+    match config.table(table) {
+        Some(table) => table.entry(key),
+        None => None,
+    }
+}
+
+/// The value of a field there.
+fn value_at<'c>(config: &'c Config, table: &str, key: &str, field: &str) -> Option<&'c Value>
+    ensures { let at = table.now ∷ key.now ∷ field.now ∷ [] in
+        option_map (λ v. part.Value v.now) result ≡ part_at config.now at }
+{
+    match config.table(table) {
+        Some(table) => match table.entry(key) {
+            Some(entry) => entry.field(field),
+            None => None,
+        },
+        None => None,
+    }
+}
+
+/// Whether a field may be set only when its entry is made.
+fn is_create_only(settings: &Settings, table: &str, field: &str) -> bool
+    ensures { IsTrue result → IsCreateOnly settings.now table.now field.now }
+{
+    for rule in settings.create_only.items() {
+        if rule.field.as_str() == field && rule.table.as_str() == table {
+            return true;
+        }
+    }
+    false
+}
+
+/// Whether a rule's field has the required value at a key. Absent it counts as having the default.
+fn has_required(rule: &Required, key: &str, config: &Config) -> bool
+    ensures { IsTrue result ↔ HasRequired rule.now key.now config.now }
+{
+    match value_at(config, rule.table.as_str(), key, rule.field.as_str()) {
+        Some(Value::Text(text)) => text.as_str() == rule.value.as_str(),
+        Some(Value::List(_)) => false,
+        None => rule.default.as_str() == rule.value.as_str(),
+    }
+}
+
+/// Whether its entry is there without it.
+fn lacks_required(rule: &Required, key: &str, config: &Config) -> bool
+    ensures { IsTrue result → LacksRequired rule.now key.now config.now }
+{
+    entry_at(config, rule.table.as_str(), key).is_some() && !has_required(rule, key, config)
+}
+
+/// Whether a requiring place is the field of a table's entries.
+fn is_for_field(requiring: &Requiring, table: &str, field: &str) -> bool
+    ensures { IsTrue result → IsForField requiring.now table.now field.now }
+{
+    match &requiring.field {
+        Some(name) => name.as_str() == field && requiring.table.as_str() == table,
+        None => false,
+    }
+}
+
+/// Whether it is, and what it requires isn't there.
+fn is_unmet(
+    rule: &Required,
+    requiring: &Requiring,
+    cur: &Config,
+    table: &str,
+    key: &str,
+    field: &str,
+) -> bool
+    ensures { let Unmet = IsUnmet rule.now cur.now table.now key.now field.now in
+        IsTrue result → Unmet requiring.now }
+{
+    if !is_for_field(requiring, table, field) {
+        return false;
+    }
+    match KeyView::new(key).part(requiring.part as usize) {
+        Some(named) => lacks_required(rule, named, cur),
+        None => false,
+    }
+}
+
+/// Whether that is so of a requiring place of a rule.
+fn has_unmet(rule: &Required, cur: &Config, table: &str, key: &str, field: &str) -> bool
+    ensures { IsTrue result → HasUnmet rule.now cur.now table.now key.now field.now }
+{
+    for requiring in rule.requiring.items() {
+        if is_unmet(rule, requiring, cur, table, key, field) {
+            return true;
+        }
+    }
+    false
+}
+
+/// Whether it is of some rule.
+fn has_unmet_rule(settings: &Settings, cur: &Config, table: &str, key: &str, field: &str) -> bool
+    ensures { IsTrue result → HasUnmetRule settings.now cur.now table.now key.now field.now }
+{
+    for rule in settings.required.items() {
+        if has_unmet(rule, cur, table, key, field) {
+            return true;
+        }
+    }
+    false
+}
+
+/// Whether a part isn't the value of a field.
+fn is_other_value(cur: &Config, part: &Part, table: &str, key: &str, field: &str) -> bool
+    ensures { let at = table.now ∷ key.now ∷ field.now ∷ [] in
+        IsTrue result → ¬ (part_at cur.now at ≡ Some part.now) }
+{
+    match (value_at(cur, table, key, field), part) {
+        (Some(value), Part::Value(new)) => !value.same(new),
+        _ => true,
+    }
+}
+
+/// Whether a move of a field changes what stands there. An Add and a Remove do.
+fn changes_field(cur: &Config, mv: &Move, table: &str, key: &str, field: &str) -> bool
+    requires defined { IsDefined cur.now mv.now }
+    requires place { place mv.now ≡ table.now ∷ key.now ∷ field.now ∷ [] }
+    ensures { IsTrue result → ChangesPlace cur.now mv.now }
+{
+    match mv {
+        Move::Add(_, _) => true,
+        Move::Remove(_) => true,
+        Move::Replace(_, part) => is_other_value(cur, part, table, key, field),
+    }
+}
+
+/// Whether the settings refuse a move for certain: it changes a field that is create-only, or one that
+/// requires a value which isn't there. Of a move of a table or an entry it doesn't know.
+pub(crate) fn is_refused(settings: &Settings, cur: &Config, mv: &Move) -> bool
+    requires { IsDefined cur.now mv.now }
+    ensures { IsTrue result → ¬ KeepsSettings settings.now cur.now mv.now }
+{
+    let place = mv.place();
+    if place.len() != 3 {
+        return false;
+    }
+    let table = place.name_at(0);
+    let key = place.name_at(1);
+    let field = place.name_at(2);
+    (is_create_only(settings, table, field) || has_unmet_rule(settings, cur, table, key, field))
+        && changes_field(cur, mv, table, key, field)
+}
