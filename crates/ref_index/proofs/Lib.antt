@@ -1,3 +1,4 @@
+pub mod Agreements
 mod Collecting
 mod EntryTexts
 mod Firsts

@@ -14,7 +14,7 @@ use Rattle.ref_index.proofs.NamedEntries.{entry_of_key, entry_of_place, item_at,
 use Rattle.ref_index.proofs.SameEntries.{Satisfies, same_want, text_of_want}
 
 -- the keys that the second configuration hasn't are named
-abbrev HasKeys : Config → Config → List EntryName → Type 0
+abbrev pub HasKeys : Config → Config → List EntryName → Type 0
 HasKeys a b names = (t k : List ℕ) → HasKey (entries_of a t) k → HasKey (entries_of b t) k ⊎ IsNamed names t k
 
 -- entries that both have are together, or they are named
@@ -61,12 +61,17 @@ turned parts a b names entries t k x y one two = elim (entries t k y x two one) 
   | inr named ↦ inr named
 ]
 
--- the keys that one of them has alone, and then the entries that aren't together
+-- where the keys that one of them has alone are named, and then the entries that aren't together
+pub changed_differ : (a b : Config) (lone names : List EntryName) (parts : TextSet) → IsConfig a → IsConfig b → HasKeys a b lone → HasKeys b a lone
+    → HoldsParts lone parts → AddsChanged parts a b lone names → AreDifferences a b names
+changed_differ a b lone names parts formed well keys back holds changed = record {
+  of_first = λ models. has_others lone parts holds models a b names formed keys back changed.stay changed.all;
+  of_second = λ models. has_others lone parts holds models b a names well back keys changed.stay (turned parts a b names changed.all);
+}
+
+-- the keys that one of them has alone, first those of the one and then those of the other
 pub all_differences : (a b : Config) (first lone names : List EntryName) (parts : TextSet) → IsConfig a → IsConfig b → AddsLone a b [] first → AddsLone b a first lone
     → HoldsParts lone parts → AddsChanged parts a b lone names → AreDifferences a b names
-all_differences a b first lone names parts formed well ab ba holds changed =
-    let keys : HasKeys a b lone = λ t k has. elim (ab.all t k has) [ inl kept ↦ inl kept | inr named ↦ inr (ba.stay t k named) ] in
-    record {
-      of_first = λ models. has_others lone parts holds models a b names formed keys ba.all changed.stay changed.all;
-      of_second = λ models. has_others lone parts holds models b a names well ba.all keys changed.stay (turned parts a b names changed.all);
-    }
+all_differences a b first lone names parts formed well ab ba =
+    changed_differ a b lone names parts formed well
+    (λ t k has. elim (ab.all t k has) [ inl kept ↦ inl kept | inr named ↦ inr (ba.stay t k named) ]) ba.all

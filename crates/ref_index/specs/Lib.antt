@@ -1,4 +1,5 @@
 -- What public clauses cite.
+pub mod Agreements
 pub mod Referrers
 -- What only the index and private clauses cite.
 pub mod Codes

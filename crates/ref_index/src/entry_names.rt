@@ -1,12 +1,13 @@
 //! Names of entries: the keys that one of two configurations has and the other hasn't, and the entries that
 //! differ or have a text that is a part of such a key.
-ghost use Rattle.std.specs.Prelude.{ℕ, List, ◌≡◌, ◌↔◌, ◌<◌, ◌+◌, ◌^◌, [], length, map, slice_get, MatchOption, Some, IfOk, IfSome, IsTrue, OnOk};
+ghost use Rattle.std.specs.Prelude.{ℕ, List, ◌≡◌, ◌↔◌, ◌<◌, ◌+◌, ◌^◌, [], length, map, slice_get, MatchOption, Some, IfOk, IfSome, IsTrue, OnOk, is_some};
 ghost use Rattle.std.specs.List.{Contains};
 ghost use Rattle.key_split.specs.Key.{key_parts};
+ghost use Rattle.ref_index.specs.Agreements.{AgreeBut, entry_of};
 ghost use Rattle.ref_index.specs.Texts.{Has};
 ghost use Rattle.ref_index.specs.declared.entry_names.EntryName.{EntryName};
 ghost use Rattle.conf_doc.specs.WellFormed.{IsConfig, IsTable};
-ghost use Rattle.ref_index.specs.EntryNames.{AddsChanged, AddsChangedOf, AddsLone, AddsLoneOf, AreDifferences, HasKey, HoldsParts, IsApart, entries_of};
+ghost use Rattle.ref_index.specs.EntryNames.{AddsChanged, AddsChangedOf, AddsLone, AddsLoneOf, AreDifferences, HasKey, HoldsParts, IsApart, IsNamed, entries_of};
 
 use crate::text_sets::TextSet;
 use conf_doc::{Config, Entry, Table};
@@ -204,6 +205,47 @@ pub(crate) fn differences<'a>(
     let mut found = Vec::new(alloc);
     add_lone(alloc, first, second, &mut found)?;
     add_lone(alloc, second, first, &mut found)?;
+    let parts = parts_of(alloc, found.as_slice())?;
+    add_changed(alloc, first, second, &parts, &mut found)?;
+    Ok(found)
+}
+
+/// Whether a configuration has an entry.
+fn has_entry(config: &Config, table: &str, key: &str) -> bool
+    ensures there { result ≡ is_some (entry_of table.now key.now config.now) }
+    ensures formed { IsConfig config.now }
+{
+    match config.table(table) {
+        Some(entries) => entries.entry(key).is_some(),
+        None => false,
+    }
+}
+
+/// The name of one entry, alone.
+fn one_name<'a>(alloc: Global, table: &'a str, key: &'a str) -> Result<Vec<EntryName<'a>>, Memory>
+    ensures { IfOk result (λ found. IsNamed found.items table.now key.now) }
+{
+    let mut found = Vec::new(alloc);
+    found.push(EntryName { table, key })?;
+    Ok(found)
+}
+
+/// The entries of which the wants may differ, where two configurations agree but for one entry: that one, and
+/// where it comes or goes those that have a part of its key.
+pub(crate) fn differences_but<'a>(
+    alloc: Global,
+    first: &'a Config,
+    second: &'a Config,
+    table: &'a str,
+    key: &'a str,
+) -> Result<Vec<EntryName<'a>>, Memory>
+    requires { AgreeBut first.now second.now table.now key.now }
+    ensures { IfOk result (λ found. AreDifferences first.now second.now found.items) }
+{
+    let mut found = one_name(alloc, table, key)?;
+    if has_entry(first, table, key) == has_entry(second, table, key) {
+        return Ok(found);
+    }
     let parts = parts_of(alloc, found.as_slice())?;
     add_changed(alloc, first, second, &parts, &mut found)?;
     Ok(found)

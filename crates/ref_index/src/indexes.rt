@@ -1,10 +1,12 @@
 //! The index of referrers of a configuration.
 ghost use Rattle.std.specs.Prelude.{◌≡◌, IfOk, OnOk, OnErr};
+ghost use Rattle.ref_index.specs.Agreements.{AgreeBut};
+ghost use Rattle.ref_index.specs.EntryNames.{AreDifferences};
 ghost use Rattle.ref_index.specs.PlaceMaps.{IsMapOf, PutsAll, PutsSome, TakesAll};
 ghost use Rattle.ref_index.specs.Referrers.{AreReferrers, want_for};
 
 use crate::differences::missing_wants;
-use crate::entry_names::differences;
+use crate::entry_names::{EntryName, differences, differences_but};
 use crate::place_maps::PlaceMap;
 use crate::places::Place;
 use conf_check::{Want, WantAt};
@@ -60,21 +62,21 @@ fn put_all(alloc: Global, places: &mut PlaceMap, wants: &[WantAt]) -> Result<(),
     Ok(())
 }
 
-/// Makes the map of a configuration that of another one: what is new is added first, and where that fails it
-/// is taken out again.
-fn move_places(
+/// Makes the map of a configuration that of another one, where the wants of no other entries differ: what is
+/// new is added first, and where that fails it is taken out again.
+fn move_named(
     alloc: Global,
     models: &Models,
     config: &Config,
     next: &Config,
+    names: &[EntryName],
     places: &mut PlaceMap,
 ) -> Result<(), Memory>
-    requires { IsMapOf models.now config.now places.old }
+    requires map { IsMapOf models.now config.now places.old }
+    requires apart { AreDifferences config.now next.now names.now }
     ensures ok { OnOk result (IsMapOf models.now next.now places.new) }
     ensures err { OnErr result (IsMapOf models.now config.now places.new) }
 {
-    let apart = differences(alloc, config, next)?;
-    let names = apart.as_slice();
     let gone = missing_wants(alloc, models, config, next, names)?;
     let come = missing_wants(alloc, models, next, config, names)?;
     match put_all(alloc, places, come.as_slice()) {
@@ -87,6 +89,41 @@ fn move_places(
             Err(error)
         }
     }
+}
+
+/// Makes the map of a configuration that of another one.
+fn move_places(
+    alloc: Global,
+    models: &Models,
+    config: &Config,
+    next: &Config,
+    places: &mut PlaceMap,
+) -> Result<(), Memory>
+    requires { IsMapOf models.now config.now places.old }
+    ensures ok { OnOk result (IsMapOf models.now next.now places.new) }
+    ensures err { OnErr result (IsMapOf models.now config.now places.new) }
+{
+    let apart = differences(alloc, config, next)?;
+    move_named(alloc, models, config, next, apart.as_slice(), places)
+}
+
+/// Makes the map of a configuration that of another one, which agrees with it but for one entry.
+fn move_entry(
+    alloc: Global,
+    models: &Models,
+    config: &Config,
+    next: &Config,
+    table: &str,
+    key: &str,
+    places: &mut PlaceMap,
+) -> Result<(), Memory>
+    requires map { IsMapOf models.now config.now places.old }
+    requires agree { AgreeBut config.now next.now table.now key.now }
+    ensures ok { OnOk result (IsMapOf models.now next.now places.new) }
+    ensures err { OnErr result (IsMapOf models.now config.now places.new) }
+{
+    let apart = differences_but(alloc, config, next, table, key)?;
+    move_named(alloc, models, config, next, apart.as_slice(), places)
 }
 
 impl RefIndex {
@@ -114,6 +151,29 @@ impl RefIndex {
     {
         let config = next.copy(alloc)?;
         move_places(alloc, models, &self.config, next, &mut self.places)?;
+        self.config = config;
+        Ok(())
+    }
+
+    /// The same where both configurations agree but for one entry. The wants are looked at only of that one,
+    /// and where it comes or goes of those with a text that is a part of its key.
+    pub fn move_by(
+        &mut self,
+        alloc: Global,
+        models: &Models,
+        next: &Config,
+        table: &str,
+        key: &str,
+    ) -> Result<(), Memory>
+        requires models { self.old.models ≡ models.now }
+        requires agree { AgreeBut self.old.config next.now table.now key.now }
+        ensures ok { OnOk result
+            (self.new ≡ record { models = self.old.models; config = next.now }) }
+        ensures err { OnErr result (self.new ≡ self.old) }
+    {
+        let config = next.copy(alloc)?;
+        let places = &mut self.places;
+        move_entry(alloc, models, &self.config, next, table, key, places)?;
         self.config = config;
         Ok(())
     }

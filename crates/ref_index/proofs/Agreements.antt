@@ -1,0 +1,136 @@
+-- Two configurations that agree but for one entry, which stands in both or in neither.
+use Rattle.std.proofs.Common.{◌≡◌, ◌≢◌, ◌⊎◌, inl, inr, ℕ, zero, suc, true, false, List, [], ◌∷◌, map, Option, Some, None, option_and_then, is_some, slice_get, refl, sym, ap, ◌∙◌, subst}
+use Rattle.std.specs.List.{Contains}
+use Rattle.std.specs.Option.{option_map_or}
+use Rattle.std.specs.Str.{bytes_eq}
+use Rattle.std.proofs.lemmas.Bool.Decides.{not_from_Decides}
+use Rattle.std.proofs.lemmas.Slice.Eq.{bytes_eq-Decides}
+use Rattle.conf_doc.specs.Pairs.{IsRising, find}
+use Rattle.conf_doc.specs.WellFormed.{Each, IsConfig, IsTable}
+use Rattle.conf_doc.specs.declared.configuration.Config.{Config}
+use Rattle.conf_doc.specs.declared.configuration.Entry.{Entry}
+use Rattle.conf_doc.specs.declared.configuration.Table.{Table}
+use Rattle.conf_doc.proofs.Edits.{same_Some}
+use Rattle.yang_model.specs.ModelSets.{ModelSet}
+use Rattle.conf_check.specs.Acceptance.{keys_of}
+use Rattle.conf_check.specs.Rows.{IsEntryAt}
+use Rattle.ref_index.specs.Agreements.{AgreeBut, entry_of}
+use Rattle.ref_index.specs.EntryNames.{AddsChanged, AreDifferences, HasOthers, HoldsParts, IsNamed, entries_of}
+use Rattle.ref_index.specs.declared.entry_names.EntryName.{EntryName}
+use Rattle.ref_index.specs.declared.text_sets.TextSet.{TextSet}
+use Rattle.ref_index.proofs.NamedEntries.{entry_of_key, finds_part, found_at, item_at, name_at, place_of_entry, same_keys}
+use Rattle.ref_index.proofs.SameEntries.{Satisfies, same_want}
+use Rattle.ref_index.proofs.SameWants.{HasKeys, changed_differ}
+
+-- one name, or another
+pub by_name : (a b : List ℕ) (P : Type 0) → (a ≡ b → P) → (a ≢ b → P) → P
+by_name a b P same other =
+    elim (bytes_eq a b) as (λ x. bytes_eq a b ≡ x → P) [
+      | true ↦ λ e. same ((bytes_eq-Decides a b).0 e)
+      | false ↦ λ e. other (not_from_Decides (bytes_eq a b) (bytes_eq-Decides a b) e)
+    ] refl
+
+-- ---- the entry of two names
+
+-- each table of a configuration rises
+table_rises : (c : Config) (i : ℕ) (t : List ℕ) (entries : Table) → Each IsTable c → slice_get c i ≡ Some (t, entries) → IsRising entries
+table_rises [] i t entries all at = absurd cc
+table_rises (p ∷ c) zero t entries all at = subst (λ (q : List ℕ × Table). IsRising q.1) (same_Some p (t, entries) at) all.0.shaped.rising
+table_rises (p ∷ c) (suc i) t entries all at = table_rises c i t entries all.1 at
+
+-- an entry at positions is that of its names
+entry_found : (c : Config) (t k : List ℕ) (i j : ℕ) → IsConfig c → (is : IsEntryAt c t k i j) → entry_of t k c ≡ Some is.fields
+entry_found c t k i j formed is =
+    ap (λ (o : Option Table). option_and_then (find k) o) (finds_part c i (t, is.entries) formed.shaped.rising is.at)
+    ∙ finds_part is.entries j (k, is.fields) (table_rises c i t is.entries formed.parts is.at) is.at_key
+
+-- that of two names stands somewhere
+entry_placed : (c : Config) (t k : List ℕ) (e : Entry) → entry_of t k c ≡ Some e → (i j : ℕ) × (is : IsEntryAt c t k i j) × (is.fields ≡ e)
+entry_placed c t k e found = by (find t c) refl found
+  where
+    by : (o : Option Table) → find t c ≡ o → option_and_then (find k) o ≡ Some e → (i j : ℕ) × (is : IsEntryAt c t k i j) × (is.fields ≡ e)
+    by None is found = absurd cc
+    by (Some entries) is found =
+        let at = found_at c t entries is in
+        let at_key = found_at entries k e found in
+        (at.0, at_key.0, record { entries = entries; at = at.1; fields = e; at_key = at_key.1 }, refl)
+
+-- a key of a table is that of an entry
+key_found : (c : Config) (t k : List ℕ) → IsConfig c → Contains (keys_of t c) k → (e : Entry) × (entry_of t k c ≡ Some e)
+key_found c t k formed has =
+    let other = entry_of_key (entries_of c t) k (subst (λ ks. Contains ks k) (same_keys c t) has) in
+    let place = place_of_entry c t k other.0 other.1 in
+    (place.2.fields, entry_found c t k place.0 place.1 formed place.2)
+
+found_key : (c : Config) (t k : List ℕ) (e : Entry) → entry_of t k c ≡ Some e → Contains (keys_of t c) k
+found_key c t k e found = by (find t c) found
+  where
+    by : (o : Option Table) → option_and_then (find k) o ≡ Some e → Contains (option_map_or (map (λ e. e.0)) o []) k
+    by None found = absurd cc
+    by (Some entries) found = let at = found_at entries k e found in item_at (map (λ e. e.0) entries) at.0 k (name_at entries at.0 (k, e) at.1)
+
+there : {A : Type 0} (o : Option A) → is_some o ≡ true → (a : A) × (o ≡ Some a)
+there None e = absurd cc
+there (Some a) e = (a, refl)
+
+pub turned : (a b : Config) (table key : List ℕ) → AgreeBut a b table key → AgreeBut b a table key
+turned a b table key agree = record { tables = λ t other. sym (agree.tables t other); entries = λ k other. sym (agree.entries k other) }
+
+module _ (a b : Config) (table key : List ℕ) (agree : AgreeBut a b table key) where
+  -- the entry of two names is the same in both, or it is the one
+  pub same_or_one : (t k : List ℕ) → (entry_of t k a ≡ entry_of t k b) ⊎ ((t ≡ table) × (k ≡ key))
+  same_or_one t k = by_name t table ((entry_of t k a ≡ entry_of t k b) ⊎ ((t ≡ table) × (k ≡ key)))
+      (λ here. by_name k key ((entry_of t k a ≡ entry_of t k b) ⊎ ((t ≡ table) × (k ≡ key)))
+      (λ this. inr (here, this))
+      (λ other. inl (subst (λ u. entry_of u k a ≡ entry_of u k b) (sym here) (agree.entries k other))))
+      (λ other. inl (ap (option_and_then (find k)) (agree.tables t other)))
+
+  module _ (formed : IsConfig a) (both : is_some (entry_of table key a) ≡ is_some (entry_of table key b)) where
+    -- each key of the first is one of the second
+    key_stays : (t k : List ℕ) → Contains (keys_of t a) k → Contains (keys_of t b) k
+    key_stays t k has =
+        let here = key_found a t k formed has in
+        elim (same_or_one t k) [
+          | inl same ↦ found_key b t k here.0 (sym same ∙ here.1)
+          | inr one ↦
+              let in_first : entry_of table key a ≡ Some here.0 = ap (λ u. entry_of u key a) (sym one.0) ∙ ap (λ l. entry_of t l a) (sym one.1) ∙ here.1 in
+              let other = there (entry_of table key b) (sym both ∙ ap is_some in_first) in
+              found_key b t k other.0 (ap (λ u. entry_of u k b) one.0 ∙ ap (λ l. entry_of table l b) one.1 ∙ other.1)
+        ]
+
+    pub key_satisfies : (models : ModelSet) (s : List ℕ) → Satisfies models s a b
+    key_satisfies models s r is = record { key = is.key; there = key_stays r.table is.key is.there; belongs = is.belongs; part = is.part }
+
+others : (a b : Config) (table key : List ℕ) (names : List EntryName) → AgreeBut a b table key → IsConfig a → IsConfig b
+    → is_some (entry_of table key a) ≡ is_some (entry_of table key b) → IsNamed names table key → (models : ModelSet) → HasOthers models a b names
+others a b table key names agree formed well both named models w p has =
+    elim (same_or_one a b table key agree p.table p.key) [
+      | inr one ↦ inr (subst (λ t. IsNamed names t p.key) (sym one.0) (subst (IsNamed names table) (sym one.1) named))
+      | inl same ↦
+          let place = entry_placed b p.table p.key has.at.entry.fields (sym same ∙ entry_found a p.table p.key has.position.table has.position.key formed has.at.entry) in
+          inl (same_want models a b has.position w p has.at has.wanted place.0 place.1 place.2 (sym place.3)
+          (key_satisfies a b table key agree formed both models w.text) (key_satisfies b a table key (turned a b table key agree) well (sym both) models w.text))
+    ]
+
+-- where the one entry stands in both or in neither, the wants of no other may differ
+pub one_differs : (a b : Config) (table key : List ℕ) (names : List EntryName) → AgreeBut a b table key → IsConfig a → IsConfig b
+    → is_some (entry_of table key a) ≡ is_some (entry_of table key b) → IsNamed names table key → AreDifferences a b names
+one_differs a b table key names agree formed well both named = record {
+  of_first = others a b table key names agree formed well both named;
+  of_second = others b a table key names (turned a b table key agree) well formed (sym both) named;
+}
+
+-- a key that the second lacks is that of the one
+keys_but : (a b : Config) (table key : List ℕ) (names : List EntryName) → AgreeBut a b table key → IsConfig a → IsNamed names table key → HasKeys a b names
+keys_but a b table key names agree formed named t k has =
+    let here = key_found a t k formed (subst (λ ks. Contains ks k) (sym (same_keys a t)) has) in
+    elim (same_or_one a b table key agree t k) [
+      | inl same ↦ inl (subst (λ ks. Contains ks k) (same_keys b t) (found_key b t k here.0 (sym same ∙ here.1)))
+      | inr one ↦ inr (subst (λ u. IsNamed names u k) (sym one.0) (subst (IsNamed names table) (sym one.1) named))
+    ]
+
+-- where it may come or go, those of the entries may differ that have a part of its key
+pub changed_differ_but : (a b : Config) (table key : List ℕ) (one names : List EntryName) (parts : TextSet) → AgreeBut a b table key → IsConfig a → IsConfig b
+    → IsNamed one table key → HoldsParts one parts → AddsChanged parts a b one names → AreDifferences a b names
+changed_differ_but a b table key one names parts agree formed well named =
+    changed_differ a b one names parts formed well (keys_but a b table key one agree formed named) (keys_but b a table key one (turned a b table key agree) well named)
