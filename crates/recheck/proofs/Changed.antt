@@ -12,8 +12,9 @@ use Rattle.conf_check.specs.Rows.{Row, row_at, row_of, HasShape, IsEntryAt, type
 use Rattle.conf_check.specs.Belongings.{AreBelongings, Belongings}
 use Rattle.conf_check.specs.MustReads.{AgreeOn, HasOneTruth, HaveEntry}
 use Rattle.conf_check.specs.Validity.{Breach, Breaks, IsBreach, IsBreachAt, IsFalse}
+use Rattle.ref_index.specs.Agreements.{entry_of}
 use Rattle.recheck.specs.Changes.{IsHandled, IsSame, IsTableHandled, IsTouched, Reads}
-use Rattle.recheck.specs.Verdicts.{IsSound, entry_of}
+use Rattle.recheck.specs.Verdicts.{IsSound}
 use Rattle.recheck.specs.declared.verdicts.Verdict.{Verdict}
 use Rattle.recheck.proofs.Known.{belongings_known}
 use Rattle.recheck.proofs.Lists.{entry_found, entry_there, found_key, key_placed, some_at}

@@ -3,6 +3,7 @@ pub mod Checked
 pub mod Dropped
 pub mod Known
 pub mod Lists
+pub mod OneEntry
 pub mod Pairs
 pub mod Readers
 pub mod Rows

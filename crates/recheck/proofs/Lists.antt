@@ -11,7 +11,7 @@ use Rattle.conf_doc.specs.declared.configuration.Entry.{Entry}
 use Rattle.conf_doc.specs.declared.configuration.Table.{Table}
 use Rattle.conf_check.specs.Acceptance.{keys_of}
 use Rattle.conf_check.specs.Rows.{IsEntryAt}
-use Rattle.recheck.specs.Verdicts.{entry_of}
+use Rattle.ref_index.specs.Agreements.{entry_of}
 use Rattle.recheck.proofs.Pairs.{at_contained, contains_at, found_at, found_there, holder_at, left_at, right_at, some_same, stands_once}
 
 -- an item that is as said is there

@@ -12,8 +12,8 @@ use Rattle.yang_model.specs.Belongs.{Belongs}
 use Rattle.yang_model.specs.ModelSets.{ModelSet, shapes_of}
 use Rattle.yang_model.specs.declared.shapes.MustRule.{MustRule}
 use Rattle.yang_model.specs.declared.shapes.Shape.{Shape}
+use Rattle.ref_index.specs.Agreements.{entry_of}
 use Rattle.ref_index.specs.declared.places.Place.{Place}
-use Rattle.recheck.specs.Verdicts.{entry_of}
 use Rattle.recheck.specs.declared.verdicts.Verdict.{Verdict}
 
 -- the entry has the wanted text as the wanted part of its key

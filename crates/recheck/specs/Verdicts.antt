@@ -1,18 +1,13 @@
 -- What a verdict on an entry says.
-use Rattle.std.specs.Prelude.{ℕ, List, Option, option_and_then, is_some, IsTrue, Bool, ◌&&◌, not}
+use Rattle.std.specs.Prelude.{ℕ, List, is_some, IsTrue, Bool, ◌&&◌, not}
 use Rattle.std.specs.List.{All}
 use Rattle.std.specs.Str.{bytes_eq}
-use Rattle.conf_doc.specs.Pairs.{find}
 use Rattle.conf_doc.specs.declared.configuration.Config.{Config}
-use Rattle.conf_doc.specs.declared.configuration.Entry.{Entry}
 use Rattle.conf_check.specs.Validity.{IsValidAt}
 use Rattle.yang_model.specs.ModelSets.{ModelSet}
+use Rattle.ref_index.specs.Agreements.{entry_of}
 use Rattle.ref_index.specs.Referrers.{Indexed}
 use Rattle.recheck.specs.declared.verdicts.Verdict.{Verdict}
-
--- the entry at a key of a table
-abbrev pub entry_of : List ℕ → List ℕ → Config → Option Entry
-entry_of table key config = option_and_then (find key) (find table config)
 
 -- the entry is there, and it has no violation
 pub record IsSound (models : ModelSet) (config : Config) (v : Verdict) : Type 0 where

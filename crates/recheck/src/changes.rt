@@ -1,10 +1,11 @@
 //! Which verdicts a change of the configuration leaves: not those on entries that differ, not those on entries
 //! with a want that such an entry met, and not those on entries with a must that reads a changed table.
-ghost use Rattle.std.specs.Prelude.{◌≡◌, ◌↔◌, ◌⊎◌, ◌<◌, ◌≤◌, ℕ, List, length, Some, IsTrue, map, option_map, slice_get};
+ghost use Rattle.std.specs.Prelude.{◌≡◌, ◌↔◌, ◌⊎◌, ◌<◌, ◌≤◌, ℕ, List, length, Some, IsTrue, is_some, map, option_map, slice_get};
 ghost use Rattle.std.specs.List.{All};
 ghost use Rattle.key_split.specs.Key.{key_parts};
 ghost use Rattle.recheck.specs.Changes.{AreAmong, AreElsewhere, AreKeysHandled, AreUnread, AreUntouched, IsTableHandledAt};
 ghost use Rattle.recheck.specs.Verdicts.{AreSound};
+ghost use Rattle.ref_index.specs.Agreements.{AgreeBut, entry_of};
 ghost use Rattle.ref_index.specs.Referrers.{want_for, HasWant};
 
 use crate::musts::drop_readers;
@@ -243,4 +244,58 @@ pub(crate) fn drop_changed(
         place = drop_table(verdicts, models, index, next, place, table);
     }
     drop_between(verdicts, models, next, place, next.len());
+}
+
+/// Whether a configuration has an entry.
+fn has_entry(config: &Config, table: &str, key: &str) -> bool
+    ensures { result ≡ is_some (entry_of table.now key.now config.now) }
+{
+    match config.table(table) {
+        Some(entries) => entries.entry(key).is_some(),
+        None => false,
+    }
+}
+
+/// Drops the verdicts that a change of an entry may turn, where the index has it.
+fn drop_if_there(
+    verdicts: &mut Vec<Verdict>,
+    models: &Models,
+    index: &RefIndex,
+    table: &str,
+    key: &str,
+)
+    requires { index.now.models ≡ models.now }
+    ensures among { AreAmong verdicts.old.items verdicts.new.items }
+    ensures dropped { IsTrue (is_some (entry_of table.now key.now index.now.config))
+        → AreUntouched models.now index.now.config table.now key.now verdicts.new.items }
+{
+    if !has_entry(index.config(), table, key) {
+        return;
+    }
+    drop_touched(verdicts, models, index, table, key);
+}
+
+/// Drops the verdicts that may turn where another configuration agrees but for one entry. Those that are left
+/// are true there where they were true.
+pub(crate) fn drop_entry(
+    verdicts: &mut Vec<Verdict>,
+    models: &Models,
+    index: &RefIndex,
+    next: &Config,
+    table: &str,
+    key: &str,
+)
+    requires models { index.now.models ≡ models.now }
+    requires agree { AgreeBut index.now.config next.now table.now key.now }
+    ensures among { AreAmong verdicts.old.items verdicts.new.items }
+    ensures sound { AreSound models.now index.now.config verdicts.old.items
+        → AreSound models.now next.now verdicts.new.items }
+{
+    // a must has one truth where its entry and the tables that it reads are the same
+    musts_have_one_truth();
+    models.have_files();
+    let _ = index.config().len();
+    let _ = next.len();
+    drop_readers(verdicts, models, table);
+    drop_if_there(verdicts, models, index, table, key);
 }

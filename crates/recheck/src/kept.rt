@@ -1,12 +1,15 @@
 //! What is kept between calls: an index of referrers with its configuration, and verdicts on entries of it.
 ghost use Rattle.std.specs.Prelude.{◌≡◌, ◌≤◌, length, IfOk};
 ghost use Rattle.recheck.specs.Verdicts.{AreKept};
+ghost use Rattle.ref_index.specs.Agreements.{AgreeBut};
 ghost use Rattle.std.proofs.Props.{props};
 
-use crate::changes::drop_changed;
+use crate::agreements::agree_but;
+use crate::changes::{drop_changed, drop_entry};
 use crate::verdicts::Verdict;
 use conf_doc::Config;
 use host_core::Memory;
+use move_core::Move;
 use ref_index::RefIndex;
 use std::alloc::Global;
 use yang_model::Models;
@@ -33,12 +36,7 @@ impl Kept {
     }
 
     /// The index moved to another configuration, with the verdicts that stay true there.
-    pub(crate) fn move_to(
-        self,
-        alloc: Global,
-        models: &Models,
-        next: &Config,
-    ) -> Result<Kept, Memory>
+    fn move_to(self, alloc: Global, models: &Models, next: &Config) -> Result<Kept, Memory>
         requires { self.index.models ≡ models.now }
         ensures { IfOk result
             (λ k. k.index ≡ record { models = models.now; config = next.now }) }
@@ -50,5 +48,53 @@ impl Kept {
         drop_changed(&mut verdicts, models, &index, next);
         index.move_to(alloc, models, next)?;
         Ok(Kept { index, verdicts })
+    }
+
+    /// The same where both configurations agree but for one entry.
+    fn move_by(
+        self,
+        alloc: Global,
+        models: &Models,
+        next: &Config,
+        table: &str,
+        key: &str,
+    ) -> Result<Kept, Memory>
+        requires models { self.index.models ≡ models.now }
+        requires agree { AgreeBut self.index.config next.now table.now key.now }
+        ensures { IfOk result
+            (λ k. k.index ≡ record { models = models.now; config = next.now }) }
+    {
+        let Kept {
+            mut index,
+            mut verdicts,
+        } = self;
+        drop_entry(&mut verdicts, models, &index, next, table, key);
+        index.move_by(alloc, models, next, table, key)?;
+        Ok(Kept { index, verdicts })
+    }
+
+    /// The index moved to the configuration after a move, with the verdicts that stay true there. Where only
+    /// the move's entry differs from the configuration of the index, only that entry is looked at.
+    pub(crate) fn follow(
+        self,
+        alloc: Global,
+        models: &Models,
+        next: &Config,
+        mv: &Move,
+    ) -> Result<Kept, Memory>
+        requires { self.index.models ≡ models.now }
+        ensures { IfOk result
+            (λ k. k.index ≡ record { models = models.now; config = next.now }) }
+    {
+        let place = mv.place();
+        if place.len() < 2 {
+            return self.move_to(alloc, models, next);
+        }
+        let table = place.name_at(0);
+        let key = place.name_at(1);
+        if !agree_but(self.index.config(), next, table, key) {
+            return self.move_to(alloc, models, next);
+        }
+        self.move_by(alloc, models, next, table, key)
     }
 }

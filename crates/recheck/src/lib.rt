@@ -1,6 +1,7 @@
 //! The rule that each step leads to a valid configuration, as a box that looks again only at what changed.
 #![tactic(auto)]
 
+mod agreements;
 mod changes;
 mod kept;
 mod losses;

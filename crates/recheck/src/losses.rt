@@ -83,8 +83,22 @@ fn referrer_of_gone_key<'a>(
     None
 }
 
+/// The same of one key, where the other configuration lacks it.
+fn referrer_of_key_if_gone<'a>(
+    index: &'a RefIndex,
+    models: &Models,
+    next: &Config,
+    table: &str,
+    key: &str,
+) -> Option<&'a Place> {
+    if has_key(next.table(table), key) {
+        return None;
+    }
+    referrer_of_key(index, models, next, table, key)
+}
+
 /// An entry of the configuration after a move which wanted, by the index, what a key of the move's table was
-/// that isn't there any more. A move at a field takes no key away.
+/// that isn't there any more. A move at an entry takes no other key away, and one at a field none.
 pub(crate) fn first_loser<'a>(
     index: &'a RefIndex,
     models: &Models,
@@ -92,8 +106,9 @@ pub(crate) fn first_loser<'a>(
     mv: &Move,
 ) -> Option<&'a Place> {
     let place = mv.place();
-    if place.len() > 2 {
-        return None;
+    match place.len() {
+        1 => referrer_of_gone_key(index, models, next, place.name_at(0)),
+        2 => referrer_of_key_if_gone(index, models, next, place.name_at(0), place.name_at(1)),
+        _ => None,
     }
-    referrer_of_gone_key(index, models, next, place.name_at(0))
 }

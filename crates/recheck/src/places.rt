@@ -5,7 +5,7 @@ ghost use Rattle.conf_doc.specs.Pairs.{find};
 use conf_doc::{Config, Entry, Table};
 
 /// Whether two names are the same.
-fn is_same_name(left: &str, right: &str) -> bool
+pub(crate) fn is_same_name(left: &str, right: &str) -> bool
     ensures { IsTrue result ↔ (left.now ≡ right.now) }
 {
     left == right

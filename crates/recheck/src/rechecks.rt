@@ -2,7 +2,8 @@
 ghost use Rattle.std.specs.Prelude.{◌≡◌, ◌↔◌, ◌<◌, ◌≤◌, length, IfOk, IsTrue, is_some};
 ghost use Rattle.conf_check.specs.Validity.{IsValid, IsValidAt};
 ghost use Rattle.recheck.specs.Rechecks.{IsTableValid};
-ghost use Rattle.recheck.specs.Verdicts.{AreSound, entry_of};
+ghost use Rattle.recheck.specs.Verdicts.{AreSound};
+ghost use Rattle.ref_index.specs.Agreements.{entry_of};
 
 use crate::walks::Walk;
 use conf_check::check_entry;

@@ -45,31 +45,38 @@ fn is_valid(models: &Models, config: &Config) -> bool
     }
 }
 
-/// What is kept, moved to a configuration or made for it.
-fn keep(alloc: Global, kept: Option<Kept>, models: &Models, config: &Config) -> Result<Kept, Memory>
+/// What is kept, moved to the configuration after a move or made for it.
+fn keep(
+    alloc: Global,
+    kept: Option<Kept>,
+    models: &Models,
+    config: &Config,
+    mv: &Move,
+) -> Result<Kept, Memory>
     requires { IfSome kept (λ k. k.index.models ≡ models.now) }
     ensures { IfOk result (λ k. k.index ≡ record { models = models.now; config = config.now }) }
 {
     match kept {
-        Some(kept) => kept.move_to(alloc, models, config),
+        Some(kept) => kept.follow(alloc, models, config, mv),
         None => Kept::build(alloc, models, config),
     }
 }
 
-/// Whether a configuration is valid, by what is kept of another one, and what is kept then.
+/// Whether the configuration after a move is valid, by what is kept of another one, and what is kept then.
 fn recheck(
     alloc: Global,
     checked: &mut u64,
     kept: Option<Kept>,
     models: &Models,
     config: &Config,
+    mv: &Move,
 ) -> Result<(bool, Kept), Memory>
     requires { IfSome kept (λ k. k.index.models ≡ models.now) }
     ensures valid { IfOk result (λ r. IsTrue r.0 ↔ IsValid models.now config.now) }
     ensures models { IfOk result (λ r. r.1.index.models ≡ models.now) }
     ensures rises { checked.old ≤ checked.new }
 {
-    let Kept { index, verdicts } = keep(alloc, kept, models, config)?;
+    let Kept { index, verdicts } = keep(alloc, kept, models, config, mv)?;
     let mut walk = Walk::new(alloc, verdicts);
     let valid = check_rest(&mut walk, checked, models, config)?;
     let verdicts = walk.into_verdicts();
@@ -151,7 +158,7 @@ impl MoveRule for RecheckRule {
             return false;
         }
         let kept = self.kept.take();
-        match recheck(self.alloc, &mut self.checked, kept, &ctx.models, next) {
+        match recheck(self.alloc, &mut self.checked, kept, &ctx.models, next, mv) {
             Ok((valid, kept)) => {
                 self.kept = Some(kept);
                 valid
