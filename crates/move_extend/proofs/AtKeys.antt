@@ -11,7 +11,7 @@ use Rattle.conf_doc.specs.declared.parts.Part.TheVariants as part
 use Rattle.move_core.specs.Moves.{Place, new_part, place, step}
 use Rattle.move_core.specs.Services.{table_of}
 use Rattle.move_core.specs.declared.moves.Move.{Move}
-use Rattle.move_extend.specs.Entries.{entry_of}
+use Rattle.move_extend.specs.Entries.{entry_of, value_of}
 use Rattle.move_extend.proofs.Kept.{apart_by, other_key, other_table, same_by, tied}
 
 -- ---- keys
@@ -55,12 +55,29 @@ pub same_field : (a b : Config) (t k f : List ℕ) → entry_of a t k ≡ entry_
 same_field a b t k f e =
     field_part k f (find t a) ∙ ap (option_and_then (λ entry. option_map part.Value (find f entry))) e ∙ sym (field_part k f (find t b))
 
+value_part : (f : List ℕ) (o : Option Entry) → option_and_then (λ entry. option_map part.Value (find f entry)) o ≡ option_map part.Value (option_and_then (find f) o)
+value_part f None = refl
+value_part f (Some entry) = refl
+
+pub same_value : (a b : Config) (t k f : List ℕ) → value_of a t k f ≡ value_of b t k f → part_at a (t ∷ k ∷ f ∷ []) ≡ part_at b (t ∷ k ∷ f ∷ [])
+same_value a b t k f e = of_value a ∙ ap (option_map part.Value) e ∙ sym (of_value b)
+  where
+    of_value : (c : Config) → part_at c (t ∷ k ∷ f ∷ []) ≡ option_map part.Value (value_of c t k f)
+    of_value c = field_part k f (find t c) ∙ value_part f (entry_of c t k)
+
 mapped_some : (o : Option Entry) → IsSome (option_map part.Entry o) → IsSome o
 mapped_some None h = h
 mapped_some (Some e) h = refl
 
 pub there : (c : Config) (t k : List ℕ) → HasPlace c (t ∷ k ∷ []) → IsSome (entry_of c t k)
 there c t k has = mapped_some (entry_of c t k) (subst IsSome (entry_part k (find t c)) has)
+
+some_mapped : (o : Option Entry) → IsSome o → IsSome (option_map part.Entry o)
+some_mapped None h = h
+some_mapped (Some e) h = refl
+
+pub stands : (c : Config) (t k : List ℕ) → IsSome (entry_of c t k) → HasPlace c (t ∷ k ∷ [])
+stands c t k has = subst IsSome (sym (entry_part k (find t c))) (some_mapped (entry_of c t k) has)
 
 -- ---- what a move leaves
 

@@ -1,20 +1,24 @@
 -- The keys that a move keeps.
-use Rattle.std.proofs.Common.{◌≡◌, ℕ, List, [], ◌∷◌, map, Option, Some, None, option_map, option_and_then, IsSome, Contains, inl, inr, refl, sym, subst, slice_get, arith}
+use Rattle.std.proofs.Common.{◌≡◌, ◌<◌, ℕ, suc, List, [], ◌∷◌, true, false, length, map, Option, Some, None, option_map, option_and_then, IsSome, Contains, inl, inr, refl, sym, ap, subst, slice_get, arith}
 use Rattle.std.specs.Option.{option_map_or}
-use Rattle.conf_doc.specs.Changes.{HasPlace}
+use Rattle.std.specs.Ordering.{eq_by_cmp}
+use Rattle.host_core.specs.Names.{name_cmp}
+use Rattle.conf_doc.specs.Changes.{with_part, HasPlace}
 use Rattle.conf_doc.specs.Pairs.{find}
 use Rattle.conf_doc.specs.declared.configuration.Config.{Config}
 use Rattle.conf_doc.specs.declared.configuration.Entry.{Entry}
 use Rattle.conf_doc.specs.declared.configuration.Table.{Table}
+use Rattle.conf_doc.specs.declared.parts.Part.{Part}
 use Rattle.conf_doc.specs.declared.parts.Part.TheVariants as part
 use Rattle.conf_check.specs.Acceptance.{IsSatisfied, keys_of}
 use Rattle.yang_model.specs.ModelSets.{ModelSet}
 use Rattle.yang_types.specs.declared.types.Target.{Target}
-use Rattle.move_core.specs.Moves.{place, step}
+use Rattle.move_core.specs.Moves.{Place, new_part, place, step}
 use Rattle.move_core.specs.Services.{table_of}
 use Rattle.move_core.specs.declared.moves.Move.{Move}
-use Rattle.move_extend.specs.KeptKeys.{HasKeys, KeepsKey, KeepsKeys}
-use Rattle.move_extend.proofs.AtKeys.{by_key, found_key, key_found, same_entry, second_name}
+use Rattle.move_extend.specs.KeptKeys.{HasKeys, KeepsAlways, KeepsKey, KeepsKeys}
+use Rattle.move_extend.proofs.AtKeys.{by_key, found_key, key_found, same_entry, second_name, stands, there}
+use Rattle.move_extend.proofs.Kept.{apart_by, other_key, own_key, same_by}
 
 -- ---- keys and entries
 
@@ -59,6 +63,26 @@ keeps_own cur next m t k is at named keeps key before =
       | inl same ↦ subst IsSome (same_entry cur next t key same) before
       | inr same ↦ subst (KeepsKey cur next t) (sym same) keeps before
     ]
+
+-- a place below a key that a move puts something at, or a field's
+kept_keys : (c : Config) (p : Place) (x : Option Part) → 1 < length p → (length p ≡ 2 → IsSome x) → KeepsKeys c (with_part c p x) (table_of p)
+kept_keys c [] x long some key before = absurd (omega (arith, long))
+kept_keys c (t ∷ []) x long some key before = absurd (omega (arith, long))
+kept_keys c (t ∷ k ∷ rest) x long some key before =
+    elim (eq_by_cmp name_cmp key k) as (λ b. eq_by_cmp name_cmp key k ≡ b → HasPlace (with_part c (t ∷ k ∷ rest) x) (t ∷ key ∷ [])) [
+      | true ↦ λ e.
+          let same : key ≡ k = same_by key k e in
+          subst (λ j. HasPlace (with_part c (t ∷ k ∷ rest) x) (t ∷ j ∷ [])) (sym same)
+          (stands (with_part c (t ∷ k ∷ rest) x) t k
+          (own_key c t k rest x (λ none. some (ap (λ n. suc (suc n)) none)) (there c t k (subst (λ j. HasPlace c (t ∷ j ∷ [])) same before))))
+      | false ↦ λ e.
+          stands (with_part c (t ∷ k ∷ rest) x) t key
+          (subst IsSome (sym (other_key c t k rest x key (apart_by key k e))) (there c t key before))
+    ] refl
+
+-- a move of a field keeps the keys, and so does one that puts an entry
+pub keeps_kind : (m : Move) → 1 < length (place m) → (length (place m) ≡ 2 → IsSome (new_part m)) → KeepsAlways m
+keeps_kind m long some c = kept_keys c (place m) (new_part m) long some
 
 -- ---- wants that stay satisfied
 

@@ -1,19 +1,22 @@
 -- The required values that a move has cases of, from the places that are looked at to all.
-use Rattle.std.proofs.Common.{◌≡◌, ◌≢◌, ◌⊎◌, ◌↔◌, inl, inr, ℕ, List, ◌∷◌, Bool, true, false, true≢false, Option, Some, None, is_some, option_and_then, IsSome, slice_get, refl, sym, ◌∙◌, subst}
+use Rattle.std.proofs.Common.{◌≡◌, ◌≢◌, ◌⊎◌, ◌↔◌, ◌&&◌, inl, inr, ℕ, List, [], ◌∷◌, Bool, true, false, true≢false, Option, Some, None, is_some, option_and_then, IsSome, slice_get, refl, sym, ap, ◌∙◌, subst}
 use Rattle.std.specs.Cmp.Lexicographic.{bytes_decides}
 use Rattle.std.specs.List.{list_any}
 use Rattle.std.specs.Option.{option_to_list}
+use Rattle.std.specs.Ordering.{eq_by_cmp}
 use Rattle.std.specs.Str.{bytes_eq}
 use Rattle.std.proofs.lemmas.List.Folds.{list_any-from_Any}
-use Rattle.conf_doc.specs.Changes.{part_at, HasPlace}
+use Rattle.host_core.specs.Names.{name_cmp}
+use Rattle.conf_doc.specs.Changes.{part_at, with_part, HasPlace}
 use Rattle.conf_doc.specs.Pairs.{find}
 use Rattle.conf_doc.specs.declared.configuration.Config.{Config}
 use Rattle.conf_doc.specs.declared.configuration.Table.{Table}
+use Rattle.conf_doc.specs.declared.parts.Part.{Part}
 use Rattle.conf_doc.proofs.Edits.{same_Some}
 use Rattle.key_split.specs.Key.{key_parts}
 use Rattle.move_core.specs.Contexts.{IsModelled, rulebook}
 use Rattle.move_core.specs.Extensions.{IsRequired, put_value, required_part, rule_entry, rule_field}
-use Rattle.move_core.specs.Moves.{place, step}
+use Rattle.move_core.specs.Moves.{Place, new_part, place, step}
 use Rattle.move_core.specs.Services.{table_of}
 use Rattle.move_core.specs.declared.contexts.Ctx.{Ctx}
 use Rattle.move_core.specs.declared.moves.Move.{Move}
@@ -21,34 +24,80 @@ use Rattle.move_core.specs.declared.settings.Required.{Required}
 use Rattle.move_core.specs.declared.settings.Requiring.{Requiring}
 use Rattle.move_extend.specs.Entries.{entry_of, requiring_place}
 use Rattle.move_extend.specs.Found.{Finds}
-use Rattle.move_extend.specs.Requireds.{Differs, GivesAt, GivesValue, LacksValue, RulesGive, TableGives, has_requiring}
+use Rattle.move_extend.specs.Requireds.{Differs, GivesAt, GivesValue, LacksValue, RulesGive, TableGives, is_field_at, may_change, may_change_one}
 use Rattle.move_extend.specs.declared.changes.Change.{Change}
-use Rattle.move_extend.proofs.AtKeys.{by_key, by_table, found_key, same_entry, same_field, second_name}
+use Rattle.move_extend.proofs.AtKeys.{by_key, by_table, found_key, same_entry, same_field, same_value, second_name}
 use Rattle.move_extend.proofs.Finding.{finds_as}
+use Rattle.move_extend.proofs.Kept.{apart_by, other_field, other_key, same_by}
 
 same_place : (a b : Config) (t key : List ℕ) (field : Option (List ℕ)) → entry_of a t key ≡ entry_of b t key
     → part_at a (t ∷ key ∷ option_to_list field) ≡ part_at b (t ∷ key ∷ option_to_list field)
 same_place a b t key None e = same_entry a b t key e
 same_place a b t key (Some f) e = same_field a b t key f e
 
--- in a table with no requiring place nothing is required
-pub requires_none : (ctx : Ctx) (cur : Config) (m x : Move) (t : List ℕ) → t ≡ table_of (place m)
-    → list_any (has_requiring t) ctx.settings.required ≡ false → ¬ IsRequired (rulebook ctx) cur m x
-requires_none ctx cur m x t at none required =
+-- ---- the places that a move may change
+
+same_text : (a b : List ℕ) → a ≡ b → bytes_eq a b ≡ true
+same_text a b = (bytes_decides a b).1
+
+-- a field of another name than the move's stays in each entry
+field_stays : (c : Config) (t k f : List ℕ) (ns : Place) (x : Option Part) (key g : List ℕ) → g ≢ f
+    → part_at c (t ∷ key ∷ g ∷ []) ≡ part_at (with_part c (t ∷ k ∷ f ∷ ns) x) (t ∷ key ∷ g ∷ [])
+field_stays c t k f ns x key g other =
+    elim (eq_by_cmp name_cmp key k) as (λ b. eq_by_cmp name_cmp key k ≡ b → part_at c (t ∷ key ∷ g ∷ []) ≡ part_at (with_part c (t ∷ k ∷ f ∷ ns) x) (t ∷ key ∷ g ∷ [])) [
+      | true ↦ λ e.
+          subst (λ j. part_at c (t ∷ j ∷ g ∷ []) ≡ part_at (with_part c (t ∷ k ∷ f ∷ ns) x) (t ∷ j ∷ g ∷ [])) (sym (same_by key k e))
+          (same_value c (with_part c (t ∷ k ∷ f ∷ ns) x) t k g (sym (other_field c t k f ns x g other)))
+      | false ↦ λ e.
+          same_field c (with_part c (t ∷ k ∷ f ∷ ns) x) t key g (sym (other_key c t k (f ∷ ns) x key (apart_by key k e)))
+    ] refl
+
+-- so what changes is a field of the place, where it names one
+field_is : (c : Config) (t k f : List ℕ) (ns : Place) (x : Option Part) (key : List ℕ) (field : Option (List ℕ))
+    → part_at c (t ∷ key ∷ option_to_list field) ≢ part_at (with_part c (t ∷ k ∷ f ∷ ns) x) (t ∷ key ∷ option_to_list field)
+    → is_field_at (Some f) field ≡ true
+field_is c t k f ns x key None differs = refl
+field_is c t k f ns x key (Some g) differs =
+    elim (eq_by_cmp name_cmp g f) as (λ b. eq_by_cmp name_cmp g f ≡ b → bytes_eq g f ≡ true) [
+      | true ↦ λ e. same_text g f (same_by g f e)
+      | false ↦ λ e. absurd (differs (field_stays c t k f ns x key g (apart_by g f e)))
+    ] refl
+
+unnamed : (field : Option (List ℕ)) → is_field_at None field ≡ true
+unnamed None = refl
+unnamed (Some g) = refl
+
+field_seen : (c : Config) (p : Place) (x : Option Part) (key : List ℕ) (field : Option (List ℕ))
+    → part_at c (table_of p ∷ key ∷ option_to_list field) ≢ part_at (with_part c p x) (table_of p ∷ key ∷ option_to_list field)
+    → is_field_at (slice_get p 2) field ≡ true
+field_seen c [] x key field differs = unnamed field
+field_seen c (t ∷ []) x key field differs = unnamed field
+field_seen c (t ∷ k ∷ []) x key field differs = unnamed field
+field_seen c (t ∷ k ∷ f ∷ ns) x key field differs = field_is c t k f ns x key field differs
+
+-- where a requiring place differs after a move, the move may change it
+seen : (cur : Config) (m : Move) (q : Requiring) (key : List ℕ)
+    → part_at cur (requiring_place q key) ≢ part_at (step cur m) (requiring_place q key) → may_change (place m) q ≡ true
+seen cur m q key differs = elim (by_table cur (step cur m) m (table_of (place m)) refl refl q.table key) [
+  | inl same ↦ absurd (differs (same_place cur (step cur m) q.table key q.field same))
+  | inr table ↦
+      let there = subst (λ t. part_at cur (t ∷ key ∷ option_to_list q.field) ≢ part_at (step cur m) (t ∷ key ∷ option_to_list q.field)) table differs in
+      ap (λ b. b && is_field_at (slice_get (place m) 2) q.field) (same_text q.table (table_of (place m)) table)
+      ∙ field_seen cur (place m) (new_part m) key q.field there
+]
+
+-- where a move can change no requiring place nothing is required
+pub requires_none : (ctx : Ctx) (cur : Config) (m x : Move) → list_any (may_change_one (place m)) ctx.settings.required ≡ false → ¬ IsRequired (rulebook ctx) cur m x
+requires_none ctx cur m x none required =
     let q : Requiring = required.changes.requires.requiring in
-    let key : List ℕ = required.changes.requires.key in
-    let of : List Requiring = required.rule.requiring in
     let listed = required.changes.requires.listed in
-    elim (by_table cur (step cur m) m t refl at q.table key) [
-      | inl same ↦
-          subst (λ p. part_at cur p ≢ part_at (step cur m) p) required.changes.requires.is required.changes.differs
-          (same_place cur (step cur m) q.table key q.field same)
-      | inr table ↦
-          let has : has_requiring t required.rule ≡ true =
-          list_any-from_Any (λ p. bytes_eq p.table t) of (listed.0, q, listed.1, listed.2, (bytes_decides q.table t).1 table) in
-          true≢false
-          (sym (list_any-from_Any (has_requiring t) ctx.settings.required (required.listed.0, required.rule, required.listed.1, required.listed.2, has)) ∙ none)
-    ]
+    let may : may_change (place m) q ≡ true =
+    seen cur m q required.changes.requires.key
+    (subst (λ p. part_at cur p ≢ part_at (step cur m) p) required.changes.requires.is required.changes.differs) in
+    let one : may_change_one (place m) required.rule ≡ true =
+    list_any-from_Any (may_change (place m)) required.rule.requiring (listed.0, q, listed.1, listed.2, may) in
+    true≢false
+    (sym (list_any-from_Any (may_change_one (place m)) ctx.settings.required (required.listed.0, required.rule, required.listed.1, required.listed.2, one)) ∙ none)
 
 none_is : {A : Type 0} (o : Option A) → is_some o ≡ false → o ≡ None
 none_is None e = refl

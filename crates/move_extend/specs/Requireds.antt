@@ -1,5 +1,5 @@
 -- The moves that give fields their required values.
-use Rattle.std.specs.Prelude.{◌≡◌, ◌≢◌, ℕ, Bool, List, Option, Some, None, map, slice_get}
+use Rattle.std.specs.Prelude.{◌≡◌, ◌≢◌, ℕ, Bool, true, List, Option, Some, None, map, slice_get, ◌&&◌}
 use Rattle.std.specs.List.{list_any}
 use Rattle.std.specs.Str.{bytes_eq}
 use Rattle.conf_doc.specs.Changes.{part_at, HasPlace}
@@ -7,6 +7,8 @@ use Rattle.conf_doc.specs.declared.configuration.Table.{Table}
 use Rattle.key_split.specs.Key.{key_parts}
 use Rattle.move_core.specs.Contexts.{IsModelled}
 use Rattle.move_core.specs.Extensions.{HasRequired, put_value, required_part, rule_entry, rule_field}
+use Rattle.move_core.specs.Moves.{Place}
+use Rattle.move_core.specs.Services.{table_of}
 use Rattle.move_core.specs.declared.moves.Move.{Move}
 use Rattle.move_core.specs.declared.settings.Required.{Required}
 use Rattle.move_core.specs.declared.settings.Requiring.{Requiring}
@@ -14,9 +16,20 @@ use Rattle.move_extend.specs.Entries.{requiring_place}
 use Rattle.move_extend.specs.Found.{GivenByOne}
 use Rattle.move_extend.specs.declared.changes.Change.{Change}
 
--- some requiring place of a rule is in the table
-abbrev pub has_requiring : List ℕ → Required → Bool
-has_requiring table rule = list_any (λ q. bytes_eq q.table table) rule.requiring
+-- a requiring place is a whole entry, or the field that is named, where one is
+abbrev pub is_field_at : Option (List ℕ) → Option (List ℕ) → Bool
+is_field_at named None = true
+is_field_at None (Some g) = true
+is_field_at (Some f) (Some g) = bytes_eq g f
+
+-- a move at the place may change the requiring place: both are in one table, and of one field where
+-- both name one
+abbrev pub may_change : Place → Requiring → Bool
+may_change p q = bytes_eq q.table (table_of p) && is_field_at (slice_get p 2) q.field
+
+-- it may change some requiring place of a rule
+abbrev pub may_change_one : Place → Required → Bool
+may_change_one p rule = list_any (may_change p) rule.requiring
 
 -- the requiring place at a key differs between the two configurations
 abbrev pub Differs : Change → Requiring → List ℕ → Type 0

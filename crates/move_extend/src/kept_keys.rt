@@ -3,11 +3,21 @@ ghost use Rattle.std.specs.Prelude.{◌↔◌, map, IsTrue};
 ghost use Rattle.move_core.specs.Contexts.{IsResult};
 ghost use Rattle.move_core.specs.Moves.{place};
 ghost use Rattle.move_core.specs.Services.{table_of};
-ghost use Rattle.move_extend.specs.KeptKeys.{HasKeys, KeepsKey, KeepsKeys};
+ghost use Rattle.move_extend.specs.KeptKeys.{HasKeys, KeepsAlways, KeepsKey, KeepsKeys};
 
 use crate::entries::{has_entry, table_of};
 use conf_doc::{Config, Table};
 use move_core::Move;
+
+/// Whether a move keeps each key of any configuration: it changes a field, or puts an entry.
+pub(crate) fn keeps_always(mv: &Move) -> bool
+    ensures { IsTrue result → KeepsAlways mv.now }
+{
+    match mv.new_part() {
+        Some(_) => mv.place().len() > 1,
+        None => mv.place().len() > 2,
+    }
+}
 
 /// Whether an entry is in next where it is in cur.
 fn keeps_key(cur: &Config, next: &Config, table: &str, key: &str) -> bool

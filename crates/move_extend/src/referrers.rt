@@ -16,7 +16,7 @@ ghost use Rattle.move_extend.specs.Referrers.{AddsRemoval, GivesRemovals, IsBrok
 use crate::changes::Change;
 use crate::entries::table_of;
 use crate::found::{add_move, add_unless_last, append_moves};
-use crate::kept_keys::keeps_keys;
+use crate::kept_keys::{keeps_always, keeps_keys};
 use crate::mentions::{Gone, mentions_one, parts_of};
 use crate::referring::{is_referred, table_refers};
 use conf_check::{Want, WantAt, entry_wants, is_satisfied, wants};
@@ -247,11 +247,15 @@ fn removals_of_key(
     find_in_config(alloc, change, &gone)
 }
 
-/// The removals of the referrers to what a move takes away.
+/// The removals of the referrers to what a move takes away. For a move that keeps the keys of any
+/// configuration the next one isn't made.
 fn removals_of(alloc: Global, ctx: &Ctx, cur: &Config, mv: &Move) -> Result<Moves, Memory>
     requires { IsDefined cur.now mv.now }
     ensures { IfOk result (Appends (IsReferrer (rulebook ctx.now) cur.now mv.now) []) }
 {
+    if keeps_always(mv) {
+        return Ok(Moves::new(alloc));
+    }
     let models = &ctx.models;
     let table = table_of(mv);
     if !is_referred(models, cur, table) {

@@ -1,5 +1,5 @@
 //! The extender of required values.
-ghost use Rattle.std.specs.Prelude.{◌≡◌, [], All, IfOk, OnOk, Some};
+ghost use Rattle.std.specs.Prelude.{◌≡◌, [], All, IfOk, OnOk, Some, slice_get};
 ghost use Rattle.std.specs.List.{list_any};
 ghost use Rattle.conf_doc.specs.Pairs.{find};
 ghost use Rattle.move_core.specs.Appends.{Appends};
@@ -8,13 +8,13 @@ ghost use Rattle.move_core.specs.Extensions.{IsRequired};
 ghost use Rattle.move_core.specs.Moves.{IsDefined, step};
 ghost use Rattle.move_core.specs.Named.{HasRequiredNames};
 ghost use Rattle.move_extend.specs.Found.{Finds, GivenByOne};
-ghost use Rattle.move_extend.specs.Requireds.{GivesAt, GivesIn, GivesValue, RuleGives, RulesGive, TableGives, has_requiring};
+ghost use Rattle.move_extend.specs.Requireds.{GivesAt, GivesIn, GivesValue, RuleGives, RulesGive, TableGives, is_field_at, may_change, may_change_one};
 
 use crate::changes::Change;
 use crate::entries::table_of;
 use crate::found::{add_move, append_moves};
 use crate::required_values::{differs, lacks_value, put_value};
-use conf_doc::{Config, Table};
+use conf_doc::{Config, Path, Table};
 use host_core::Memory;
 use key_split::KeyView;
 use move_core::{Ctx, Move, MoveExt, Moves, Required, Requiring, step};
@@ -227,31 +227,49 @@ fn add_values(
     }
 }
 
-/// Whether some requiring place of a rule is in a table.
-fn has_requiring(rule: &Required, table: &str) -> bool
-    ensures { result ≡ has_requiring table.now rule.now }
+/// Whether a requiring place is a whole entry, or the field that a place names, where it names one.
+fn is_field_at(place: &Path, requiring: &Requiring) -> bool
+    ensures { result ≡ is_field_at (slice_get place.now 2) requiring.now.field }
+{
+    match &requiring.field {
+        Some(field) => place.len() < 3 || field.as_str() == place.name_at(2),
+        None => true,
+    }
+}
+
+/// Whether a move at a place may change a requiring place.
+fn may_change(place: &Path, requiring: &Requiring) -> bool
+    ensures { result ≡ may_change place.now requiring.now }
+{
+    let _names = place.len();
+    requiring.table.as_str() == place.name_at(0) && is_field_at(place, requiring)
+}
+
+/// Whether it may change some requiring place of a rule.
+fn may_change_one(place: &Path, rule: &Required) -> bool
+    ensures { result ≡ may_change_one place.now rule.now }
 {
     rule.requiring
         .items()
         .iter()
-        .any(|requiring| requiring.table.as_str() == table)
+        .any(|requiring| may_change(place, requiring))
 }
 
-/// Whether some rule has a requiring place in a table.
-fn is_required_in(rules: &[Required], table: &str) -> bool
-    ensures { result ≡ list_any (has_requiring table.now) rules.now }
+/// Whether it may change one of some rule.
+fn is_required_at(rules: &[Required], place: &Path) -> bool
+    ensures { result ≡ list_any (may_change_one place.now) rules.now }
 {
-    rules.iter().any(|rule| has_requiring(rule, table))
+    rules.iter().any(|rule| may_change_one(place, rule))
 }
 
-/// The moves that give rules' fields their required values before a move changes what requires them. In
-/// a table with no requiring place there are none, and the next configuration isn't made.
+/// The moves that give rules' fields their required values before a move changes what requires them. Where
+/// the move can change no requiring place there are none, and the next configuration isn't made.
 fn values_of(alloc: Global, ctx: &Ctx, cur: &Config, mv: &Move) -> Result<Moves, Memory>
     requires named { IsNamed ctx.now }
     requires defined { IsDefined cur.now mv.now }
     ensures { IfOk result (Appends (IsRequired (rulebook ctx.now) cur.now mv.now) []) }
 {
-    if !is_required_in(ctx.settings.required.items(), table_of(mv)) {
+    if !is_required_at(ctx.settings.required.items(), mv.place()) {
         return Ok(Moves::new(alloc));
     }
     let next = step(alloc, cur, mv)?;

@@ -12,14 +12,21 @@ use Rattle.move_extend.proofs.Leafrefs.{unreferred}
 use Rattle.move_extend.proofs.Removals.{no_removals, referrers}
 use Rattle.move_extend.proofs.referrers.removals_of.Goals as goal
 
+pub returns-then-keeps_always : goal.returns-then-keeps_always
+returns-then-keeps_always c =
+    let cur = c.args.cur.now in
+    let m = c.args.mv.now in
+    no_removals c.args.ctx.now cur (step cur m) m (table_of (place m)) refl refl
+    (c.keeps_always.ensures c.if-keeps_always.true cur) c.new.result c.new.ensures
+
 pub returns-then-not-is_referred : goal.returns-then-not-is_referred
 returns-then-not-is_referred c =
     let t = c.table_of-table.result.now in
     let cur = c.args.cur.now in
     let next = step cur c.args.mv.now in
     let Is = IsReferrer (rulebook c.args.ctx.now) cur c.args.mv.now in
-    appends_found Is c.new.result
-    (finds_none Is [] c.new.result c.new.ensures
+    appends_found Is c.new-then-not-is_referred.result
+    (finds_none Is [] c.new-then-not-is_referred.result c.new-then-not-is_referred.ensures
     (λ x referrer.
     unreferred c.args.ctx.now.models cur next t (λ u there may. true≢false (sym (c.is_referred.ensures u there may) ∙ c.if-not-is_referred.true)) x
     ((referrers c.args.ctx.now cur next c.args.mv.now x t refl c.table_of-table.ensures).1 referrer)))

@@ -2,21 +2,24 @@ use Rattle.std.proofs.Common.{◌≡◌, false, [], sym, ◌∙◌, subst}
 use Rattle.std.specs.List.{list_any}
 use Rattle.move_core.specs.Contexts.{rulebook}
 use Rattle.move_core.specs.Extensions.{IsRequired}
+use Rattle.move_core.specs.Moves.{place}
 use Rattle.move_extend.specs.Found.{Finds}
-use Rattle.move_extend.specs.Requireds.{has_requiring}
+use Rattle.move_extend.specs.Requireds.{may_change_one}
 use Rattle.move_extend.proofs.Finding.{appends_found, finds_none}
 use Rattle.move_extend.proofs.Requireds.{requires_none}
 use Rattle.move_extend.proofs.required.values_of.Goals as goal
 
-pub returns-then-not-is_required_in : goal.returns-then-not-is_required_in
-returns-then-not-is_required_in c =
+pub returns-then-not-is_required_at : goal.returns-then-not-is_required_at
+returns-then-not-is_required_at c =
     let Is = IsRequired (rulebook c.args.ctx.now) c.args.cur.now c.args.mv.now in
-    let t = c.table_of.result.now in
-    let none : list_any (has_requiring t) c.args.ctx.now.settings.required ≡ false =
-    subst (λ rs. list_any (has_requiring t) rs ≡ false) c.items.ensures (sym c.is_required_in.ensures ∙ c.if-not-is_required_in.true) in
+    let p = c.place.result.now in
+    let of : list_any (may_change_one p) c.args.ctx.now.settings.required ≡ false =
+    subst (λ rs. list_any (may_change_one p) rs ≡ false) c.items.ensures (sym c.is_required_at.ensures ∙ c.if-not-is_required_at.true) in
+    let none : list_any (may_change_one (place c.args.mv.now)) c.args.ctx.now.settings.required ≡ false =
+    subst (λ names. list_any (may_change_one names) c.args.ctx.now.settings.required ≡ false) c.place.ensures of in
     appends_found Is c.new.result
     (finds_none Is [] c.new.result c.new.ensures
-    (λ x. requires_none c.args.ctx.now c.args.cur.now c.args.mv.now x t c.table_of.ensures none))
+    (λ x. requires_none c.args.ctx.now c.args.cur.now c.args.mv.now x none))
 
 pub returns : goal.returns
 returns c =
