@@ -1,11 +1,11 @@
 -- Tiers, ranks, and what reached moves hold.
-use Rattle.std.proofs.Common.{◌≡◌, ◌≢◌, ◌⊎◌, inl, inr, ℕ, suc, ◌<◌, ◌≤◌, Bool, true, false, List, [], Option, Some, None, refl, sym, ap, subst, ◌∙◌, arith, true≢false, All}
+use Rattle.std.proofs.Common.{◌≡◌, ◌≢◌, ◌⊎◌, inl, inr, ℕ, suc, ◌<◌, ◌≤◌, Bool, true, false, List, [], Option, Some, None, refl, sym, ap, subst, ◌∙◌, arith, true≢false}
 use Rattle.std.specs.Cmp.{nat_cmp_total, tied_itself}
 use Rattle.std.specs.Ordering.{eq_by_cmp, nat_cmp, ordering_then}
 use Rattle.std.specs.declared.cmp.Ordering.{Ordering}
 use Rattle.std.specs.declared.cmp.Ordering.TheVariants.{Less, Equal, Greater}
 use Rattle.std.proofs.lemmas.Cmp.{ranked}
-use Rattle.std.proofs.lemmas.List.Elements.{All-contains, All-weaker}
+use Rattle.std.proofs.lemmas.List.Elements.{All-contains}
 use Rattle.conf_doc.specs.Changes.{part_at}
 use Rattle.conf_doc.specs.declared.configuration.Config.{Config}
 use Rattle.conf_doc.specs.declared.parts.Part.{Part}
@@ -19,10 +19,10 @@ use Rattle.move_core.specs.declared.moves.Move.{Move}
 use Rattle.move_core.specs.declared.moves.Move.TheVariants.{Add, Remove, Replace}
 use Rattle.move_core.specs.declared.moves.Ranked.{Ranked}
 use Rattle.plan_lists.specs.MoveKeys.{keys_decide}
-use Rattle.plan_lists.specs.Questions.{IsOffered}
-use Rattle.plan_lists.specs.Ranking.{AreMovesOf, IsMoveOf, LeadsEarly}
-use Rattle.plan_lists.specs.Reaches.{Depths, HasMove, HasWithin, HoldsAll, IsClosed, IsFirst, IsLedTo}
+use Rattle.plan_lists.specs.Ranking.{IsReachOf}
+use Rattle.plan_lists.specs.Reaches.{Depths, HasMove, HasWithin, IsClosed, IsLedTo}
 use Rattle.plan_lists.specs.declared.asking.Question.{Question}
+use Rattle.plan_lists.proofs.Chosen.{LeadsEarly}
 use Rattle.plan_lists.proofs.Members.{no_member}
 
 -- ---- agreement is decided
@@ -159,10 +159,10 @@ some_chain ctx start cur goal m is =
     )
 
 -- the reached ones hold all that follows
-pub early_closed : (q : Question) (ms : List Move) (es : Depths) → All (IsLedTo q ms) es → HoldsAll q [] ms es → IsClosed q es
-early_closed q ms es led all m x h follows =
-    let from = All-contains (IsLedTo q ms) es (m, h.0) led h.1 in
-    by (all from.0 (suc h.0) x from.1 (m, from.2, follows))
+pub early_closed : (q : Question) (ms : List Move) (es : Depths) → IsReachOf q [] ms es → IsClosed q es
+early_closed q ms es reach m x h follows =
+    let from = All-contains (IsLedTo q ms) es (m, h.0) reach.each h.1 in
+    by (reach.all from.0 (suc h.0) x from.1 (m, from.2, follows))
   where
     by : HasMove [] x ⊎ HasWithin es (suc h.0) x → HasMove es x
     by (inl none) = absurd (no_member _ none.1)
@@ -171,9 +171,3 @@ early_closed q ms es led all m x h follows =
 -- nothing is closed
 pub none_closed : (q : Question) → IsClosed q []
 none_closed q m x h follows = absurd (no_member _ h.1)
-
--- the moves of generated ones are generated
-pub moves_first : (q : Question) (P : Generated → Type 0) (firsts : List Generated) (ms : List Move) → All (IsOffered q) firsts
-    → AreMovesOf P firsts ms → All (IsFirst q) ms
-moves_first q P firsts ms offered of =
-    All-weaker (IsMoveOf P firsts) (IsFirst q) (λ m h. (h.0, All-contains (IsOffered q) firsts h.0 offered h.1, h.3)) ms of.each

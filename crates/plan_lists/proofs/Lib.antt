@@ -1,11 +1,13 @@
 pub mod Adding
 pub mod Chains
+pub mod Chosen
 pub mod Existing
 pub mod Finite
-pub mod Firsts
+pub mod FirstChains
 pub mod Gathered
 pub mod Joined
 pub mod Known
+pub mod Leaving
 pub mod Members
 pub mod Noted
 pub mod Ordered

@@ -1,5 +1,5 @@
 -- Members of lists.
-use Rattle.std.proofs.Common.{◌≡◌, ◌⊎◌, inl, inr, List, [], ◌∷◌, arith}
+use Rattle.std.proofs.Common.{◌≡◌, ◌⊎◌, inl, inr, List, [], ◌∷◌, map, subst, arith}
 use Rattle.std.specs.List.{Contains}
 use Rattle.std.proofs.lemmas.List.Elements.{Contains-append_left, Contains-append_right, Contains-append_cases, Contains-push, Contains-push_cases}
 
@@ -27,3 +27,24 @@ module _ {A : Type 0} where
           of : Contains [] x ⊎ (y ≡ x) → (y ≡ x) ⊎ Contains xs x
           of (inl n) = absurd (no_member x n)
           of (inr e) = inl e
+
+-- ---- lists under a function
+
+-- what a member becomes
+pub member_map : {A B : Type 0} (f : A → B) (xs : List A) (x : A) → Contains xs x → Contains (map f xs) (f x)
+member_map f [] x h = absurd (no_member x h)
+member_map {B = B} f (y ∷ xs) x h = by (member_map f xs x) (member_cases y xs x h)
+  where
+    by : (Contains xs x → Contains (map f xs) (f x)) → (y ≡ x) ⊎ Contains xs x → Contains (f y ∷ map f xs) (f x)
+    by rest (inl e) = subst (λ z. Contains (f y ∷ map f xs) (f z)) e (first_member (f y) (map f xs))
+    by rest (inr t) = later_member (f y) (map f xs) (f x) (rest t)
+
+-- what a member comes from
+pub member_from_map : {A B : Type 0} (f : A → B) (xs : List A) (y : B) → Contains (map f xs) y → (x : A) × Contains xs x × (f x ≡ y)
+member_from_map f [] y h = absurd (no_member y h)
+member_from_map {A = A} f (x ∷ xs) y h = by (member_from_map f xs y) (member_cases (f x) (map f xs) y h)
+  where
+    by : (Contains (map f xs) y → (z : A) × Contains xs z × (f z ≡ y)) → (f x ≡ y) ⊎ Contains (map f xs) y
+        → (z : A) × Contains (x ∷ xs) z × (f z ≡ y)
+    by rest (inl e) = (x, first_member x xs, e)
+    by rest (inr t) = let r = rest t in (r.0, later_member x xs r.0 r.1, r.2)

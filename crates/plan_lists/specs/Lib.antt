@@ -1,5 +1,6 @@
 -- what public clauses cite
 pub mod Finite
+pub mod Firsts
 pub mod Parts
 -- what only private clauses cite
 pub mod MoveKeys

@@ -1,9 +1,10 @@
-//! Whether two configurations agree at a place.
-ghost use Rattle.std.specs.Prelude.{◌≡◌, ◌↔◌, IsTrue, option_copied};
+//! Whether two configurations agree at a place, and whether one has a part there.
+ghost use Rattle.std.specs.Prelude.{◌≡◌, ◌↔◌, length, IsTrue, option_copied};
+ghost use Rattle.conf_doc.specs.Changes.{part_at};
 ghost use Rattle.move_core.specs.Moves.{Agree};
 ghost use Rattle.plan_lists.specs.Places.{entry_of, value_of};
 
-use conf_doc::{Config, Entry, Path, Table, Value};
+use conf_doc::{Config, Entry, Part, Path, Table, Value};
 
 /// Whether the same stands at a place in both, or nothing in either.
 pub(crate) fn agree_at(a: &Config, b: &Config, place: &Path) -> bool
@@ -23,6 +24,19 @@ pub(crate) fn agree_at(a: &Config, b: &Config, place: &Path) -> bool
         value_at(a, table, key, field),
         value_at(b, table, key, field),
     )
+}
+
+/// Whether a configuration has that part at a place of three names, or has nothing there where it is None.
+pub(crate) fn has_value(config: &Config, place: &Path, part: Option<&Part>) -> bool
+    requires { length place.now ≡ 3 }
+    ensures { IsTrue result ↔ (part_at config.now place.now ≡ option_copied part.entry) }
+{
+    let value = value_at(config, place.name_at(0), place.name_at(1), place.name_at(2));
+    match (value, part) {
+        (Some(value), Some(Part::Value(new))) => value.same(new),
+        (None, None) => true,
+        _ => false,
+    }
 }
 
 /// The entry of a table at a key.

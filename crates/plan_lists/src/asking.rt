@@ -12,10 +12,12 @@ use host_core::Memory;
 use move_core::{Boxes, Ctx, Generated, Kit, Move};
 use std::alloc::Global;
 
-/// What is asked of a kit: moves by a context, at a configuration, towards another.
+/// What is asked of a kit: moves by a context, at a configuration, towards another. Where they began tells which
+/// of them are restoring.
 #[derive(Clone, Copy)]
 pub(crate) struct Question<'a> {
     pub(crate) ctx: &'a Ctx,
+    pub(crate) start: &'a Config,
     pub(crate) cur: &'a Config,
     pub(crate) goal: &'a Config,
 }
@@ -34,7 +36,7 @@ pub(crate) fn generated_moves(
     ensures all { IfOk result (λ gs.
         (g : Offer) → IsOffered question.now g → Contains gs.items g) }
 {
-    let Question { ctx, cur, goal } = *question;
+    let Question { ctx, cur, goal, .. } = *question;
     let mut out = Vec::new(alloc);
     kit.moves_at(alloc, 0, ctx, cur, goal, &mut out)?;
     kit.moves_at(alloc, 1, ctx, cur, goal, &mut out)?;
@@ -60,7 +62,7 @@ fn above_moves(
     ensures all { IfOk result (λ ms. (m : Change) →
         IsUpper question.now.goal.now mv.now m → IsTrue is_known ⊎ Contains ms.items m) }
 {
-    let Question { ctx, cur, goal } = *question;
+    let Question { ctx, cur, goal, .. } = *question;
     let mut out = Vec::new(alloc);
     if is_known {
         return Ok(out);
@@ -88,7 +90,7 @@ pub(crate) fn extended_moves(
         (IsTrue is_above_known × IsUpper question.now.goal.now mv.now m) ⊎ Contains ms.items m) }
 {
     let mut out = above_moves(alloc, question, kit, mv, is_above_known)?;
-    let Question { ctx, cur, goal } = *question;
+    let Question { ctx, cur, goal, .. } = *question;
     kit.extend_at(alloc, 1, ctx, cur, goal, mv, &mut out)?;
     kit.extend_at(alloc, 2, ctx, cur, goal, mv, &mut out)?;
     kit.extend_at(alloc, 3, ctx, cur, goal, mv, &mut out)?;

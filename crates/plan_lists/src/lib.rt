@@ -3,6 +3,7 @@
 
 mod agreeing;
 mod asking;
+mod firsts;
 mod laws;
 mod listing;
 mod move_keys;
@@ -10,5 +11,6 @@ mod places_above;
 mod ranking;
 mod reaches;
 
+pub use firsts::{Firsts, first_moves};
 pub use laws::{lists_exist, moves_are_finite, parts_make_the_list};
 pub use listing::{listed, listed_in_part};

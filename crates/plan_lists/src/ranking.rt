@@ -1,15 +1,14 @@
 //! Chains of one part with their ranks: at least one of least rank for each move that none of a lesser
 //! part ends with.
-ghost use Rattle.std.specs.Prelude.{◌≡◌, ◌↔◌, [], IsTrue, IfOk};
+ghost use Rattle.std.specs.Prelude.{◌≡◌, [], IfOk};
 ghost use Rattle.move_core.specs.Listed.{place_class};
-ghost use Rattle.plan_lists.specs.Ranking.{AddsAlone, AddsExtended, AreMovesOf, IsChosen, LeadsEarly, lone_tier};
+ghost use Rattle.plan_lists.specs.Ranking.{AddsExtended, chosen_moves, is_chosen, leads_early, lone_tier, ranked_alone};
 ghost use Rattle.plan_lists.specs.Reaches.{AreOnce};
 
-use crate::agreeing::agree_at;
+use crate::firsts::First;
 use crate::reaches::Reach;
-use conf_doc::Config;
 use host_core::Memory;
-use move_core::{Generated, Move, Ranked};
+use move_core::{Move, Ranked};
 use std::alloc::Global;
 
 /// The tier of a chain of a generated move alone that isn't restoring, and of one that is.
@@ -32,42 +31,39 @@ pub(crate) enum Choice {
 
 /// Whether the extended chains from a generated move have the lesser tier: it is a remove or a replace, and
 /// isn't restoring.
-fn leads_early(start: &Config, goal: &Config, first: &Generated) -> bool
-    ensures { IsTrue result ↔ LeadsEarly start.now goal.now first.now }
+fn leads_early(first: &First) -> bool
+    ensures { result ≡ leads_early first.now }
 {
-    match &first.mv {
+    match &first.generated.mv {
         Move::Add(..) => false,
-        _ => !agree_at(start, goal, &first.place),
+        _ => !first.is_restoring,
     }
 }
 
 /// Whether a generated move is among those that are chosen.
-fn is_chosen(choice: Choice, start: &Config, goal: &Config, first: &Generated) -> bool
-    ensures { IsTrue result ↔ IsChosen choice start.now goal.now first.now }
+fn is_chosen(choice: Choice, first: &First) -> bool
+    ensures { result ≡ is_chosen choice first.now }
 {
     match choice {
-        Choice::Early => leads_early(start, goal, first),
-        Choice::Late => !leads_early(start, goal, first),
-        Choice::Restoring => agree_at(start, goal, &first.place),
-        Choice::Other => !agree_at(start, goal, &first.place),
+        Choice::Early => leads_early(first),
+        Choice::Late => !leads_early(first),
+        Choice::Restoring => first.is_restoring,
+        Choice::Other => !first.is_restoring,
     }
 }
 
 /// Those of the generated moves that are chosen.
 pub(crate) fn chosen_moves(
     alloc: Global,
-    start: &Config,
-    goal: &Config,
-    firsts: &[Generated],
+    firsts: &[First],
     choice: Choice,
 ) -> Result<Vec<Move>, Memory>
-    ensures { IfOk result (λ ms.
-        AreMovesOf (IsChosen choice start.now goal.now) firsts.now ms.items) }
+    ensures { IfOk result (λ ms. ms.items ≡ chosen_moves choice firsts.now) }
 {
     let mut moves = Vec::new(alloc);
     for first in firsts {
-        if is_chosen(choice, start, goal, first) {
-            let mv = first.mv.copy(alloc)?;
+        if is_chosen(choice, first) {
+            let mv = first.generated.mv.copy(alloc)?;
             moves.push(mv)?;
         }
     }
@@ -84,23 +80,20 @@ fn lone_tier(restoring: bool) -> u8
 /// The chains of a generated move alone, of those that are restoring or of the others.
 pub(crate) fn rank_alone(
     alloc: Global,
-    start: &Config,
-    goal: &Config,
-    firsts: &[Generated],
+    firsts: &[First],
     restoring: bool,
 ) -> Result<Vec<Ranked>, Memory>
-    ensures { IfOk result (λ rs.
-        AddsAlone start.now goal.now restoring firsts.now [] rs.items) }
+    ensures { IfOk result (λ rs. rs.items ≡ ranked_alone restoring firsts.now) }
 {
     let tier = lone_tier(restoring);
     let mut ranked = Vec::new(alloc);
     for first in firsts {
-        if agree_at(start, goal, &first.place) == restoring {
-            let mv = first.mv.copy(alloc)?;
+        if first.is_restoring == restoring {
+            let mv = first.generated.mv.copy(alloc)?;
             ranked.push(Ranked {
                 tier,
                 depth: 0,
-                class: first.class,
+                class: first.generated.class,
                 mv,
             })?;
         }

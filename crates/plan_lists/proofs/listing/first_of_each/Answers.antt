@@ -3,7 +3,7 @@ use Rattle.std.proofs.lemmas.List.{map-id}
 use Rattle.std.proofs.lemmas.Iterator.Adapters.{YieldsList-from_vec}
 use Rattle.std.proofs.lemmas.Iterator.Consumers.{YieldsList-end, YieldsList-so_far, YieldsList-turn}
 use Rattle.plan_lists.specs.Ranking.{AreSorted}
-use Rattle.plan_lists.proofs.Firsts.{IsSeen, has_firsts, seen_more, seen_none}
+use Rattle.plan_lists.proofs.FirstChains.{IsSeen, has_firsts, seen_more, seen_none}
 use Rattle.plan_lists.proofs.Walked.{walked}
 use Rattle.plan_lists.proofs.listing.first_of_each.Goals as goal
 

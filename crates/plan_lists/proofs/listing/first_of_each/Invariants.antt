@@ -1,4 +1,4 @@
-use Rattle.plan_lists.proofs.Firsts.{IsSeen}
+use Rattle.plan_lists.proofs.FirstChains.{IsSeen}
 use Rattle.plan_lists.proofs.listing.first_of_each.Given as goal
 
 -- the first of each move among those that were taken is noted

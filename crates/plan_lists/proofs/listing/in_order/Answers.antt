@@ -1,5 +1,5 @@
 use Rattle.std.proofs.Common.{Result, Ok, Err, IfOk}
-use Rattle.plan_lists.proofs.Firsts.{all_sorted}
+use Rattle.plan_lists.proofs.FirstChains.{all_sorted}
 use Rattle.plan_lists.proofs.listing.in_order.Goals as goal
 
 pub first_of_each-requires : goal.first_of_each-requires

@@ -10,7 +10,6 @@ use Rattle.std.proofs.lemmas.List.Elements.{Contains-append_left, Contains-get_o
 use Rattle.std.proofs.lemmas.List.MinMax.{ranks_by}
 use Rattle.std.proofs.lemmas.List.Quantifiers.{all_pairs_push}
 use Rattle.std.proofs.lemmas.List.Sorted.{All-permutation, Contains-permutation, IsPermutation-sym, sorted_far}
-use Rattle.conf_doc.specs.declared.configuration.Config.{Config}
 use Rattle.move_core.specs.Contexts.{rulebook}
 use Rattle.move_core.specs.Listed.{IsRanked, moves_of}
 use Rattle.move_core.specs.ListedOrder.{listed_cmp, move_cmp, rank_cmp}
@@ -21,7 +20,7 @@ use Rattle.plan_lists.specs.Parts.{AreRankedIn, part_of}
 use Rattle.plan_lists.specs.Ranking.{AreChainsIn, AreEarlier, AreFirsts, AreInOrder, AreSorted, HasFirsts, HasLeast, IsChain, IsEarlier, IsInPart}
 use Rattle.plan_lists.specs.Reaches.{Depths, HasMove, IsNoted}
 use Rattle.plan_lists.specs.declared.asking.Question.{Question}
-use Rattle.plan_lists.proofs.Members.{first_member, later_member, member_cases, no_member}
+use Rattle.plan_lists.proofs.Members.{member_cases, member_from_map, member_map, no_member}
 use Rattle.plan_lists.proofs.PartOrder.{less_part}
 
 -- ---- orders
@@ -91,25 +90,6 @@ pairs_before {A = A} R (z ∷ xs) y rest pairs x there = by (pairs_before R xs y
     by later (inr h) = later h
 
 -- ---- lists under a function
-
--- what a member becomes
-pub member_map : {A B : Type 0} (f : A → B) (xs : List A) (x : A) → Contains xs x → Contains (map f xs) (f x)
-member_map f [] x h = absurd (no_member x h)
-member_map {B = B} f (y ∷ xs) x h = by (member_map f xs x) (member_cases y xs x h)
-  where
-    by : (Contains xs x → Contains (map f xs) (f x)) → (y ≡ x) ⊎ Contains xs x → Contains (f y ∷ map f xs) (f x)
-    by rest (inl e) = subst (λ z. Contains (f y ∷ map f xs) (f z)) e (first_member (f y) (map f xs))
-    by rest (inr t) = later_member (f y) (map f xs) (f x) (rest t)
-
--- what a member comes from
-pub member_from_map : {A B : Type 0} (f : A → B) (xs : List A) (y : B) → Contains (map f xs) y → (x : A) × Contains xs x × (f x ≡ y)
-member_from_map f [] y h = absurd (no_member y h)
-member_from_map {A = A} f (x ∷ xs) y h = by (member_from_map f xs y) (member_cases (f x) (map f xs) y h)
-  where
-    by : (Contains (map f xs) y → (z : A) × Contains xs z × (f z ≡ y)) → (f x ≡ y) ⊎ Contains (map f xs) y
-        → (z : A) × Contains (x ∷ xs) z × (f z ≡ y)
-    by rest (inl e) = (x, first_member x xs, e)
-    by rest (inr t) = let r = rest t in (r.0, later_member x xs r.0 r.1, r.2)
 
 map_map : {A B C : Type 0} (g : B → C) (f : A → B) (xs : List A) → map g (map f xs) ≡ map (λ x. g (f x)) xs
 map_map g f [] = refl
@@ -254,33 +234,33 @@ less_only Less g e = refl
 less_only Equal g e = absurd (e refl)
 less_only Greater g e = absurd (g refl)
 
-module _ (q : Question) (start : Config) (part : ℕ) (known : Depths) (rs : List Ranked) (chains : AreChainsIn q start part rs)
-    (earlier : AreEarlier q start part rs known) (sorted kept : List Ranked) (turned : IsPermutation rs sorted) (firsts : AreFirsts known sorted kept) where
+module _ (q : Question) (part : ℕ) (known : Depths) (rs : List Ranked) (chains : AreChainsIn q part rs)
+    (earlier : AreEarlier q part rs known) (sorted kept : List Ranked) (turned : IsPermutation rs sorted) (firsts : AreFirsts known sorted kept) where
   abbrev IsKeptChain : Ranked → Type 0
   IsKeptChain r = Contains sorted r × ¬ HasMove known r.mv
 
   in_kept : (r : Ranked) → Contains kept r → IsKeptChain r
   in_kept r h = All-contains IsKeptChain kept r firsts.each h
 
-  is_chain : (r : Ranked) → Contains kept r → IsChain q start r × (part_of r ≡ part)
+  is_chain : (r : Ranked) → Contains kept r → IsChain q r × (part_of r ≡ part)
   is_chain r h =
-      All-contains (λ x. IsChain q start x × (part_of x ≡ part)) sorted r
-      (All-permutation (λ x. IsChain q start x × (part_of x ≡ part)) rs sorted turned chains.each) (in_kept r h).0
+      All-contains (λ x. IsChain q x × (part_of x ≡ part)) sorted r
+      (All-permutation (λ x. IsChain q x × (part_of x ≡ part)) rs sorted turned chains.each) (in_kept r h).0
 
   module _ (r : Ranked) (h : Contains kept r) where
-    not_earlier : ¬ IsEarlier q start part r.mv
+    not_earlier : ¬ IsEarlier q part r.mv
     not_earlier e = (in_kept r h).1 (earlier.all r (Contains-permutation sorted rs r (IsPermutation-sym rs sorted turned) (in_kept r h).0) e)
 
-    of_part : (s : Ranked) → s.mv ≡ r.mv → HasLeast rs s ⊎ IsEarlier q start part s.mv → rank_cmp r s ≢ Greater
+    of_part : (s : Ranked) → s.mv ≡ r.mv → HasLeast rs s ⊎ IsEarlier q part s.mv → rank_cmp r s ≢ Greater
     of_part s e (inl c) =
         rank_chain r c.0 s
         (by_rank (rank_cmp r c.0) (move_cmp r.mv c.0.mv) (firsts.least r c.0 h (Contains-permutation rs sorted c.0 turned c.1) (sym (c.2 ∙ e)))) c.3
-    of_part s e (inr before) = absurd (not_earlier (subst (IsEarlier q start part) e before))
+    of_part s e (inr before) = absurd (not_earlier (subst (IsEarlier q part) e before))
 
     split : (a b : ℕ) → (a < b) ⊎ ((a ≡ b) ⊎ (b < a))
     split a b = grind arith
 
-    least : (s : Ranked) → s.mv ≡ r.mv → IsChain q start s → rank_cmp r s ≢ Greater
+    least : (s : Ranked) → s.mv ≡ r.mv → IsChain q s → rank_cmp r s ≢ Greater
     least s e is = by (split (part_of s) part)
       where
         by : (part_of s < part) ⊎ ((part_of s ≡ part) ⊎ (part < part_of s)) → rank_cmp r s ≢ Greater
@@ -288,22 +268,22 @@ module _ (q : Question) (start : Config) (part : ℕ) (known : Depths) (rs : Lis
         by (inr (inl same)) = of_part s e (chains.least s is same)
         by (inr (inr more)) = let t = (is_chain r h).1 in less_part r s (omega (arith, t, more))
 
-    is_ranked : IsRanked (rulebook q.ctx.now) start q.cur.now q.goal.now r × (part_of r ≡ part)
+    is_ranked : IsRanked (rulebook q.ctx.now) q.start.now q.cur.now q.goal.now r × (part_of r ≡ part)
     is_ranked = (record { ends = (is_chain r h).0; least = least }, (is_chain r h).1)
 
-  there : (s : Ranked) → IsChain q start s → part_of s ≡ part → Contains (moves_of kept) s.mv ⊎ IsEarlier q start part s.mv
+  there : (s : Ranked) → IsChain q s → part_of s ≡ part → Contains (moves_of kept) s.mv ⊎ IsEarlier q part s.mv
   there s is same = by (chains.least s is same)
     where
       found : (c : Ranked) → c.mv ≡ s.mv → HasMove known c.mv ⊎ ((k : Ranked) × Contains kept k × (k.mv ≡ c.mv))
-          → Contains (moves_of kept) s.mv ⊎ IsEarlier q start part s.mv
-      found c e (inl h) = inr (subst (IsEarlier q start part) e (earlier.each c.mv h))
+          → Contains (moves_of kept) s.mv ⊎ IsEarlier q part s.mv
+      found c e (inl h) = inr (subst (IsEarlier q part) e (earlier.each c.mv h))
       found c e (inr k) = inl (subst (Contains (moves_of kept)) (k.2 ∙ e) (member_map (λ r. r.mv) kept k.0 k.1))
 
-      by : HasLeast rs s ⊎ IsEarlier q start part s.mv → Contains (moves_of kept) s.mv ⊎ IsEarlier q start part s.mv
+      by : HasLeast rs s ⊎ IsEarlier q part s.mv → Contains (moves_of kept) s.mv ⊎ IsEarlier q part s.mv
       by (inl c) = found c.0 c.2 (firsts.all c.0 (Contains-permutation rs sorted c.0 turned c.1))
       by (inr e) = inr e
 
-  ranked_in : AreRankedIn (rulebook q.ctx.now) start q.cur.now q.goal.now part kept
+  ranked_in : AreRankedIn (rulebook q.ctx.now) q.start.now q.cur.now q.goal.now part kept
   ranked_in = record {
     each = λ k d lt. is_ranked (get_or kept k d) (Contains-get_or kept k d lt);
     all = there;
@@ -312,7 +292,7 @@ module _ (q : Question) (start : Config) (part : ℕ) (known : Depths) (rs : Lis
         (λ e. firsts.distinct i j d lt within (ap (λ (r : Ranked). r.mv) (listed_same (get_or kept i d) (get_or kept j d) e)));
   }
 
-pub in_part : (q : Question) (start : Config) (part : ℕ) (known : Depths) (rs : List Ranked) (ms : List Move) → AreChainsIn q start part rs
-    → AreEarlier q start part rs known → AreInOrder known rs ms → IsInPart q start part ms
-in_part q start part known rs ms chains earlier has =
-    (has.2.0, ranked_in q start part known rs chains earlier has.0 has.2.0 has.1 has.2.1, has.2.2)
+pub in_part : (q : Question) (part : ℕ) (known : Depths) (rs : List Ranked) (ms : List Move) → AreChainsIn q part rs
+    → AreEarlier q part rs known → AreInOrder known rs ms → IsInPart q part ms
+in_part q part known rs ms chains earlier has =
+    (has.2.0, ranked_in q part known rs chains earlier has.0 has.2.0 has.1 has.2.1, has.2.2)

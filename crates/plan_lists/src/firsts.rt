@@ -1,0 +1,108 @@
+//! The generated moves at a configuration, each with whether it is restoring.
+ghost use Rattle.std.specs.Prelude.{◌≡◌, ◌↔◌, All, IfOk, IsTrue};
+ghost use Rattle.move_core.specs.Contexts.{IsNamed, IsValidIn, rulebook};
+ghost use Rattle.move_core.specs.Generated.{IsRestoring};
+ghost use Rattle.plan_lists.specs.Firsts.{AreFirstsOf, IsTold, LeavesGoals, generated_of};
+
+use crate::agreeing::{agree_at, has_value};
+use crate::asking::{Question, generated_moves};
+use conf_doc::Config;
+use host_core::Memory;
+use move_core::{Boxes, Ctx, Generated, Kit};
+use std::alloc::Global;
+use std::marker::Model;
+
+/// A generated move, and whether it is restoring.
+#[derive(Drop)]
+pub(crate) struct First {
+    pub(crate) generated: Generated,
+    pub(crate) is_restoring: bool,
+}
+
+/// The generated moves at a configuration, each with whether it is restoring. All parts of the list there begin
+/// with them. Contracts see the list of them.
+#[derive(Drop)]
+pub struct Firsts {
+    firsts: Vec<First>,
+}
+
+impl Model for Firsts {
+    ghost use Rattle.std.specs.Prelude.{List};
+    ghost use Rattle.plan_lists.specs.declared.firsts.First.{First as Told};
+
+    ghost Value = { List Told };
+
+    ghost view = { λ fs. fs.firsts.items };
+}
+
+impl Firsts {
+    /// Each of them.
+    pub(crate) fn items(&self) -> &[First]
+        ensures { result.now ≡ self.now }
+    {
+        &self.firsts
+    }
+}
+
+/// The generated moves at a configuration towards goal, each with whether it is restoring: whether start and goal
+/// agree at its place.
+pub fn first_moves(
+    alloc: Global,
+    ctx: &Ctx,
+    kit: &mut Kit,
+    start: &Config,
+    cur: &Config,
+    goal: &Config,
+) -> Result<Firsts, Memory>
+    requires kinds { ⟦<Kit as Boxes>⟧.HasKinds kit.old }
+    requires named { IsNamed ctx.now }
+    requires cur { IsValidIn ctx.now cur.now }
+    requires goal { IsValidIn ctx.now goal.now }
+    ensures kinds { ⟦<Kit as Boxes>⟧.HasKinds kit.new }
+    ensures rules { kit.new.rules ≡ kit.old.rules }
+    ensures firsts { IfOk result (AreFirstsOf (rulebook ctx.now) start.now cur.now goal.now) }
+{
+    let question = Question {
+        ctx,
+        start,
+        cur,
+        goal,
+    };
+    let moves = generated_moves(alloc, &question, kit)?;
+    let firsts = tell_restoring(alloc, start, goal, moves)?;
+    Ok(Firsts { firsts })
+}
+
+/// Whether a generated move is restoring. At a field it leaves what goal has there, so that start alone is looked at.
+fn is_restoring(start: &Config, goal: &Config, generated: &Generated) -> bool
+    requires { LeavesGoals goal.now generated.now }
+    ensures { IsTrue result ↔ IsRestoring start.now goal.now generated.now }
+{
+    if generated.place.len() == 3 {
+        has_value(start, &generated.place, generated.mv.new_part())
+    } else {
+        agree_at(start, goal, &generated.place)
+    }
+}
+
+/// Each generated move with whether it is restoring.
+fn tell_restoring(
+    alloc: Global,
+    start: &Config,
+    goal: &Config,
+    moves: Vec<Generated>,
+) -> Result<Vec<First>, Memory>
+    requires { All (LeavesGoals goal.now) moves.items }
+    ensures told { IfOk result (λ fs. All (IsTold start.now goal.now) fs.items) }
+    ensures same { IfOk result (λ fs. generated_of fs.items ≡ moves.items) }
+{
+    let mut firsts = Vec::new(alloc);
+    for generated in moves {
+        let is_restoring = is_restoring(start, goal, &generated);
+        firsts.push(First {
+            generated,
+            is_restoring,
+        })?;
+    }
+    Ok(firsts)
+}
