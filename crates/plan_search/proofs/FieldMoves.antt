@@ -1,5 +1,6 @@
--- What a move of a field makes of a configuration: the field is as the move says, and each entry stays.
-use Rattle.std.proofs.Common.{◌≡◌, ◌≢◌, ℕ, List, [], ◌∷◌, true, false, cond, not, Option, Some, None, option_map, option_and_then, IsSome, IsSomeAnd, Ordering, Less, Equal, Greater, is_eq, refl, sym, ap, ◌∙◌, subst}
+-- What a move of a field, or of an entry's fields, makes of a configuration: each field is as the move says,
+-- and each entry stays.
+use Rattle.std.proofs.Common.{◌≡◌, ℕ, List, [], ◌∷◌, true, false, cond, not, Option, Some, None, option_map, option_and_then, IsSome, IsSomeAnd, Ordering, Less, Equal, Greater, is_eq, refl, sym, ap, ◌∙◌, subst}
 use Rattle.std.specs.FinMap.Entries.{find-put}
 use Rattle.std.specs.Option.{option_map_or}
 use Rattle.std.specs.Ordering.{eq_by_cmp}
@@ -70,6 +71,16 @@ module _ {A : Type 0} where
     -- what is there is there after a change that keeps it
     find_keeps : IsSomeAnd (find u ps) P → IsSomeAnd (find u (change_part t g ps)) P
     find_keeps has = changed_keeps (find t ps) refl has
+
+  -- what is there is there after another is put
+  put_keeps_some : (u t : List ℕ) (a : A) (ps : List (List ℕ × A))
+      → IsSomeAnd (find u ps) (λ x. Unit {0}) → IsSomeAnd (find u (put t a ps)) (λ x. Unit {0})
+  put_keeps_some u t a ps has =
+      subst (λ o. IsSomeAnd o (λ x. Unit {0})) (sym (find-put name_cmp nat_list_cmp_total u t a ps))
+      (elim (eq_by_cmp name_cmp u t) as (λ b. IsSomeAnd (cond b (Some a) (find u ps)) (λ x. Unit {0})) [
+        | true ↦ tt
+        | false ↦ has
+      ])
 
 -- ---- options
 
@@ -158,3 +169,55 @@ field_in_entry c t k f has =
         → IsSomeAnd o (HasEntry k)
     at None h = absurd cc
     at (Some table) h = in_it (find k table) h
+
+-- ---- an entry with other fields
+
+-- where the entry is there, its fields are those that it is given
+pub fields_after : (c : Config) (t k f : List ℕ) (e : Entry)
+    → HasPlace c (t ∷ k ∷ []) → part_at (with_part c (t ∷ k ∷ []) (Some (part.Entry e))) (t ∷ k ∷ f ∷ []) ≡ option_map part.Value (find f e)
+fields_after c t k f e has =
+    ap (option_and_then of_table) (find_changed t (put k e) c) ∙ at (find t c) has
+  where
+    of_entry : Entry → Option Part
+    of_entry d = option_map part.Value (find f d)
+
+    of_table : Table → Option Part
+    of_table table = option_and_then of_entry (find k table)
+
+    at : (o : Option Table) → IsSome (option_and_then (λ table. option_map part.Entry (find k table)) o)
+        → option_and_then of_table (option_map (put k e) o) ≡ option_map part.Value (find f e)
+    at None h = absurd cc
+    at (Some table) h = ap (option_and_then of_entry) (found_put k e table)
+
+-- the fields of an entry that is there
+pub fields_before : (c : Config) (t k f : List ℕ) (e : Entry)
+    → Some (part.Entry e) ≡ part_at c (t ∷ k ∷ []) → part_at c (t ∷ k ∷ f ∷ []) ≡ option_map part.Value (find f e)
+fields_before c t k f e is = at (find t c) is
+  where
+    of_entry : Entry → Option Part
+    of_entry d = option_map part.Value (find f d)
+
+    in_it : (o : Option Entry) → Some (part.Entry e) ≡ option_map part.Entry o → option_and_then of_entry o ≡ option_map part.Value (find f e)
+    in_it None h = absurd cc
+    in_it (Some d) h = ap of_entry (same_entry d h)
+      where
+        same_entry : (d : Entry) → Some (part.Entry e) ≡ Some (part.Entry d) → d ≡ e
+        same_entry d h = cc
+
+    at : (o : Option Table) → Some (part.Entry e) ≡ option_and_then (λ table. option_map part.Entry (find k table)) o
+        → option_and_then (λ table. option_and_then of_entry (find k table)) o ≡ option_map part.Value (find f e)
+    at None h = absurd cc
+    at (Some table) h = in_it (find k table) h
+
+-- each entry stays where one is given
+pub entry_stays_beside : (c : Config) (t k : List ℕ) (e : Entry) (u j : List ℕ)
+    → HasPlace c (u ∷ j ∷ []) → HasPlace (with_part c (t ∷ k ∷ []) (Some (part.Entry e))) (u ∷ j ∷ [])
+entry_stays_beside c t k e u j has =
+    of_some (λ table. option_map part.Entry (find j table)) (find u (change_part t (put k e) c))
+    (find_keeps (HasEntry j) u t (put k e) put_stays c
+    (some_of (λ table. option_map part.Entry (find j table)) (find u c) has))
+  where
+    put_stays : (table : Table) → HasEntry j table → HasEntry j (put k e table)
+    put_stays table h =
+        mapped_some part.Entry (find j (put k e table))
+        (put_keeps_some j k e table (some_mapped part.Entry (find j table) h))

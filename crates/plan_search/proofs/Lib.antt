@@ -13,4 +13,5 @@ pub mod Routes
 pub mod Ruled
 pub mod Same
 pub mod Takings
+pub mod Tops
 pub mod Trails

@@ -1,8 +1,10 @@
--- Why the settings refuse a move of a field.
-use Rattle.std.proofs.Common.{◌≡◌, ℕ, List, [], ◌∷◌, length, slice_get, Option, Some, None, option_map, IsSome, refl, sym, ap, ◌∙◌, subst, arith}
+-- Why the settings refuse a move of a field, or of an entry's fields.
+use Rattle.std.proofs.Common.{◌≡◌, ◌≢◌, ℕ, List, [], ◌∷◌, Option, Some, None, option_map, IsSome, refl, sym, ap, ◌∙◌, subst, arith}
 use Rattle.std.specs.Option.{option_to_list}
 use Rattle.conf_doc.specs.Changes.{part_at, with_part, Fits, HasParent, HasPlace}
+use Rattle.conf_doc.specs.Pairs.{find}
 use Rattle.conf_doc.specs.declared.configuration.Config.{Config}
+use Rattle.conf_doc.specs.declared.configuration.Entry.{Entry}
 use Rattle.conf_doc.specs.declared.configuration.Value.{Value}
 use Rattle.conf_doc.specs.declared.parts.Part.{Part}
 use Rattle.conf_doc.specs.declared.parts.Part.TheVariants as part
@@ -11,8 +13,8 @@ use Rattle.move_core.specs.Moves.{Agree, IsDefined, Place, new_part, place, step
 use Rattle.move_core.specs.declared.moves.Move.{Move}
 use Rattle.move_core.specs.declared.moves.Move.TheVariants.{Add, Remove, Replace}
 use Rattle.move_core.specs.declared.settings.Settings.{Settings}
-use Rattle.plan_search.specs.Refusals.{ChangesPlace, HasUnmetRule, IsCreateOnly, KeepsSettings}
-use Rattle.plan_search.proofs.FieldMoves.{entry_stays, field_after, field_in_entry}
+use Rattle.plan_search.specs.Refusals.{ChangesCreateOnly, ChangesPlace, ChangesUnmet, GivesFields, HasUnmetRule, IsCreateOnly, KeepsSettings}
+use Rattle.plan_search.proofs.FieldMoves.{entry_stays, entry_stays_beside, field_after, field_in_entry, fields_after, fields_before}
 
 no_part : (new : Part) → None ≡ Some new → ⊥
 no_part new e = cc
@@ -20,19 +22,6 @@ no_part new e = cc
 some_part : (o : Option Part) → IsSome o → o ≡ None → ⊥
 some_part None has e = cc
 some_part (Some p) has e = cc
-
--- a place of three names
-pub three_names : (p : Place) (t k f : List ℕ) → length p ≡ 3
-    → slice_get p 0 ≡ Some t → slice_get p 1 ≡ Some k → slice_get p 2 ≡ Some f → p ≡ t ∷ k ∷ f ∷ []
-three_names [] t k f long first second third = absurd (omega arith)
-three_names (a ∷ []) t k f long first second third = absurd (omega arith)
-three_names (a ∷ b ∷ []) t k f long first second third = absurd (omega arith)
-three_names (a ∷ b ∷ c ∷ []) t k f long first second third =
-    λ i. same_Some a t first i ∷ same_Some b k second i ∷ same_Some c f third i ∷ []
-  where
-    same_Some : (x y : List ℕ) → Some x ≡ Some y → x ≡ y
-    same_Some x y e = cc
-three_names (a ∷ b ∷ c ∷ d ∷ ns) t k f long first second third = absurd (omega arith)
 
 module _ (cur : Config) (t k f : List ℕ) where
   -- a move of a field has its entry there
@@ -114,3 +103,62 @@ module _ (cur : Config) (t k f : List ℕ) where
             differs = differs;
           } in
           unmet.lacks.1 (keeps.1 is.rule unmet.named is.listed changed unmet.lacks.0 (stays is.rule.table unmet.named unmet.lacks.0)).0
+
+-- ---- an entry with other fields
+
+module _ (cur : Config) (t k : List ℕ) (m : Move) (old new : Entry)
+    (gives : GivesFields m new) (at : place m ≡ t ∷ k ∷ [])
+    (there : Some (part.Entry old) ≡ part_at cur (t ∷ k ∷ [])) where
+  abbrev after : Config
+  after = with_part cur (t ∷ k ∷ []) (Some (part.Entry new))
+
+  steps : step cur m ≡ after
+  steps =
+      ap (λ p. with_part cur p (new_part m)) at
+      ∙ ap (λ x. with_part cur (t ∷ k ∷ []) (new_part x)) gives.is
+
+  has_entry : HasPlace cur (t ∷ k ∷ [])
+  has_entry = subst IsSome there refl
+
+  stays_beside : (u j : List ℕ) → HasPlace cur (u ∷ j ∷ []) → HasPlace (step cur m) (u ∷ j ∷ [])
+  stays_beside u j has =
+      subst (λ c. HasPlace c (u ∷ j ∷ [])) (sym steps) (entry_stays_beside cur t k new u j has)
+
+  mapped_apart : (a b : Option Value) → option_map part.Value a ≡ option_map part.Value b → a ≡ b
+  mapped_apart None None e = refl
+  mapped_apart None (Some y) e = absurd cc
+  mapped_apart (Some x) None e = absurd cc
+  mapped_apart (Some x) (Some y) e = cc
+
+  field_differs : (f : List ℕ) → find f old ≢ find f new → ¬ Agree cur (step cur m) (t ∷ k ∷ f ∷ [])
+  field_differs f other agree =
+      other (mapped_apart (find f old) (find f new)
+      (sym (fields_before cur t k f old there) ∙ agree ∙ ap (λ c. part_at c (t ∷ k ∷ f ∷ [])) steps
+      ∙ fields_after cur t k f new has_entry))
+
+  module _ (settings : Settings) where
+    pub by_changed_create_only : ChangesCreateOnly settings old new t → ¬ KeepsSettings settings cur m
+    by_changed_create_only is keeps =
+        field_differs is.rule.field is.differ
+        (subst (λ u. Agree cur (step cur m) (u ∷ k ∷ is.rule.field ∷ [])) is.table
+        (keeps.0 is.rule k is.listed before (stays_beside is.rule.table k before)))
+      where
+        before : HasPlace cur (is.rule.table ∷ k ∷ [])
+        before = subst (λ u. HasPlace cur (u ∷ k ∷ [])) (sym is.table) has_entry
+
+    pub by_changed_unmet : ChangesUnmet settings cur old new t k → ¬ KeepsSettings settings cur m
+    by_changed_unmet is keeps =
+        let unmet = is.unmet.unmet in
+        let f = unmet.changed.field in
+        let changed : ChangesFor is.rule unmet.named cur (step cur m) = record {
+          at = t ∷ k ∷ f ∷ [];
+          requires = record {
+            requiring = is.unmet.requiring;
+            listed = is.unmet.listed;
+            key = k;
+            part = unmet.part;
+            is = sym (λ i. unmet.changed.here.0 i ∷ k ∷ option_to_list (unmet.changed.here.1 i));
+          };
+          differs = field_differs f unmet.changed.differ;
+        } in
+        unmet.lacks.1 (keeps.1 is.rule unmet.named is.listed changed unmet.lacks.0 (stays_beside is.rule.table unmet.named unmet.lacks.0)).0

@@ -42,12 +42,15 @@ move_problem ctx start goal =
 
 -- ---- parts
 
+-- the part by what is known of the tier and of the number of extensions
+abbrev part_by : ℕ → ℕ → Bool → Bool → Bool → ℕ
+part_by t d one two near = if one then t else if two then (if near then 1 + d else 5) else t + 3
+
 -- a chain of the part 0 has the tier 0
 first_tier : (t d : ℕ) → IsTrue (nat_le (part_at t d) 0) → IsTrue (nat_le t 0)
 first_tier t d le = by (nat_le t 1) (nat_le t 2) (nat_le d 3) le
   where
-    by : (a b c : Bool) → IsTrue (nat_le (if a then t else if b then (if c then 1 + d else 5) else t + 3) 0)
-        → IsTrue (nat_le t 0)
+    by : (a b c : Bool) → IsTrue (nat_le (part_by t d a b c) 0) → IsTrue (nat_le t 0)
     by true b c h = h
     by false true true h = grind (arith, nat_tests)
     by false true false h = absurd (true≢false (sym h))
@@ -75,7 +78,7 @@ few : (t d : ℕ) → IsTrue (nat_le t 4) → IsTrue (nat_le (part_at t d) part_
 few t d le = by (nat_le t 1) (nat_le t 2) (nat_le d 3) refl refl
   where
     by : (a b c : Bool) → nat_le t 1 ≡ a → nat_le d 3 ≡ c
-        → IsTrue (nat_le (if a then t else if b then (if c then 1 + d else 5) else t + 3) part_count)
+        → IsTrue (nat_le (part_by t d a b c) part_count)
     by true b c low near = grind (arith, nat_tests)
     by false true true low near = grind (arith, nat_tests)
     by false true false low near = refl

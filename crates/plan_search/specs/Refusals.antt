@@ -1,12 +1,16 @@
--- What tells that a move of a field isn't allowed before its result is made.
-use Rattle.std.specs.Prelude.{◌≡◌, ℕ, List, ◌∷◌, [], Some, Contains, slice_get}
+-- What tells that a move of a field or of an entry's fields isn't allowed, before its result is made.
+use Rattle.std.specs.Prelude.{◌≡◌, ◌≢◌, ℕ, List, Some, Contains, slice_get}
 use Rattle.conf_doc.specs.Changes.{HasPlace}
+use Rattle.conf_doc.specs.Pairs.{find}
 use Rattle.conf_doc.specs.declared.configuration.Config.{Config}
+use Rattle.conf_doc.specs.declared.configuration.Entry.{Entry}
+use Rattle.conf_doc.specs.declared.parts.Part.TheVariants as part
 use Rattle.key_split.specs.Key.{key_parts}
 use Rattle.move_core.specs.Extensions.{HasRequired, rule_entry}
 use Rattle.move_core.specs.Moves.{Agree, Place, place, step}
 use Rattle.move_core.specs.Rules.{KeepsCreateOnly, KeepsRequired}
 use Rattle.move_core.specs.declared.moves.Move.{Move}
+use Rattle.move_core.specs.declared.moves.Move.TheVariants.{Replace}
 use Rattle.move_core.specs.declared.settings.CreateOnly.{CreateOnly}
 use Rattle.move_core.specs.declared.settings.Required.{Required}
 use Rattle.move_core.specs.declared.settings.Requiring.{Requiring}
@@ -54,3 +58,45 @@ pub record HasUnmetRule (settings : Settings) (cur : Config) (t key f : List ℕ
   pub rule : Required
   pub listed : Contains settings.required rule
   pub unmet : HasUnmet rule cur t key f
+
+-- ---- the fields of an entry
+
+-- the move puts an entry with these fields in the place of one
+pub record GivesFields (m : Move) (new : Entry) : Type 0 where
+  pub at : Place
+  pub is : m ≡ Replace at (part.Entry new)
+
+-- entries of a table differ in a create-only field
+pub record ChangesCreateOnly (settings : Settings) (old new : Entry) (t : List ℕ) : Type 0 where
+  pub rule : CreateOnly
+  pub listed : Contains settings.create_only rule
+  pub table : rule.table ≡ t
+  pub differ : find rule.field old ≢ find rule.field new
+
+-- the place is a field in which entries of the table differ
+pub record IsChanged (old new : Entry) (t : List ℕ) (q : Requiring) : Type 0 where
+  pub field : List ℕ
+  pub here : IsForField q t field
+  pub differ : find field old ≢ find field new
+
+-- it is, and at the entry's key what it requires isn't there
+pub record IsUnmetChange
+    (r : Required) (cur : Config) (old new : Entry) (t key : List ℕ) (q : Requiring) : Type 0 where
+  pub changed : IsChanged old new t q
+  pub named : List ℕ
+  pub part : slice_get (key_parts key) q.part ≡ Some named
+  pub lacks : LacksRequired r named cur
+
+-- a requiring place of the rule is so
+pub record HasUnmetChange (r : Required) (cur : Config) (old new : Entry) (t key : List ℕ)
+    : Type 0 where
+  pub requiring : Requiring
+  pub listed : Contains r.requiring requiring
+  pub unmet : IsUnmetChange r cur old new t key requiring
+
+-- that of some rule
+pub record ChangesUnmet (settings : Settings) (cur : Config) (old new : Entry) (t key : List ℕ)
+    : Type 0 where
+  pub rule : Required
+  pub listed : Contains settings.required rule
+  pub unmet : HasUnmetChange rule cur old new t key

@@ -20,6 +20,10 @@ spot f = record { config = f.config; parts = f.parts; rest = reverse f.rest.item
 abbrev pub spots : Stack → List Spot
 spots s = map spot (reverse s.frames.items)
 
+-- these configurations alone
+abbrev pub configs_of : List Spot → List Config
+configs_of ss = map (λ s. s.config) ss
+
 -- the moves that lead to them
 abbrev pub taken : Stack → List Move
 taken s = reverse s.moves.items
@@ -39,6 +43,10 @@ OfTop P (s ∷ ss) = P s
 -- it is this one
 abbrev pub IsTop : List Spot → Config → Type 0
 IsTop ss c = OfTop (λ s. s.config ≡ c) ss
+
+-- something holds of it and a value
+abbrev pub AtTop : {X : Type 0} → (Config → X → Type 0) → List Spot → X → Type 0
+AtTop P ss x = OfTop (λ s. P s.config x) ss
 
 -- no move of its part is left there
 abbrev pub IsSpent : List Spot → Type 0

@@ -1,10 +1,11 @@
-//! What the settings refuse of a move of a field, told before the move's result is made.
-ghost use Rattle.std.specs.Prelude.{◌≡◌, ◌↔◌, [], ◌∷◌, IsTrue, option_map};
+//! What the settings refuse of a move of a field or of an entry's fields, told before the move's result is made.
+ghost use Rattle.std.specs.Prelude.{◌≡◌, ◌≢◌, ◌↔◌, [], ◌∷◌, IfSome, IsTrue, option_map};
 ghost use Rattle.conf_doc.specs.Changes.{part_at};
 ghost use Rattle.conf_doc.specs.declared.parts.Part.TheVariants as part;
 ghost use Rattle.move_core.specs.Extensions.{HasRequired};
 ghost use Rattle.move_core.specs.Moves.{IsDefined, place};
-ghost use Rattle.plan_search.specs.Refusals.{ChangesPlace, HasUnmet, HasUnmetRule, IsCreateOnly, IsForField, IsUnmet, KeepsSettings, LacksRequired};
+ghost use Rattle.conf_doc.specs.Pairs.{find};
+ghost use Rattle.plan_search.specs.Refusals.{ChangesCreateOnly, ChangesPlace, ChangesUnmet, GivesFields, HasUnmet, HasUnmetChange, HasUnmetRule, IsChanged, IsCreateOnly, IsForField, IsUnmet, IsUnmetChange, KeepsSettings, LacksRequired};
 
 use conf_doc::{Config, Entry, Part, Value};
 use key_split::KeyView;
@@ -32,6 +33,17 @@ fn value_at<'c>(config: &'c Config, table: &str, key: &str, field: &str) -> Opti
             None => None,
         },
         None => None,
+    }
+}
+
+/// Whether two configurations differ at an entry.
+pub(crate) fn changes_entry(a: &Config, b: &Config, table: &str, key: &str) -> bool
+    ensures { IsTrue result → a.now ≢ b.now }
+{
+    match (entry_at(a, table, key), entry_at(b, table, key)) {
+        (Some(a), Some(b)) => !a.same(b),
+        (None, None) => false,
+        _ => true,
     }
 }
 
@@ -144,19 +156,160 @@ fn changes_field(cur: &Config, mv: &Move, table: &str, key: &str, field: &str) -
     }
 }
 
+/// Whether the settings refuse a move of a field for certain: the field is create-only, or requires a value which
+/// isn't there, and the move changes it.
+fn is_field_refused(
+    settings: &Settings,
+    cur: &Config,
+    mv: &Move,
+    table: &str,
+    key: &str,
+    field: &str,
+) -> bool
+    requires defined { IsDefined cur.now mv.now }
+    requires place { place mv.now ≡ table.now ∷ key.now ∷ field.now ∷ [] }
+    ensures { IsTrue result → ¬ KeepsSettings settings.now cur.now mv.now }
+{
+    (is_create_only(settings, table, field) || has_unmet_rule(settings, cur, table, key, field))
+        && changes_field(cur, mv, table, key, field)
+}
+
+/// Whether two values of a field are the same, or it is absent in both entries.
+fn is_same_field(old: &Entry, new: &Entry, field: &str) -> bool
+    ensures { IsTrue result ↔ (find field.now old.now ≡ find field.now new.now) }
+{
+    match (old.field(field), new.field(field)) {
+        (Some(old), Some(new)) => old.same(new),
+        (None, None) => true,
+        _ => false,
+    }
+}
+
+/// Whether entries of a table differ in a create-only field.
+fn changes_create_only(settings: &Settings, old: &Entry, new: &Entry, table: &str) -> bool
+    ensures { IsTrue result → ChangesCreateOnly settings.now old.now new.now table.now }
+{
+    for rule in settings.create_only.items() {
+        if rule.table.as_str() == table && !is_same_field(old, new, rule.field.as_str()) {
+            return true;
+        }
+    }
+    false
+}
+
+/// Whether a requiring place is a field in which entries of a table differ.
+fn is_changed(requiring: &Requiring, old: &Entry, new: &Entry, table: &str) -> bool
+    ensures { IsTrue result → IsChanged old.now new.now table.now requiring.now }
+{
+    match &requiring.field {
+        Some(field) => {
+            requiring.table.as_str() == table && !is_same_field(old, new, field.as_str())
+        }
+        None => false,
+    }
+}
+
+/// Whether it is, and what it requires isn't there.
+fn is_unmet_change(
+    rule: &Required,
+    requiring: &Requiring,
+    cur: &Config,
+    old: &Entry,
+    new: &Entry,
+    table: &str,
+    key: &str,
+) -> bool
+    ensures { let Unmet = IsUnmetChange rule.now cur.now old.now new.now table.now key.now in
+        IsTrue result → Unmet requiring.now }
+{
+    if !is_changed(requiring, old, new, table) {
+        return false;
+    }
+    match KeyView::new(key).part(requiring.part as usize) {
+        Some(named) => lacks_required(rule, named, cur),
+        None => false,
+    }
+}
+
+/// Whether that is so of a requiring place of a rule.
+fn has_unmet_change(
+    rule: &Required,
+    cur: &Config,
+    old: &Entry,
+    new: &Entry,
+    table: &str,
+    key: &str,
+) -> bool
+    ensures { IsTrue result → HasUnmetChange rule.now cur.now old.now new.now table.now key.now }
+{
+    for requiring in rule.requiring.items() {
+        if is_unmet_change(rule, requiring, cur, old, new, table, key) {
+            return true;
+        }
+    }
+    false
+}
+
+/// Whether it is of some rule.
+fn changes_unmet(
+    settings: &Settings,
+    cur: &Config,
+    old: &Entry,
+    new: &Entry,
+    table: &str,
+    key: &str,
+) -> bool
+    ensures { IsTrue result → ChangesUnmet settings.now cur.now old.now new.now table.now key.now }
+{
+    for rule in settings.required.items() {
+        if has_unmet_change(rule, cur, old, new, table, key) {
+            return true;
+        }
+    }
+    false
+}
+
+/// The entry that a move puts in the place of one.
+fn new_fields(mv: &Move) -> Option<&Entry>
+    ensures { IfSome result (λ new. GivesFields mv.now new.now) }
+{
+    match mv {
+        Move::Replace(_, Part::Entry(new)) => Some(new),
+        _ => None,
+    }
+}
+
+/// Whether the settings refuse for certain that a move gives an entry other fields.
+fn is_entry_refused(settings: &Settings, cur: &Config, mv: &Move, table: &str, key: &str) -> bool
+    requires { place mv.now ≡ table.now ∷ key.now ∷ [] }
+    ensures { IsTrue result → ¬ KeepsSettings settings.now cur.now mv.now }
+{
+    let Some(new) = new_fields(mv) else {
+        return false;
+    };
+    match entry_at(cur, table, key) {
+        Some(old) => {
+            changes_create_only(settings, old, new, table)
+                || changes_unmet(settings, cur, old, new, table, key)
+        }
+        None => false,
+    }
+}
+
 /// Whether the settings refuse a move for certain: it changes a field that is create-only, or one that
-/// requires a value which isn't there. Of a move of a table or an entry it doesn't know.
+/// requires a value which isn't there. Of a move of a table it doesn't know, nor of an entry that comes or goes.
 pub(crate) fn is_refused(settings: &Settings, cur: &Config, mv: &Move) -> bool
     requires { IsDefined cur.now mv.now }
     ensures { IsTrue result → ¬ KeepsSettings settings.now cur.now mv.now }
 {
     let place = mv.place();
-    if place.len() != 3 {
-        return false;
+    match place.len() {
+        2 => is_entry_refused(settings, cur, mv, place.name_at(0), place.name_at(1)),
+        3 => {
+            let table = place.name_at(0);
+            let key = place.name_at(1);
+            is_field_refused(settings, cur, mv, table, key, place.name_at(2))
+        }
+        _ => false,
     }
-    let table = place.name_at(0);
-    let key = place.name_at(1);
-    let field = place.name_at(2);
-    (is_create_only(settings, table, field) || has_unmet_rule(settings, cur, table, key, field))
-        && changes_field(cur, mv, table, key, field)
 }

@@ -1,11 +1,14 @@
 //! What a search asks: the moves at a configuration, part by part, and whether one is allowed.
-ghost use Rattle.std.specs.Prelude.{◌≡◌, ◌<◌, IfOk, MatchOption};
+ghost use Rattle.std.specs.Prelude.{◌≡◌, ◌<◌, List, IfOk, MatchOption};
+ghost use Rattle.conf_doc.specs.declared.configuration.Config.{Config as Configuration};
 ghost use Rattle.move_core.specs.Moves.{step};
+ghost use Rattle.plan_lists.specs.declared.firsts.First.{First};
 ghost use Rattle.plan_search.specs.Problems.{Problem, IsLawful, IsPart, part_count};
 
 use conf_doc::Config;
 use host_core::Memory;
 use move_core::Move;
+use plan_lists::Firsts;
 use std::alloc::Global;
 
 /// Into how many parts the list at a configuration is divided.
@@ -22,6 +25,9 @@ pub(crate) trait Expanding {
     /// The kit can be asked.
     ghost is_ready: { Self → Self.Kit → Type 0 };
 
+    /// What the parts of the list at a configuration are made from.
+    ghost are_firsts: { Self → Configuration → List First → Type 0 };
+
     /// Where the search begins.
     fn start(&self) -> &Config
         ensures { result.now ≡ (problem self.now).start };
@@ -30,16 +36,25 @@ pub(crate) trait Expanding {
     fn goal(&self) -> &Config
         ensures { result.now ≡ (problem self.now).goal };
 
+    /// What the parts of the list at a configuration are made from.
+    fn firsts(&self, alloc: Global, kit: &mut Self::Kit, cur: &Config) -> Result<Firsts, Memory>
+        requires ready { is_ready self.now kit.old }
+        requires fit { (problem self.now).IsFit cur.now }
+        ensures ready { is_ready self.now kit.new }
+        ensures firsts { IfOk result (are_firsts self.now cur.now) };
+
     /// The part of the list that follows that many: its moves, in the order in which they are tried.
     fn list(
         &self,
         alloc: Global,
         kit: &mut Self::Kit,
         cur: &Config,
+        firsts: &Firsts,
         part: u8,
     ) -> Result<Vec<Move>, Memory>
         requires ready { is_ready self.now kit.old }
         requires fit { (problem self.now).IsFit cur.now }
+        requires firsts { are_firsts self.now cur.now firsts.now }
         requires part { part < part_count }
         ensures ready { is_ready self.now kit.new }
         ensures part { IfOk result (λ ms. IsPart (problem self.now) cur.now part ms.items) };

@@ -1,11 +1,12 @@
 //! The search for a plan: the moves come from a kit.
-ghost use Rattle.std.specs.Prelude.{◌≡◌, ◌+◌, ◌<◌, length};
+ghost use Rattle.std.specs.Prelude.{◌≡◌, ◌↔◌, ◌+◌, ◌<◌, length, IsTrue};
 ghost use Rattle.move_core.specs.Contexts.{IsNamed, IsValidIn, rulebook};
 ghost use Rattle.move_core.specs.Kinds.{AreBefore, AreOfKinds, extender_kinds, generator_kinds, rule_kinds};
+ghost use Rattle.plan_lists.specs.Firsts.{AreFirstsOf};
 ghost use Rattle.plan_search.specs.Kits.{move_problem, moves_lawful};
 ghost use Rattle.plan_search.specs.Searches.{IsSearchAnswer};
 
-use crate::early_refusals::is_refused;
+use crate::early_refusals::{changes_entry, is_refused};
 use crate::expanding::Expanding;
 use crate::rules::keep_rules;
 use crate::searching::find_plan;
@@ -15,7 +16,7 @@ use host_core::Memory;
 use move_core::{
     Boxes, Ctx, Kit, Move, MoveExt, MoveGen, MoveRule, Plan, listed_moves_are_defined, step,
 };
-use plan_lists::listed_in_part;
+use plan_lists::{Firsts, first_moves, listed_in_part};
 use std::alloc::Global;
 use std::marker::PhantomData;
 use std::sync::ledger::Ledger;
@@ -44,6 +45,9 @@ impl<'a> Expanding for KitMoves<'a> {
         × AreBefore (length rule_kinds) (λ b. (MoveRule-box b).fits b.value s.ctx.now.models)
         kit.rules.items };
 
+    ghost are_firsts = { λ s cur fs.
+        AreFirstsOf (rulebook s.ctx.now) s.start.now cur s.goal.now fs };
+
     ghost lawful = { λ s. moves_lawful s.ctx.now s.start.now s.goal.now };
 
     fn start(&self) -> &Config
@@ -58,14 +62,28 @@ impl<'a> Expanding for KitMoves<'a> {
         self.goal
     }
 
+    fn firsts(&self, alloc: Global, kit: &mut Kit, cur: &Config) -> Result<Firsts, Memory> {
+        first_moves(alloc, self.ctx, kit, self.start, cur, self.goal)
+    }
+
     fn list(
         &self,
         alloc: Global,
         kit: &mut Kit,
         cur: &Config,
+        firsts: &Firsts,
         part: u8,
     ) -> Result<Vec<Move>, Memory> {
-        listed_in_part(alloc, self.ctx, kit, self.start, cur, self.goal, part + 1)
+        listed_in_part(
+            alloc,
+            self.ctx,
+            kit,
+            self.start,
+            cur,
+            self.goal,
+            firsts,
+            part + 1,
+        )
     }
 
     fn try_move(
@@ -81,12 +99,24 @@ impl<'a> Expanding for KitMoves<'a> {
             return Ok(None);
         }
         let next = step(alloc, cur, mv)?;
-        if !keep_rules(self.ctx, kit, cur, &next, self.goal, mv) || next.same(cur) {
+        if !keep_rules(self.ctx, kit, cur, &next, self.goal, mv) || is_same(cur, &next, mv) {
             Ok(None)
         } else {
             Ok(Some(next))
         }
     }
+}
+
+/// Whether a configuration is the one that a move leads to from it. They are compared as a whole only where the
+/// move's entry is the same in both.
+fn is_same(cur: &Config, next: &Config, mv: &Move) -> bool
+    ensures { IsTrue result ↔ (next.now ≡ cur.now) }
+{
+    let place = mv.place();
+    if place.len() > 1 && changes_entry(cur, next, place.name_at(0), place.name_at(1)) {
+        return false;
+    }
+    next.same(cur)
 }
 
 /// The first plan from start to goal, by the moves and rules of the kit. Fewer than budget configurations

@@ -6,7 +6,8 @@ ghost use Rattle.move_core.specs.Plans.{KeepsRules};
 use conf_doc::Config;
 use move_core::{Boxes, Ctx, Kit, Move};
 
-/// Asks the rules, the full one last: it looks at the whole configuration.
+/// Asks the rules: those that look at the move's table alone first, then the full one, and last the one that seldom
+/// refuses what the full one lets pass.
 pub(crate) fn keep_rules(
     ctx: &Ctx,
     kit: &mut Kit,
@@ -33,8 +34,8 @@ pub(crate) fn keep_rules(
     if !kit.allows_at(2, ctx, cur, next, goal, mv) {
         return false;
     }
-    if !kit.allows_at(1, ctx, cur, next, goal, mv) {
+    if !kit.allows_at(0, ctx, cur, next, goal, mv) {
         return false;
     }
-    kit.allows_at(0, ctx, cur, next, goal, mv)
+    kit.allows_at(1, ctx, cur, next, goal, mv)
 }

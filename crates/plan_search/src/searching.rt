@@ -1,9 +1,9 @@
 //! The search: depth first over the lists of moves, with no configuration expanded twice.
-ghost use Rattle.std.specs.Prelude.{◌≡◌, ◌+◌, ◌<◌, ◌≤◌, [], ◌∷◌, ◌++◌, length, reverse, Err, IfErr, IfOk, OnOk, MatchOption, MatchResult, IfNone};
+ghost use Rattle.std.specs.Prelude.{◌≡◌, ◌+◌, ◌<◌, ◌≤◌, [], ◌∷◌, ◌++◌, length, reverse, Err, IfErr, IfOk, IfSome, OnOk, MatchOption, MatchResult, IfNone};
 ghost use Rattle.std.specs.List.{Contains};
 ghost use Rattle.plan_search.specs.Answers.{IsAnswer};
 ghost use Rattle.plan_search.specs.Searching.{AreAsked, AreMet, IsFound, IsPassed, IsStillUnderWay, IsTrying, IsUnderWay, LeadsToNew, weight};
-ghost use Rattle.plan_search.specs.Stacks.{IsSpent, new_spot, spots, taken};
+ghost use Rattle.plan_search.specs.Stacks.{AtTop, IsSpent, configs_of, new_spot, spots, taken};
 
 use crate::expanding::{Expanding, PART_COUNT};
 use crate::met_set::Met;
@@ -12,6 +12,7 @@ use crate::{SearchError, Steps};
 use conf_doc::Config;
 use host_core::{Memory, Sequence};
 use move_core::{Move, Plan};
+use plan_lists::Firsts;
 use std::alloc::Global;
 use std::sync::ledger::Ledger;
 
@@ -75,6 +76,7 @@ fn try_rest<S: Expanding>(
         (IsFound (S.problem source.now) met.old met.new (spots stack.new) (taken stack.new))) }
     ensures spent { IfOk result (λ found. IfNone found (IsSpent (spots stack.new))) }
     ensures parts { weight (spots stack.new) ≡ weight (spots stack.old) }
+    ensures configs { configs_of (spots stack.new) ≡ configs_of (spots stack.old) }
 {
     while let Some(mv) = stack.take_at_top() {
         if let Some(found) = try_one(alloc, source, kit, met, stack, mv)? {
@@ -84,27 +86,55 @@ fn try_rest<S: Expanding>(
     Ok(None)
 }
 
-/// Makes one more part of the last configuration's list, or drops the configuration where all are made.
+/// What the parts at the last configuration are made from: as it is kept, or made where nothing is.
+fn firsts_at_top<S: Expanding>(
+    alloc: Global,
+    source: &S,
+    kit: &mut S::Kit,
+    stack: &Stack,
+    kept: Option<Firsts>,
+) -> Result<Firsts, Memory>
+    requires ready { S.is_ready source.now kit.old }
+    requires asked { AreAsked (S.problem source.now) (spots stack.now) }
+    requires some { 0 < length (spots stack.now) }
+    requires kept { IfSome kept (AtTop (S.are_firsts source.now) (spots stack.now)) }
+    ensures ready { S.is_ready source.now kit.new }
+    ensures firsts { IfOk result (AtTop (S.are_firsts source.now) (spots stack.now)) }
+{
+    match kept {
+        Some(firsts) => Ok(firsts),
+        None => source.firsts(alloc, kit, stack.top()),
+    }
+}
+
+/// Makes one more part of the last configuration's list, or drops the configuration where all are made. What
+/// its parts are made from is kept while it is the last.
 fn pass_on<S: Expanding>(
     alloc: Global,
     source: &S,
     kit: &mut S::Kit,
     stack: &mut Stack,
+    kept: &mut Option<Firsts>,
 ) -> Result<(), Memory>
     requires ready { S.is_ready source.now kit.old }
     requires asked { AreAsked (S.problem source.now) (spots stack.old) }
     requires some { 0 < length (spots stack.old) }
+    requires kept { IfSome kept.old (AtTop (S.are_firsts source.now) (spots stack.old)) }
     ensures ready { S.is_ready source.now kit.new }
     ensures passed { OnOk result (IsPassed (S.problem source.now)
         (spots stack.old) (taken stack.old) (spots stack.new) (taken stack.new)) }
     ensures nearer { OnOk result (weight (spots stack.new) < weight (spots stack.old)) }
+    ensures kept { IfSome kept.new (AtTop (S.are_firsts source.now) (spots stack.new)) }
 {
     let parts = stack.parts();
     if parts < PART_COUNT {
-        let moves = source.list(alloc, kit, stack.top(), parts)?;
+        let firsts = firsts_at_top(alloc, source, kit, stack, kept.take())?;
+        let moves = source.list(alloc, kit, stack.top(), &firsts, parts)?;
         stack.refill(moves);
+        *kept = Some(firsts);
     } else {
         stack.drop_top();
+        *kept = None;
     }
     Ok(())
 }
@@ -123,10 +153,11 @@ fn find_new<S: Expanding>(
     ensures found { IfOk result
         (IsFound (S.problem source.now) met.old met.new (spots stack.new) (taken stack.new)) }
 {
+    let mut kept = None;
     while !stack.is_empty() {
         match try_rest(alloc, source, kit, met, stack)? {
             Some(found) => return Ok(found),
-            None => pass_on(alloc, source, kit, stack)?,
+            None => pass_on(alloc, source, kit, stack, &mut kept)?,
         }
     }
     Ok(Found::Nothing)

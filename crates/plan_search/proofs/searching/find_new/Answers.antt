@@ -2,6 +2,7 @@ use Rattle.std.proofs.Common.{sym, subst, ◌∙◌}
 use Rattle.plan_search.specs.Searching.{IsUnderWay}
 use Rattle.plan_search.specs.Stacks.{spots, taken}
 use Rattle.plan_search.proofs.Takings.{passed_on}
+use Rattle.plan_search.proofs.Tops.{kept_same}
 use Rattle.plan_search.proofs.searching.find_new.Goals as goal
 
 pub loop-alloc-preserved : goal.loop-alloc-preserved
@@ -17,4 +18,10 @@ loop-alloc-preserved g c =
           (passed_on p c.loop-alloc.met (spots c.try_rest.new.stack) (spots c.pass_on.new.stack)
           (taken c.try_rest.new.stack) (taken c.pass_on.new.stack) (g.met.S.Expanding.lawful c.args.source.now)
           spent c.in_ok-pass_on-in-None.ensures.passed still.1);
+      kept = c.pass_on.ensures.kept;
     }
+
+pub pass_on-requires-clause-kept : goal.pass_on-requires-clause-kept
+pass_on-requires-clause-kept g c =
+    kept_same (g.S.Expanding.are_firsts c.args.source.now) (spots c.loop-alloc.stack) (spots c.try_rest.new.stack) c.loop-alloc.kept
+    c.try_rest.ensures.configs c.loop-alloc.invariant.kept

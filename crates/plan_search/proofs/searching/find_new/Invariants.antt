@@ -1,14 +1,15 @@
-use Rattle.std.proofs.Common.{◌≡◌}
+use Rattle.std.proofs.Common.{◌≡◌, IfSome}
 use Rattle.plan_search.specs.Searching.{IsUnderWay, weight}
-use Rattle.plan_search.specs.Stacks.{spots, taken}
+use Rattle.plan_search.specs.Stacks.{AtTop, spots, taken}
 use Rattle.plan_search.proofs.searching.find_new.Given as goal
 
--- the search is under way as before, and the kit can be asked
+-- the search is under way as before, the kit can be asked, and what is kept is of the last configuration
 abbrev pub invariant-loop-alloc : goal.invariant-loop-alloc
 invariant-loop-alloc g l = record {
   ready : g.S.Expanding.is_ready l.fn.source l.kit;
   same : l.met ≡ l.fn.met;
   way : IsUnderWay (g.S.Expanding.problem l.fn.source) l.met (spots l.stack) (taken l.stack);
+  kept : IfSome l.kept (AtTop (g.S.Expanding.are_firsts l.fn.source) (spots l.stack));
 }
 
 abbrev pub decreases-loop-alloc : goal.decreases-loop-alloc

@@ -132,14 +132,5 @@ returns-in-Err-expand-clause-steps g c =
     let steps = c.loop-stack.invariant.steps in
     omega (arith, more, below, len, other, step, steps)
 
-pub array_drop-mv-requires : goal.array_drop-mv-requires
-array_drop-mv-requires g c = omega arith
-
-pub array_drop-mv-requires-then-len-budget-2 : goal.array_drop-mv-requires-then-len-budget-2
-array_drop-mv-requires-then-len-budget-2 g c = omega arith
-
-pub array_drop-mv-requires-then-len-budget-3 : goal.array_drop-mv-requires-then-len-budget-3
-array_drop-mv-requires-then-len-budget-3 g c = omega arith
-
 pub same-next : goal.same-next
 same-next g c = refl

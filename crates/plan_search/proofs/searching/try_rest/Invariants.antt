@@ -1,6 +1,6 @@
 use Rattle.std.proofs.Common.{◌≡◌, ◌<◌, length}
 use Rattle.plan_search.specs.Searching.{IsUnderWay, weight}
-use Rattle.plan_search.specs.Stacks.{rest_length, spots, taken}
+use Rattle.plan_search.specs.Stacks.{configs_of, rest_length, spots, taken}
 use Rattle.plan_search.proofs.searching.try_rest.Given as goal
 
 -- the search is under way as before, and the kit can be asked
@@ -11,6 +11,7 @@ invariant-loop-mv g l = record {
   way : IsUnderWay (g.S.Expanding.problem l.fn.source) l.met (spots l.stack) (taken l.stack);
   some : 0 < length (spots l.stack);
   parts : weight (spots l.stack) ≡ weight (spots l.fn.stack);
+  configs : configs_of (spots l.stack) ≡ configs_of (spots l.fn.stack);
 }
 
 abbrev pub decreases-loop-mv : goal.decreases-loop-mv
