@@ -17,8 +17,8 @@ use std::cell::Cell;
 use std::rc::Rc;
 
 /// A row has a situation, how many configurations a search from `cur` to `goal` has `expanded`, and how
-/// often it has `asked` each rule, in the order of their numbers. The rule that looks at the whole
-/// configuration is asked last, where all others have said yes.
+/// often it has `asked` each rule, in the order of their numbers. A rule is asked where all have said yes that the
+/// search asks before it.
 #[derive(Drop)]
 pub struct Counts<'a> {
     /// The models and the rules of the rows.

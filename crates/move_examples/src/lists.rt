@@ -9,7 +9,7 @@ use crate::ranks::ranked_at;
 use crate::situations::{Situation, situation_at};
 use example_rows::{Fail, Table, items_at, number_at, text_bytes};
 use move_core::{Boxes, Kit, Move, Ranked};
-use plan_lists::{listed, listed_in_part};
+use plan_lists::{first_moves, listed, listed_in_part};
 use serde_json::Value;
 use std::alloc::Global;
 
@@ -69,7 +69,8 @@ fn is_part(
         cur,
         goal,
     } = situation;
-    let moves = listed_in_part(alloc, ctx, kit, start, cur, goal, part)?;
+    let firsts = first_moves(alloc, ctx, kit, start, cur, goal)?;
+    let moves = listed_in_part(alloc, ctx, kit, start, cur, goal, &firsts, part)?;
     are_texts(alloc, &moves, said, Some(part))
 }
 
