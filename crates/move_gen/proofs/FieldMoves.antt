@@ -1,16 +1,19 @@
 -- What is given for the fields of the entries that both have is what the third generator gives.
 use Rattle.std.proofs.Common.{◌≡◌, ◌≢◌, ◌↔◌, ℕ, List, [], ◌∷◌, inl, inr, refl, sym, ap, ◌∙◌, subst, arith}
-use Rattle.std.specs.Prelude.{Some, None, IsSome}
+use Rattle.std.specs.Prelude.{Option, Some, None, IsSome, slice_get}
 use Rattle.conf_doc.specs.Changes.{part_at, HasPlace}
 use Rattle.conf_doc.specs.Pairs.{find}
 use Rattle.conf_doc.specs.declared.configuration.Config.{Config}
 use Rattle.conf_doc.specs.declared.configuration.Entry.{Entry}
 use Rattle.conf_doc.specs.declared.configuration.Value.{Value}
+use Rattle.conf_doc.specs.declared.parts.Part.{Part}
 use Rattle.conf_doc.specs.declared.parts.Part.TheVariants as part
 use Rattle.move_core.specs.Generated.{IsFieldMove, IsFromFields, field_class}
 use Rattle.move_core.specs.declared.moves.Generated.{Generated}
 use Rattle.move_core.specs.declared.moves.Move.{Move}
 use Rattle.move_core.specs.declared.moves.Move.TheVariants.{Add, Remove, Replace}
+use Rattle.move_gen.specs.EntryLaws.{changed_for}
+use Rattle.move_gen.specs.FieldsOfEntry.{IsFieldOf, IsForEntry}
 use Rattle.move_gen.specs.Given.{IsChangedEntry, IsOfFields, IsOfTable, IsRemovedField, IsSetField, own_move}
 use Rattle.move_gen.specs.Giving.{IsOfSome}
 use Rattle.move_gen.proofs.Owned.{apart_add, apart_replace, of_its_place, owned}
@@ -138,3 +141,49 @@ module _ (cur goal : Config) where
 
   pub of_fields : (g : Generated) → IsOfSome (IsOfTable (IsChangedEntry cur)) goal g ↔ IsFromFields cur goal g
   of_fields g = (back g, λ is. forth g.mv g (of_its_place g field_class is.1 is.2) is.0)
+
+  -- ---- one entry of both
+
+  same_name : (a b : List ℕ) (o : Option (List ℕ)) → o ≡ Some a → o ≡ Some b → a ≡ b
+  same_name a b o one two = cc
+
+  same_part : (a b : Entry) (o : Option Part) → o ≡ Some (part.Entry a) → o ≡ Some (part.Entry b) → a ≡ b
+  same_part a b o one two = cc
+
+  -- what stands at the place of other names stands at that of the same ones
+  renamed : (c : Config) (t k u l : List ℕ) (e : Entry) → u ≡ t → l ≡ k → part_at c (u ∷ l ∷ []) ≡ Some (part.Entry e) → part_at c (t ∷ k ∷ []) ≡ Some (part.Entry e)
+  renamed c t k u l e one two is =
+      subst (λ n. part_at c (t ∷ n ∷ []) ≡ Some (part.Entry e)) two (subst (λ n. part_at c (n ∷ l ∷ []) ≡ Some (part.Entry e)) one is)
+
+  only_there : (t k : List ℕ) (old new : Entry) (g : Generated) → part_at cur (t ∷ k ∷ []) ≡ Some (part.Entry old) → part_at goal (t ∷ k ∷ []) ≡ Some (part.Entry new)
+      → IsOfSome (IsOfTable (IsChangedEntry cur)) goal g → IsForEntry t k g → IsOfFields t k old new g
+  only_there t k old new g before after h for =
+      subst (λ e. IsOfFields t k old e g) (same_part h.is.part new (part_at goal (t ∷ k ∷ [])) there after)
+      (subst (λ e. IsOfFields t k e h.is.part g) (same_part h.is.is.old old (part_at cur (t ∷ k ∷ [])) here before)
+      (subst (λ n. IsOfFields t n h.is.is.old h.is.part g) two (subst (λ n. IsOfFields n h.is.name h.is.is.old h.is.part g) one h.is.is.is)))
+    where
+      own : IsForEntry h.name h.is.name g
+      own = changed_for cur h.name h.is.name h.is.part g h.is.is
+
+      one : h.name ≡ t
+      one = same_name h.name t (slice_get g.place 0) own.0 for.0
+
+      two : h.is.name ≡ k
+      two = same_name h.is.name k (slice_get g.place 1) own.1 for.1
+
+      here : part_at cur (t ∷ k ∷ []) ≡ Some (part.Entry h.is.is.old)
+      here = renamed cur t k h.name h.is.name h.is.is.old one two h.is.is.there
+
+      there : part_at goal (t ∷ k ∷ []) ≡ Some (part.Entry h.is.part)
+      there = renamed goal t k h.name h.is.name h.is.part one two (there_entry goal h.name h.is.name h.is.part (record { table = h.part; there = h.there; is = h.is.there }))
+
+  -- what is given for the fields of an entry of both is what the generator gives for it
+  pub of_one_entry : (t k : List ℕ) (old new : Entry) (g : Generated) → part_at cur (t ∷ k ∷ []) ≡ Some (part.Entry old) → part_at goal (t ∷ k ∷ []) ≡ Some (part.Entry new)
+      → IsOfFields t k old new g ↔ IsFieldOf cur goal t k g
+  of_one_entry t k old new g before after = (
+    λ is. (
+      fields_back t k old new g (entry_there cur t k old before) (entry_there goal t k new after) is,
+      changed_for cur t k new g (record { old = old; there = before; is = is }),
+    ),
+    λ h. only_there t k old new g before after ((of_fields g).1 h.0) h.1,
+  )

@@ -6,7 +6,8 @@ use Rattle.conf_doc.specs.declared.configuration.Entry.{Entry}
 use Rattle.move_core.specs.Generated.{SaysOfEntry}
 use Rattle.move_core.specs.Moves.{Place}
 use Rattle.move_core.specs.declared.moves.Generated.{Generated}
-use Rattle.move_gen.specs.Given.{AreForEntries, IsAddedEntry, IsChangedEntry, IsForEntry}
+use Rattle.move_gen.specs.FieldsOfEntry.{IsForEntry}
+use Rattle.move_gen.specs.Given.{AreForEntries, IsAddedEntry, IsChangedEntry}
 use Rattle.move_gen.specs.Given.{IsOfFields, IsRemovedEntry, IsSetField}
 
 -- a place that begins so

@@ -1,5 +1,5 @@
 -- What is given for one table, one entry and one field.
-use Rattle.std.specs.Prelude.{◌≡◌, ◌≢◌, ◌⊎◌, ℕ, List, [], ◌∷◌, Some, None, slice_get}
+use Rattle.std.specs.Prelude.{◌≡◌, ◌≢◌, ◌⊎◌, ℕ, List, [], ◌∷◌, Some, None}
 use Rattle.conf_doc.specs.Changes.{part_at}
 use Rattle.conf_doc.specs.Pairs.{find}
 use Rattle.conf_doc.specs.declared.configuration.Config.{Config}
@@ -12,6 +12,7 @@ use Rattle.move_core.specs.Moves.{Lacks, Place, place}
 use Rattle.move_core.specs.declared.moves.Generated.{Generated}
 use Rattle.move_core.specs.declared.moves.Move.{Move}
 use Rattle.move_core.specs.declared.moves.Move.TheVariants.{Add, Remove, Replace}
+use Rattle.move_gen.specs.FieldsOfEntry.{IsForEntry}
 use Rattle.move_gen.specs.Giving.{Giver, IsOfSome}
 
 -- a move for a place, of a class
@@ -38,10 +39,6 @@ IsAddedTable cur t table g =
 -- what a table, a key, the entry there and a move have to do with one another
 abbrev pub EntryGiver : Type 1
 EntryGiver = List ℕ → Giver Entry Generated
-
--- the move is for a place that begins with the table and the key
-abbrev pub IsForEntry : List ℕ → List ℕ → Generated → Type 0
-IsForEntry t k g = (slice_get g.place 0 ≡ Some t) × (slice_get g.place 1 ≡ Some k)
 
 -- each move is
 abbrev pub AreForEntries : EntryGiver → Type 0

@@ -1,3 +1,6 @@
+-- what public clauses cite
+pub mod FieldsOfEntry
+pub mod Giving
 -- what only private clauses cite
 pub mod Adding
 pub mod Beside
@@ -5,4 +8,3 @@ pub mod Choosing
 pub mod EntryLaws
 pub mod FieldWants
 pub mod Given
-pub mod Giving

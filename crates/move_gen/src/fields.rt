@@ -1,7 +1,11 @@
 //! The moves of fields.
-ghost use Rattle.std.specs.Prelude.{◌≡◌, ◌<◌, length};
+ghost use Rattle.std.specs.Prelude.{◌≡◌, ◌<◌, [], ◌∷◌, length, Some};
+ghost use Rattle.conf_doc.specs.Changes.{part_at};
+ghost use Rattle.conf_doc.specs.declared.configuration.Config.{Config as Configuration};
+ghost use Rattle.conf_doc.specs.declared.parts.Part.TheVariants as part;
 ghost use Rattle.move_core.specs.Generated.{IsFromFields};
 ghost use Rattle.move_gen.specs.EntryLaws.{changed_for};
+ghost use Rattle.move_gen.specs.FieldsOfEntry.{IsFieldOf};
 ghost use Rattle.move_gen.specs.Given.{IsChangedEntry, IsOfFields, IsRemovedField, IsReplace, IsSetField};
 ghost use Rattle.move_gen.specs.Giving.{Gives, IsOfSome};
 
@@ -237,6 +241,25 @@ fn give_fields(
     }
     remove_fields(alloc, table, key, old, new, out)?;
     set_fields(alloc, table, key, old, new, out)
+}
+
+/// Appends the moves of the fields of one entry, by what it is in cur and in goal, each once. For want of memory there
+/// may be some only.
+pub fn field_moves(
+    alloc: Global,
+    table: &str,
+    key: &str,
+    old: &Entry,
+    new: &Entry,
+    out: &mut Vec<Generated>,
+) -> Result<(), Memory>
+    requires table { 0 < length table.now }
+    requires key { 0 < length key.now }
+    ensures { (cur goal : Configuration) → let at = table.now ∷ key.now ∷ [] in
+        part_at cur at ≡ Some (part.Entry old.now) → part_at goal at ≡ Some (part.Entry new.now) →
+        Gives (IsFieldOf cur goal table.now key.now) result out.old.items out.new.items }
+{
+    give_fields(alloc, table, key, old, new, out)
 }
 
 /// Puts those of all entries.

@@ -11,7 +11,7 @@ mod keys;
 mod seeds;
 mod tables;
 
-pub use fields::FieldGen;
+pub use fields::{FieldGen, field_moves};
 pub use keys::KeyGen;
 pub use seeds::SeedGen;
 pub use tables::TableGen;
