@@ -1,6 +1,7 @@
 pub mod Adding
 pub mod Chains
 pub mod Chosen
+pub mod Ended
 pub mod Existing
 pub mod Finite
 pub mod FirstChains
@@ -10,11 +11,15 @@ pub mod Known
 pub mod Leaving
 pub mod Members
 pub mod Noted
+pub mod OneEntry
 pub mod Ordered
+pub mod Others
 pub mod PartOrder
 pub mod Parts
 pub mod Reached
+pub mod Retained
 pub mod Selected
 pub mod Standing
 pub mod Surely
+pub mod Told
 pub mod Walked

@@ -1,5 +1,5 @@
 -- Chains and their ranks, and what is kept of them.
-use Rattle.std.specs.Prelude.{◌≡◌, ◌≢◌, ◌⊎◌, ℕ, ◌≤◌, Bool, true, false, not, nat_eq, if◌then◌else◌, List, ◌++◌, map, All}
+use Rattle.std.specs.Prelude.{◌≡◌, ◌≢◌, ◌⊎◌, ℕ, ◌+◌, ◌≤◌, Bool, true, false, not, nat_eq, if◌then◌else◌, List, [], ◌++◌, map, All}
 use Rattle.std.specs.List.{AllPairs, Contains, filter}
 use Rattle.std.specs.List.Sorted.{IsPermutation}
 use Rattle.std.specs.declared.cmp.Ordering.TheVariants.{Greater}
@@ -8,8 +8,9 @@ use Rattle.move_core.specs.Listed.{EndsChain, moves_of, other_tier, place_class}
 use Rattle.move_core.specs.ListedOrder.{listed_cmp, rank_cmp}
 use Rattle.move_core.specs.declared.moves.Move.{Move}
 use Rattle.move_core.specs.declared.moves.Ranked.{Ranked}
-use Rattle.plan_lists.specs.Parts.{AreListedIn, EndsEarlier, part_of}
-use Rattle.plan_lists.specs.Reaches.{Depths, HasMove, HoldsAll, IsLedTo}
+use Rattle.plan_lists.specs.Parts.{AreListedIn, AreListedTo, EndsEarlier, part_at, part_of}
+use Rattle.plan_lists.specs.Questions.{LeadsIn}
+use Rattle.plan_lists.specs.Reaches.{AreOnce, Depths, HasMove, HasWithin, HoldsAll, IsLedTo}
 use Rattle.plan_lists.specs.declared.asking.Question.{Question}
 use Rattle.plan_lists.specs.declared.firsts.First.{First}
 use Rattle.plan_lists.specs.declared.ranking.Choice.{Choice}
@@ -109,10 +110,30 @@ pub record IsReachOf (q : Question) (beside : Depths) (first : List Move) (es : 
   pub each : All (IsLedTo q first) es
   pub all : HoldsAll q beside first es
 
+-- what so many extensions or more reach from the first moves, as far as the part of them asks
+pub record IsReachFor (q : Question) (extensions : ℕ) (first : List Move) (es : Depths)
+    : Type 0 where
+  pub each : All (IsLedTo q first) es
+  pub all :
+      (f : Move) (n : ℕ) (x : Move) → Contains first f → part_at early_tier n ≤ 1 + extensions
+      → LeadsIn q f n x → HasWithin es n x
+  pub lands :
+      (m : Move) (d : ℕ) → Contains es (m, d) → extensions ≤ d
+      → part_at early_tier d ≡ 1 + extensions
+
 -- the listed moves of a part
 abbrev pub IsInPart : Question → ℕ → List Move → Type 0
 IsInPart q part ms =
     AreListedIn (rulebook q.ctx.now) q.start.now q.cur.now q.goal.now part ms
+
+-- the listed moves up to a part
+abbrev pub AreToPart : Question → ℕ → List Move → Type 0
+AreToPart q part ms =
+    AreListedTo (rulebook q.ctx.now) q.start.now q.cur.now q.goal.now part ms
+
+-- the listed moves of a part are put at the end
+abbrev pub AddsPart : Question → ℕ → List Move → List Move → Type 0
+AddsPart q part old new = (more : List Move) × IsInPart q part more × (new ≡ old ++ more)
 
 -- ---- the first chain of each move
 
@@ -139,3 +160,10 @@ HasFirsts known rs ms = (kept : List Ranked) × AreFirsts known rs kept × (ms �
 abbrev pub AreInOrder : Depths → List Ranked → List Move → Type 0
 AreInOrder known rs ms =
     (sorted : List Ranked) × IsPermutation rs sorted × HasFirsts known sorted ms
+
+-- of the moves that were reached by so many extensions or more those that aren't known, in order in a tier
+pub record AreExtended (known reached : Depths) (tier least : ℕ) (ms : List Move) : Type 0 where
+  pub ranked : List Ranked
+  pub added : AddsExtended reached tier least [] ranked
+  pub once : AreOnce reached
+  pub order : AreInOrder known ranked ms

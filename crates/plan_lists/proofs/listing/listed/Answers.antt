@@ -1,27 +1,59 @@
-use Rattle.std.proofs.Common.{[], sym, subst}
+use Rattle.std.proofs.Common.{sym, subst, ◌∙◌}
 use Rattle.move_core.specs.Contexts.{rulebook}
 use Rattle.move_core.specs.Listed.{AreListed}
-use Rattle.plan_lists.specs.Parts.{AreListedTo, PartsMakeTheList}
+use Rattle.plan_lists.specs.Firsts.{AreFirstsOf}
+use Rattle.plan_lists.specs.declared.asking.Question.{Question}
+use Rattle.plan_lists.proofs.Ended.{whole_listed}
 use Rattle.plan_lists.proofs.listing.listed.Goals as goal
 
-pub returns-clause-listed : goal.returns-clause-listed
-returns-clause-listed g c =
-    let book = rulebook c.args.ctx.now in
-    let start = c.args.start.now in
-    let cur = c.args.cur.now in
-    let goal_now = c.args.goal.now in
-    let parts : PartsMakeTheList book start cur goal_now = c.parts_make_the_list.ensures c.args.ctx.now start cur goal_now in
-    let first : AreListedTo book start cur goal_now 1 c.in_ok-alone.alone.items = parts.next 0 [] c.in_ok-alone.alone.items parts.none c.in_ok-alone.ensures.listed in
-    let second : AreListedTo book start cur goal_now 2 c.in_ok-to_second.to_second.items =
-    subst (AreListedTo book start cur goal_now 2) (sym c.in_ok-to_second.ensures) (parts.next 1 c.in_ok-alone.alone.items c.in_ok-once.once.items first c.in_ok-once.ensures.listed) in
-    let third : AreListedTo book start cur goal_now 3 c.in_ok-to_third.to_third.items =
-    subst (AreListedTo book start cur goal_now 3) (sym c.in_ok-to_third.ensures) (parts.next 2 c.in_ok-to_second.to_second.items c.in_ok-twice.twice.items second c.in_ok-twice.ensures.listed) in
-    let fourth : AreListedTo book start cur goal_now 4 c.in_ok-to_fourth.to_fourth.items =
-    subst (AreListedTo book start cur goal_now 4) (sym c.in_ok-to_fourth.ensures) (parts.next 3 c.in_ok-to_third.to_third.items c.in_ok-thrice.thrice.items third c.in_ok-thrice.ensures.listed) in
-    let fifth : AreListedTo book start cur goal_now 5 c.in_ok-to_fifth.to_fifth.items =
-    subst (AreListedTo book start cur goal_now 5) (sym c.in_ok-to_fifth.ensures) (parts.next 4 c.in_ok-to_fourth.to_fourth.items c.in_ok-far.far.items fourth c.in_ok-far.ensures.listed) in
-    let sixth : AreListedTo book start cur goal_now 6 c.in_ok-to_sixth.to_sixth.items =
-    subst (AreListedTo book start cur goal_now 6) (sym c.in_ok-to_sixth.ensures) (parts.next 5 c.in_ok-to_fifth.to_fifth.items c.in_ok-restoring.restoring.items fifth c.in_ok-restoring.ensures.listed) in
-    let seventh : AreListedTo book start cur goal_now 7 c.in_ok-moves.moves.items =
-    subst (AreListedTo book start cur goal_now 7) (sym c.in_ok-moves.ensures) (parts.next 6 c.in_ok-to_sixth.to_sixth.items c.in_ok-others.others.items sixth c.in_ok-others.ensures.listed) in
-    subst (AreListed book start cur goal_now) (sym c.from_vec.ensures) (parts.whole c.in_ok-moves.moves.items seventh)
+pub first_moves-requires-clause-kinds : goal.first_moves-requires-clause-kinds
+first_moves-requires-clause-kinds g c = c.requires.kinds
+
+pub first_moves-requires-clause-named : goal.first_moves-requires-clause-named
+first_moves-requires-clause-named g c = c.requires.named
+
+pub first_moves-requires-clause-cur : goal.first_moves-requires-clause-cur
+first_moves-requires-clause-cur g c = c.requires.cur
+
+pub first_moves-requires-clause-goal : goal.first_moves-requires-clause-goal
+first_moves-requires-clause-goal g c = c.requires.goal
+
+pub returns-in_err-firsts-clause-kinds : goal.returns-in_err-firsts-clause-kinds
+returns-in_err-firsts-clause-kinds g c = c.first_moves.ensures.kinds
+
+pub returns-in_err-firsts-clause-rules : goal.returns-in_err-firsts-clause-rules
+returns-in_err-firsts-clause-rules g c = c.first_moves.ensures.rules
+
+pub add_parts-added-requires-clause-kinds : goal.add_parts-added-requires-clause-kinds
+add_parts-added-requires-clause-kinds g c = c.first_moves.ensures.kinds
+
+pub add_parts-added-requires-clause-asked : goal.add_parts-added-requires-clause-asked
+add_parts-added-requires-clause-asked g c = record { named = c.requires.named; cur = c.requires.cur; goal = c.requires.goal }
+
+pub add_parts-added-requires-clause-firsts : goal.add_parts-added-requires-clause-firsts
+add_parts-added-requires-clause-firsts g c =
+    subst (AreFirstsOf (rulebook c.args.ctx.now) c.args.start.now c.args.cur.now c.args.goal.now) (sym c.items.ensures) c.in_ok-firsts.ensures.firsts
+
+pub add_parts-added-requires-clause-none : goal.add_parts-added-requires-clause-none
+add_parts-added-requires-clause-none g c = c.new-moves.ensures.items
+
+pub returns-in-Ok-clause-kinds : goal.returns-in-Ok-clause-kinds
+returns-in-Ok-clause-kinds g c = c.add_parts-added.ensures.kinds
+
+pub returns-in-Ok-clause-rules : goal.returns-in-Ok-clause-rules
+returns-in-Ok-clause-rules g c = c.add_parts-added.ensures.rules ∙ c.first_moves.ensures.rules
+
+pub returns-in-Ok-clause-listed : goal.returns-in-Ok-clause-listed
+returns-in-Ok-clause-listed g c =
+    let q : Question = record { ctx = c.args.ctx; start = c.args.start; cur = c.args.cur; goal = c.args.goal } in
+    subst (AreListed (rulebook c.args.ctx.now) c.args.start.now c.args.cur.now c.args.goal.now) (sym c.from_vec.ensures)
+    (whole_listed q c.add_parts-added.new.moves.items c.in-Ok.ensures.added)
+
+pub returns-in-Err-clause-kinds : goal.returns-in-Err-clause-kinds
+returns-in-Err-clause-kinds g c = c.add_parts-added.ensures.kinds
+
+pub returns-in-Err-clause-rules : goal.returns-in-Err-clause-rules
+returns-in-Err-clause-rules g c = c.add_parts-added.ensures.rules ∙ c.first_moves.ensures.rules
+
+pub returns-in-Err-clause-listed : goal.returns-in-Err-clause-listed
+returns-in-Err-clause-listed g c = tt

@@ -1,16 +1,29 @@
-use Rattle.std.proofs.Common.{IfOk, sym, subst}
+use Rattle.std.proofs.Common.{sym, subst}
 use Rattle.move_core.specs.Contexts.{rulebook}
 use Rattle.plan_lists.specs.Firsts.{AreFirstsOf}
-use Rattle.plan_lists.specs.Parts.{AreListedIn}
-use Rattle.plan_lists.specs.declared.asking.Question.{Question}
 use Rattle.plan_lists.proofs.listing.listed_in_part.Goals as goal
 
-pub returns-in-1-clause-listed : goal.returns-in-1-clause-listed
-returns-in-1-clause-listed g c =
-    let book = rulebook c.args.ctx.now in
-    let start = c.args.start.now in
-    let cur = c.args.cur.now in
-    let goal_now = c.args.goal.now in
-    let q : Question = record { ctx = c.args.ctx; start = c.args.start; cur = c.args.cur; goal = c.args.goal } in
-    let firsts = subst (AreFirstsOf book start cur goal_now) (sym c.items-firsts.ensures) c.requires.firsts in
-    subst (λ n. IfOk c.list_alone.result (λ ms. AreListedIn book start cur goal_now n ms.items)) (sym c.in-1.is) (c.list_alone.ensures q firsts)
+pub list_part-requires-clause-kinds : goal.list_part-requires-clause-kinds
+list_part-requires-clause-kinds g c = c.requires.kinds
+
+pub list_part-requires-clause-asked : goal.list_part-requires-clause-asked
+list_part-requires-clause-asked g c = record { named = c.requires.named; cur = c.requires.cur; goal = c.requires.goal }
+
+pub list_part-requires-clause-firsts : goal.list_part-requires-clause-firsts
+list_part-requires-clause-firsts g c =
+    subst (AreFirstsOf (rulebook c.args.ctx.now) c.args.start.now c.args.cur.now c.args.goal.now) (sym c.items.ensures) c.requires.firsts
+
+pub list_part-requires-clause-low : goal.list_part-requires-clause-low
+list_part-requires-clause-low g c = c.requires.low
+
+pub list_part-requires-clause-high : goal.list_part-requires-clause-high
+list_part-requires-clause-high g c = c.requires.high
+
+pub returns-clause-kinds : goal.returns-clause-kinds
+returns-clause-kinds g c = c.list_part.ensures.kinds
+
+pub returns-clause-rules : goal.returns-clause-rules
+returns-clause-rules g c = c.list_part.ensures.rules
+
+pub returns-clause-listed : goal.returns-clause-listed
+returns-clause-listed g c = c.list_part.ensures.listed

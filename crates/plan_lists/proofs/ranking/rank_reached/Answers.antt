@@ -1,9 +1,36 @@
-use Rattle.std.proofs.Common.{[], refl, sym, ap, subst, ◌∙◌, arith, take, ◌+◌}
+use Rattle.std.proofs.Common.{◌+◌, ◌≤◌, [], refl, sym, ap, subst, ◌∙◌, arith, length, take}
+use Rattle.std.proofs.lemmas.List.{take_all}
 use Rattle.move_core.specs.declared.moves.Ranked.{Ranked}
 use Rattle.plan_lists.specs.Ranking.{AddsExtended}
-use Rattle.plan_lists.proofs.Adding.{extended_step, unextended_step}
+use Rattle.plan_lists.proofs.Adding.{extended_none, extended_step, unextended_step}
 use Rattle.plan_lists.proofs.ranking.rank_reached.Goals as goal
 use Rattle.plan_lists.proofs.ranking.rank_reached.Goals.{then-depth-least+in_ok-mv+in_ok-push, else-depth-least}
+
+pub loop-i-init : goal.loop-i-init
+loop-i-init c = subst (AddsExtended [] c.args.tier c.args.least []) (sym c.new-ranked.ensures.items) (extended_none c.args.tier c.args.least [])
+
+pub at-depth-requires : goal.at-depth-requires
+at-depth-requires c =
+    let len = c.len-i-end.ensures.len in
+    let lt = c.loop-i-test.true in
+    omega (arith, len, lt)
+
+pub returns-in_err-mv-clause-once : goal.returns-in_err-mv-clause-once
+returns-in_err-mv-clause-once c = c.len-i-end.ensures.once
+
+pub returns-in_err-push-clause-once : goal.returns-in_err-push-clause-once
+returns-in_err-push-clause-once c = c.len-i-end.ensures.once
+
+pub returns-clause-once : goal.returns-clause-once
+returns-clause-once c = c.len-i-end.ensures.once
+
+pub returns-clause-added : goal.returns-clause-added
+returns-clause-added c =
+    let es = c.args.reached.now in
+    let len = c.len-i-end.ensures.len in
+    let end = c.loop-i-test.false in
+    let all : length es ≤ c.loop-i.i = omega (arith, len, end) in
+    subst (λ l. AddsExtended l c.args.tier c.args.least [] c.loop-i.ranked.items) (take_all c.loop-i.i es all) c.loop-i.invariant
 
 pub loop-i-preserved : goal.loop-i-preserved
 loop-i-preserved c =
