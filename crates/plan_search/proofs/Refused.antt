@@ -1,5 +1,5 @@
 -- Why the settings refuse a move of a field, or of an entry's fields.
-use Rattle.std.proofs.Common.{◌≡◌, ◌≢◌, ℕ, List, [], ◌∷◌, Option, Some, None, option_map, IsSome, refl, sym, ap, ◌∙◌, subst, arith}
+use Rattle.std.proofs.Common.{◌≡◌, ◌≢◌, inl, inr, ℕ, List, [], ◌∷◌, Option, Some, None, option_map, IsSome, refl, sym, ap, ◌∙◌, subst, arith}
 use Rattle.std.specs.Option.{option_to_list}
 use Rattle.conf_doc.specs.Changes.{part_at, with_part, Fits, HasParent, HasPlace}
 use Rattle.conf_doc.specs.Pairs.{find}
@@ -13,8 +13,34 @@ use Rattle.move_core.specs.Moves.{Agree, IsDefined, Place, new_part, place, step
 use Rattle.move_core.specs.declared.moves.Move.{Move}
 use Rattle.move_core.specs.declared.moves.Move.TheVariants.{Add, Remove, Replace}
 use Rattle.move_core.specs.declared.settings.Settings.{Settings}
-use Rattle.plan_search.specs.Refusals.{ChangesCreateOnly, ChangesPlace, ChangesUnmet, GivesFields, HasUnmetRule, IsCreateOnly, KeepsSettings}
+use Rattle.plan_search.specs.Refusals.{ChangesPlace, FieldTest, GivesFields, HasRefused, IsField, IsOtherField, KeepsSettings}
 use Rattle.plan_search.proofs.FieldMoves.{entry_stays, entry_stays_beside, field_after, field_in_entry, fields_after, fields_before}
+
+-- a move that keeps the entries and changes fields of one which the settings refuse isn't allowed
+module _ (settings : Settings) (cur : Config) (m : Move) (k : List ℕ) (IsChanged : FieldTest)
+    (changed : (t f : List ℕ) → IsChanged t f → HasPlace cur (t ∷ k ∷ []) × ¬ Agree cur (step cur m) (t ∷ k ∷ f ∷ []))
+    (stays : (t j : List ℕ) → HasPlace cur (t ∷ j ∷ []) → HasPlace (step cur m) (t ∷ j ∷ [])) where
+  by_changed : HasRefused settings cur k IsChanged → ¬ KeepsSettings settings cur m
+  by_changed (inl is) keeps =
+      let here = changed is.rule.table is.rule.field is.changed in
+      here.1 (keeps.0 is.rule k is.listed here.0 (stays is.rule.table k here.0))
+  by_changed (inr is) keeps =
+      let q = is.unmet.requiring in
+      let unmet = is.unmet.unmet in
+      let changes : ChangesFor is.rule unmet.named cur (step cur m) = record {
+        at = q.table ∷ k ∷ unmet.field ∷ [];
+        requires = record {
+          requiring = q;
+          listed = is.unmet.listed;
+          key = k;
+          part = unmet.part;
+          is = ap (λ f. q.table ∷ k ∷ option_to_list f) (sym unmet.here);
+        };
+        differs = (changed q.table unmet.field unmet.changed).1;
+      } in
+      unmet.lacks.1 (keeps.1 is.rule unmet.named is.listed changes unmet.lacks.0 (stays is.rule.table unmet.named unmet.lacks.0)).0
+
+-- ---- a move of a field
 
 no_part : (new : Part) → None ≡ Some new → ⊥
 no_part new e = cc
@@ -75,34 +101,18 @@ module _ (cur : Config) (t k f : List ℕ) where
         subst (λ p. HasPlace (with_part cur p (new_part m)) (u ∷ j ∷ [])) (sym at)
         (entry_stays cur t k f (new_part m) u j has)
 
-    module _ (settings : Settings) (changes : ChangesPlace cur m) where
-      differs : ¬ Agree cur (step cur m) (t ∷ k ∷ f ∷ [])
-      differs = subst (λ p. ¬ Agree cur (step cur m) p) at changes
+    pub by_field : (settings : Settings) → ChangesPlace cur m → HasRefused settings cur k (IsField t f)
+        → ¬ KeepsSettings settings cur m
+    by_field settings changes = by_changed settings cur m k (IsField t f) changed stays
+      where
+        differs : ¬ Agree cur (step cur m) (t ∷ k ∷ f ∷ [])
+        differs = subst (λ p. ¬ Agree cur (step cur m) p) at changes
 
-      pub by_create_only : IsCreateOnly settings t f → ¬ KeepsSettings settings cur m
-      by_create_only is keeps =
-          differs (subst (λ n. Agree cur (step cur m) (t ∷ k ∷ n ∷ [])) is.field
-          (subst (λ u. Agree cur (step cur m) (u ∷ k ∷ is.rule.field ∷ [])) is.table
-          (keeps.0 is.rule k is.listed before (stays is.rule.table k before))))
-        where
-          before : HasPlace cur (is.rule.table ∷ k ∷ [])
-          before = subst (λ u. HasPlace cur (u ∷ k ∷ [])) (sym is.table) (entry_there m defined at)
-
-      pub by_required : HasUnmetRule settings cur t k f → ¬ KeepsSettings settings cur m
-      by_required is keeps =
-          let unmet = is.unmet.unmet in
-          let changed : ChangesFor is.rule unmet.named cur (step cur m) = record {
-            at = t ∷ k ∷ f ∷ [];
-            requires = record {
-              requiring = is.unmet.requiring;
-              listed = is.unmet.listed;
-              key = k;
-              part = unmet.part;
-              is = sym (λ i. unmet.here.0 i ∷ k ∷ option_to_list (unmet.here.1 i));
-            };
-            differs = differs;
-          } in
-          unmet.lacks.1 (keeps.1 is.rule unmet.named is.listed changed unmet.lacks.0 (stays is.rule.table unmet.named unmet.lacks.0)).0
+        changed : (u g : List ℕ) → IsField t f u g → HasPlace cur (u ∷ k ∷ []) × ¬ Agree cur (step cur m) (u ∷ k ∷ g ∷ [])
+        changed u g is = (
+          subst (λ x. HasPlace cur (x ∷ k ∷ [])) (sym is.0) (entry_there m defined at),
+          λ agree. differs (subst (λ p. Agree cur (step cur m) p) (λ i. is.0 i ∷ k ∷ is.1 i ∷ []) agree),
+        )
 
 -- ---- an entry with other fields
 
@@ -136,29 +146,12 @@ module _ (cur : Config) (t k : List ℕ) (m : Move) (old new : Entry)
       (sym (fields_before cur t k f old there) ∙ agree ∙ ap (λ c. part_at c (t ∷ k ∷ f ∷ [])) steps
       ∙ fields_after cur t k f new has_entry))
 
-  module _ (settings : Settings) where
-    pub by_changed_create_only : ChangesCreateOnly settings old new t → ¬ KeepsSettings settings cur m
-    by_changed_create_only is keeps =
-        field_differs is.rule.field is.differ
-        (subst (λ u. Agree cur (step cur m) (u ∷ k ∷ is.rule.field ∷ [])) is.table
-        (keeps.0 is.rule k is.listed before (stays_beside is.rule.table k before)))
-      where
-        before : HasPlace cur (is.rule.table ∷ k ∷ [])
-        before = subst (λ u. HasPlace cur (u ∷ k ∷ [])) (sym is.table) has_entry
-
-    pub by_changed_unmet : ChangesUnmet settings cur old new t k → ¬ KeepsSettings settings cur m
-    by_changed_unmet is keeps =
-        let unmet = is.unmet.unmet in
-        let f = unmet.changed.field in
-        let changed : ChangesFor is.rule unmet.named cur (step cur m) = record {
-          at = t ∷ k ∷ f ∷ [];
-          requires = record {
-            requiring = is.unmet.requiring;
-            listed = is.unmet.listed;
-            key = k;
-            part = unmet.part;
-            is = sym (λ i. unmet.changed.here.0 i ∷ k ∷ option_to_list (unmet.changed.here.1 i));
-          };
-          differs = field_differs f unmet.changed.differ;
-        } in
-        unmet.lacks.1 (keeps.1 is.rule unmet.named is.listed changed unmet.lacks.0 (stays_beside is.rule.table unmet.named unmet.lacks.0)).0
+  pub by_other_fields : (settings : Settings) → HasRefused settings cur k (IsOtherField t old new)
+      → ¬ KeepsSettings settings cur m
+  by_other_fields settings = by_changed settings cur m k (IsOtherField t old new) changed stays_beside
+    where
+      changed : (u g : List ℕ) → IsOtherField t old new u g → HasPlace cur (u ∷ k ∷ []) × ¬ Agree cur (step cur m) (u ∷ k ∷ g ∷ [])
+      changed u g is = (
+        subst (λ x. HasPlace cur (x ∷ k ∷ [])) (sym is.0) has_entry,
+        λ agree. field_differs g is.1 (subst (λ x. Agree cur (step cur m) (x ∷ k ∷ g ∷ [])) is.0 agree),
+      )

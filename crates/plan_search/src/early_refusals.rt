@@ -5,7 +5,7 @@ ghost use Rattle.conf_doc.specs.declared.parts.Part.TheVariants as part;
 ghost use Rattle.move_core.specs.Extensions.{HasRequired};
 ghost use Rattle.move_core.specs.Moves.{IsDefined, place};
 ghost use Rattle.conf_doc.specs.Pairs.{find};
-ghost use Rattle.plan_search.specs.Refusals.{ChangesCreateOnly, ChangesPlace, ChangesUnmet, GivesFields, HasUnmet, HasUnmetChange, HasUnmetRule, IsChanged, IsCreateOnly, IsForField, IsUnmet, IsUnmetChange, KeepsSettings, LacksRequired};
+ghost use Rattle.plan_search.specs.Refusals.{ChangesPlace, GivesFields, HasCreateOnly, HasRefused, HasUnmet, HasUnmetRule, IsField, IsOtherField, IsUnmet, KeepsSettings, LacksRequired};
 
 use conf_doc::{Config, Entry, Part, Value};
 use key_split::KeyView;
@@ -47,18 +47,6 @@ pub(crate) fn changes_entry(a: &Config, b: &Config, table: &str, key: &str) -> b
     }
 }
 
-/// Whether a field may be set only when its entry is made.
-fn is_create_only(settings: &Settings, table: &str, field: &str) -> bool
-    ensures { IsTrue result → IsCreateOnly settings.now table.now field.now }
-{
-    for rule in settings.create_only.items() {
-        if rule.field.as_str() == field && rule.table.as_str() == table {
-            return true;
-        }
-    }
-    false
-}
-
 /// Whether a rule's field has the required value at a key. Absent it counts as having the default.
 fn has_required(rule: &Required, key: &str, config: &Config) -> bool
     ensures { IsTrue result ↔ HasRequired rule.now key.now config.now }
@@ -77,29 +65,88 @@ fn lacks_required(rule: &Required, key: &str, config: &Config) -> bool
     entry_at(config, rule.table.as_str(), key).is_some() && !has_required(rule, key, config)
 }
 
-/// Whether a requiring place is the field of a table's entries.
-fn is_for_field(requiring: &Requiring, table: &str, field: &str) -> bool
-    ensures { IsTrue result → IsForField requiring.now table.now field.now }
+/// Whether two values of a field are the same, or it is absent in both entries.
+fn is_same_field(old: &Entry, new: &Entry, field: &str) -> bool
+    ensures { IsTrue result ↔ (find field.now old.now ≡ find field.now new.now) }
 {
-    match &requiring.field {
-        Some(name) => name.as_str() == field && requiring.table.as_str() == table,
-        None => false,
+    match (old.field(field), new.field(field)) {
+        (Some(old), Some(new)) => old.same(new),
+        (None, None) => true,
+        _ => false,
     }
 }
 
-/// Whether it is, and what it requires isn't there.
-fn is_unmet(
+/// Which fields a move changes.
+trait FieldChanges {
+    ghost use Rattle.std.specs.Prelude.{IsTrue};
+    ghost use Rattle.plan_search.specs.Refusals.{FieldTest};
+
+    /// What holds of the tables and names of these fields.
+    ghost IsChanged: { Self → FieldTest };
+
+    /// Whether a field of a table is one of them.
+    fn has(&self, table: &str, field: &str) -> bool
+        ensures { IsTrue result → IsChanged self.now table.now field.now };
+}
+
+/// One field of a table.
+#[derive(Drop)]
+struct OneField<'c> {
+    table: &'c str,
+    field: &'c str,
+}
+
+impl<'c> FieldChanges for OneField<'c> {
+    ghost IsChanged = { λ s. IsField s.table.now s.field.now };
+
+    fn has(&self, table: &str, field: &str) -> bool {
+        field == self.field && table == self.table
+    }
+}
+
+/// The fields in which entries of a table differ.
+#[derive(Drop)]
+struct OtherFields<'c> {
+    table: &'c str,
+    old: &'c Entry,
+    new: &'c Entry,
+}
+
+impl<'c> FieldChanges for OtherFields<'c> {
+    ghost IsChanged = { λ s. IsOtherField s.table.now s.old.now s.new.now };
+
+    fn has(&self, table: &str, field: &str) -> bool {
+        table == self.table && !is_same_field(self.old, self.new, field)
+    }
+}
+
+/// Whether one of the fields that change may be set only when its entry is made.
+fn has_create_only<C: FieldChanges>(settings: &Settings, changes: &C) -> bool
+    ensures { IsTrue result → HasCreateOnly settings.now (C.IsChanged changes.now) }
+{
+    for rule in settings.create_only.items() {
+        if changes.has(rule.table.as_str(), rule.field.as_str()) {
+            return true;
+        }
+    }
+    false
+}
+
+/// Whether a requiring place is one of the fields that change, and what it requires isn't there.
+fn is_unmet<C: FieldChanges>(
     rule: &Required,
     requiring: &Requiring,
     cur: &Config,
-    table: &str,
     key: &str,
-    field: &str,
+    changes: &C,
 ) -> bool
-    ensures { let Unmet = IsUnmet rule.now cur.now table.now key.now field.now in
+    ensures { let Unmet = IsUnmet rule.now cur.now key.now (C.IsChanged changes.now) in
         IsTrue result → Unmet requiring.now }
 {
-    if !is_for_field(requiring, table, field) {
+    let Some(field) = &requiring.field else {
+        return false;
+    };
+    if !changes.has(requiring.table.as_str(), field.as_str()) {
         return false;
     }
     match KeyView::new(key).part(requiring.part as usize) {
@@ -109,11 +156,11 @@ fn is_unmet(
 }
 
 /// Whether that is so of a requiring place of a rule.
-fn has_unmet(rule: &Required, cur: &Config, table: &str, key: &str, field: &str) -> bool
-    ensures { IsTrue result → HasUnmet rule.now cur.now table.now key.now field.now }
+fn has_unmet<C: FieldChanges>(rule: &Required, cur: &Config, key: &str, changes: &C) -> bool
+    ensures { IsTrue result → HasUnmet rule.now cur.now key.now (C.IsChanged changes.now) }
 {
     for requiring in rule.requiring.items() {
-        if is_unmet(rule, requiring, cur, table, key, field) {
+        if is_unmet(rule, requiring, cur, key, changes) {
             return true;
         }
     }
@@ -121,15 +168,27 @@ fn has_unmet(rule: &Required, cur: &Config, table: &str, key: &str, field: &str)
 }
 
 /// Whether it is of some rule.
-fn has_unmet_rule(settings: &Settings, cur: &Config, table: &str, key: &str, field: &str) -> bool
-    ensures { IsTrue result → HasUnmetRule settings.now cur.now table.now key.now field.now }
+fn has_unmet_rule<C: FieldChanges>(
+    settings: &Settings,
+    cur: &Config,
+    key: &str,
+    changes: &C,
+) -> bool
+    ensures { IsTrue result → HasUnmetRule settings.now cur.now key.now (C.IsChanged changes.now) }
 {
     for rule in settings.required.items() {
-        if has_unmet(rule, cur, table, key, field) {
+        if has_unmet(rule, cur, key, changes) {
             return true;
         }
     }
     false
+}
+
+/// Whether one of the fields that change is create-only, or requires a value which isn't there.
+fn has_refused<C: FieldChanges>(settings: &Settings, cur: &Config, key: &str, changes: &C) -> bool
+    ensures { IsTrue result → HasRefused settings.now cur.now key.now (C.IsChanged changes.now) }
+{
+    has_create_only(settings, changes) || has_unmet_rule(settings, cur, key, changes)
 }
 
 /// Whether a part isn't the value of a field.
@@ -170,103 +229,8 @@ fn is_field_refused(
     requires place { place mv.now ≡ table.now ∷ key.now ∷ field.now ∷ [] }
     ensures { IsTrue result → ¬ KeepsSettings settings.now cur.now mv.now }
 {
-    (is_create_only(settings, table, field) || has_unmet_rule(settings, cur, table, key, field))
+    has_refused(settings, cur, key, &OneField { table, field })
         && changes_field(cur, mv, table, key, field)
-}
-
-/// Whether two values of a field are the same, or it is absent in both entries.
-fn is_same_field(old: &Entry, new: &Entry, field: &str) -> bool
-    ensures { IsTrue result ↔ (find field.now old.now ≡ find field.now new.now) }
-{
-    match (old.field(field), new.field(field)) {
-        (Some(old), Some(new)) => old.same(new),
-        (None, None) => true,
-        _ => false,
-    }
-}
-
-/// Whether entries of a table differ in a create-only field.
-fn changes_create_only(settings: &Settings, old: &Entry, new: &Entry, table: &str) -> bool
-    ensures { IsTrue result → ChangesCreateOnly settings.now old.now new.now table.now }
-{
-    for rule in settings.create_only.items() {
-        if rule.table.as_str() == table && !is_same_field(old, new, rule.field.as_str()) {
-            return true;
-        }
-    }
-    false
-}
-
-/// Whether a requiring place is a field in which entries of a table differ.
-fn is_changed(requiring: &Requiring, old: &Entry, new: &Entry, table: &str) -> bool
-    ensures { IsTrue result → IsChanged old.now new.now table.now requiring.now }
-{
-    match &requiring.field {
-        Some(field) => {
-            requiring.table.as_str() == table && !is_same_field(old, new, field.as_str())
-        }
-        None => false,
-    }
-}
-
-/// Whether it is, and what it requires isn't there.
-fn is_unmet_change(
-    rule: &Required,
-    requiring: &Requiring,
-    cur: &Config,
-    old: &Entry,
-    new: &Entry,
-    table: &str,
-    key: &str,
-) -> bool
-    ensures { let Unmet = IsUnmetChange rule.now cur.now old.now new.now table.now key.now in
-        IsTrue result → Unmet requiring.now }
-{
-    if !is_changed(requiring, old, new, table) {
-        return false;
-    }
-    match KeyView::new(key).part(requiring.part as usize) {
-        Some(named) => lacks_required(rule, named, cur),
-        None => false,
-    }
-}
-
-/// Whether that is so of a requiring place of a rule.
-fn has_unmet_change(
-    rule: &Required,
-    cur: &Config,
-    old: &Entry,
-    new: &Entry,
-    table: &str,
-    key: &str,
-) -> bool
-    ensures { IsTrue result → HasUnmetChange rule.now cur.now old.now new.now table.now key.now }
-{
-    for requiring in rule.requiring.items() {
-        if is_unmet_change(rule, requiring, cur, old, new, table, key) {
-            return true;
-        }
-    }
-    false
-}
-
-/// Whether it is of some rule.
-fn changes_unmet(
-    settings: &Settings,
-    cur: &Config,
-    old: &Entry,
-    new: &Entry,
-    table: &str,
-    key: &str,
-) -> bool
-    ensures { IsTrue result → ChangesUnmet settings.now cur.now old.now new.now table.now key.now }
-{
-    for rule in settings.required.items() {
-        if has_unmet_change(rule, cur, old, new, table, key) {
-            return true;
-        }
-    }
-    false
 }
 
 /// The entry that a move puts in the place of one.
@@ -288,10 +252,7 @@ fn is_entry_refused(settings: &Settings, cur: &Config, mv: &Move, table: &str, k
         return false;
     };
     match entry_at(cur, table, key) {
-        Some(old) => {
-            changes_create_only(settings, old, new, table)
-                || changes_unmet(settings, cur, old, new, table, key)
-        }
+        Some(old) => has_refused(settings, cur, key, &OtherFields { table, old, new }),
         None => false,
     }
 }
