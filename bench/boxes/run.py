@@ -11,6 +11,6 @@ here = pathlib.Path(__file__).resolve().parent
 sys.path.insert(0, str(here.parent))
 import program
 
-USES = ("host_core conf_doc yang_text yang_model move_core move_gen move_extend move_rules recheck plan_lists gcu_demo "
+USES = ("host_core conf_doc yang_text yang_model move_core move_gen move_extend move_rules recheck move_lists gcu_demo "
         "anyhow")
 program.bench("boxes_bench", here / "main.rt.txt", USES, sys.argv[1:])

@@ -1,5 +1,6 @@
 //! A configuration: tables of entries of fields.
 ghost use Rattle.std.specs.Prelude.{◌≡◌, ◌<◌, ◌++◌, ◌∷◌, [], length, map, option_map, slice_get, Some, IfOk, IsUtf8, OnOk};
+ghost use Rattle.conf_doc.specs.Changes.{entry_at, value_at};
 ghost use Rattle.conf_doc.specs.Pairs.{find, first_from};
 ghost use Rattle.conf_doc.specs.WellFormed.{AreTexts, IsConfig, IsEntry, IsTable, IsValue};
 
@@ -135,6 +136,23 @@ impl Config {
         self.tables.find(name)
     }
 
+    /// The entry of a table at a key, or None where there is no such table or no such entry.
+    pub fn entry(&self, table: &str, key: &str) -> Option<&Entry>
+        ensures entry { option_map (λ e. e.now) result ≡ entry_at self.now table.now key.now }
+        ensures formed { IsConfig self.now }
+    {
+        self.table(table)?.entry(key)
+    }
+
+    /// The value of a field of such an entry, or None where there is no such value.
+    pub fn value(&self, table: &str, key: &str, field: &str) -> Option<&Value>
+        ensures value { option_map (λ v. v.now) result
+            ≡ value_at self.now table.now key.now field.now }
+        ensures formed { IsConfig self.now }
+    {
+        self.entry(table, key)?.field(field)
+    }
+
     /// How many tables there are.
     pub fn len(&self) -> usize
         ensures len { result ≡ length self.now }
@@ -158,6 +176,15 @@ impl Config {
         ensures formed { IsConfig self.now }
     {
         self.tables.part_at(i)
+    }
+
+    /// The name of a table and the table at an index.
+    pub fn pair_at(&self, i: usize) -> (&str, &Table)
+        requires { i < length self.now }
+        ensures pair { slice_get self.now i ≡ Some (result.0.now, result.1.now) }
+        ensures formed { IsConfig self.now }
+    {
+        self.tables.both_at(i)
     }
 
     /// The first index from which no table's name is below that text, or the length.
@@ -221,6 +248,15 @@ impl Table {
         self.entries.part_at(i)
     }
 
+    /// The key of an entry and the entry at an index.
+    pub fn pair_at(&self, i: usize) -> (&str, &Entry)
+        requires { i < length self.now }
+        ensures pair { slice_get self.now i ≡ Some (result.0.now, result.1.now) }
+        ensures formed { IsTable self.now }
+    {
+        self.entries.both_at(i)
+    }
+
     /// The first index from which no key is below that text, or the length. Keys that begin with a text
     /// stand together from there on.
     pub fn first_from(&self, key: &str) -> usize
@@ -281,6 +317,15 @@ impl Entry {
         ensures formed { IsEntry self.now }
     {
         self.fields.part_at(i)
+    }
+
+    /// The name of a field and its value at an index.
+    pub fn pair_at(&self, i: usize) -> (&str, &Value)
+        requires { i < length self.now }
+        ensures pair { slice_get self.now i ≡ Some (result.0.now, result.1.now) }
+        ensures formed { IsEntry self.now }
+    {
+        self.fields.both_at(i)
     }
 
     /// The first index from which no field's name is below that text, or the length.

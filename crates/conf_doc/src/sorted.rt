@@ -79,6 +79,15 @@ impl<X> Sorted<X> {
         self.pairs[i].as_ref()
     }
 
+    /// The name and the part at an index.
+    pub(crate) fn both_at(&self, i: usize) -> (&str, &X)
+        requires { i < length self.now }
+        ensures { slice_get self.now i ≡ Some (result.0.now, result.1.now) }
+    {
+        let (name, part) = self.pair_at(i);
+        (name.as_str(), part)
+    }
+
     /// The name at an index.
     pub(crate) fn name_at(&self, i: usize) -> &str
         requires { i < length self.now }

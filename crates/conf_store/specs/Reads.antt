@@ -1,20 +1,19 @@
 -- Calls that only read, and what they find in the folder.
-use Rattle.std.specs.Prelude.{◌≡◌, ℕ, Option, Some, None, Result, IfSome}
+use Rattle.std.specs.Prelude.{ℕ, Option, Some, None, Result, IfSome}
 use Rattle.host_core.specs.Answers.{Gives}
 use Rattle.host_core.specs.Counts.{Counts, DiskMayRise}
-use Rattle.host_core.specs.Crashes.{Elapses, Left, MayLeaveNow}
+use Rattle.host_core.specs.Crashes.{Left}
+use Rattle.host_core.specs.Frames as frames
 use Rattle.host_core.specs.State.{Files, State}
 use Rattle.conf_store.specs.declared.errors.LoadError.{LoadError}
 use Rattle.conf_store.specs.declared.errors.LoadError.TheVariants.{Bad, Disk, Memory}
 use Rattle.conf_store.specs.declared.errors.StoredWhy.{StoredWhy}
 
--- nothing of the state is changed, and a crash leaves what it would have left before
-pub record OnlyReads {H : Type 0} (told : H → Option State) (counts : H → Counts) (moment : H → ℕ)
-    (left_since : H → ℕ → Left → Type 0) (goes_on : H → H → Type 0) (old new : H) : Type 0 where
-  pub state : told new ≡ told old
-  pub faults : DiskMayRise (counts old) (counts new)
-  pub time : Elapses moment left_since old new (MayLeaveNow (told old))
-  pub goes : goes_on old new
+-- nothing is changed, and only the disk may have failed
+abbrev pub OnlyReads : {H : Type 0} → (H → Option State) → (H → Counts) → (H → ℕ)
+    → (H → ℕ → Left → Type 0) → (H → H → Type 0) → H → H → Type 0
+OnlyReads told counts moment left_since goes_on old new =
+    frames.OnlyReads told counts moment left_since goes_on DiskMayRise old new
 
 -- why the folder stands for nothing, or none for an error with another cause
 abbrev pub load_fault : LoadError → Option StoredWhy

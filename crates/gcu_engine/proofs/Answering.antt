@@ -7,20 +7,20 @@ use Rattle.conf_doc.specs.Document.{Document}
 use Rattle.conf_doc.specs.Trees.{document}
 use Rattle.conf_doc.specs.declared.configuration.Config.{Config}
 use Rattle.conf_doc.specs.declared.trees.Tree.{Tree}
-use Rattle.gcu_lines.specs.Lines.{last_line}
-use Rattle.gcu_lines.specs.Printing.{IsPrinted, IsSaid, text_in_lines}
-use Rattle.gcu_lines.specs.declared.outcomes.Outcome.{Outcome}
-use Rattle.gcu_lines.specs.declared.outcomes.Outcome.TheVariants.{Done, Memory, Usage, InputFault, DiskFault, PrintFault, ServiceFault, Unorderable, Budget}
-use Rattle.gcu_asking.specs.Asked.{asked, form_asked, preview_asked, target_asked}
-use Rattle.gcu_asking.specs.Asking.{Asking}
-use Rattle.gcu_asking.specs.Form.{Form, form, preview}
-use Rattle.gcu_asking.specs.Preparing.{FailsIn, Finds, Refuses, StandsIn, refusal}
-use Rattle.gcu_asking.specs.Request as request
-use Rattle.gcu_asking.specs.Request.{Request}
-use Rattle.gcu_asking.specs.Trees.{preview_document}
+use Rattle.gcu_output.specs.Lines.{last_line}
+use Rattle.gcu_output.specs.Printing.{IsPrinted, IsSaid, text_in_lines}
+use Rattle.gcu_output.specs.declared.outcomes.Outcome.{Outcome}
+use Rattle.gcu_output.specs.declared.outcomes.Outcome.TheVariants.{Done, Memory, Usage, InputFault, DiskFault, PrintFault, ServiceFault, Unorderable, Budget}
+use Rattle.gcu_requests.specs.Asked.{asked, form_asked, preview_asked, target_asked}
+use Rattle.gcu_requests.specs.Asking.{Asking}
+use Rattle.gcu_requests.specs.Form.{Form, form, preview}
+use Rattle.gcu_requests.specs.Preparing.{FailsIn, Finds, Refuses, StandsIn, refusal}
+use Rattle.gcu_requests.specs.Request as request
+use Rattle.gcu_requests.specs.Request.{Request}
+use Rattle.gcu_requests.specs.Trees.{preview_document}
 use Rattle.gcu_engine.specs.Answers.{Answers, Complete, HasCause, Leaves, Prints, Says}
 use Rattle.gcu_engine.specs.Commands.{AnswersTo}
-use Rattle.gcu_asking.proofs.Finding.{fails_before, fails_first, tree_given}
+use Rattle.gcu_requests.proofs.Finding.{fails_before, fails_first, tree_given}
 
 -- a refusal's last line is all that it says
 pub refused_says : (asking : Asking Request) (s : State) (e : Outcome) (old new : Counts)

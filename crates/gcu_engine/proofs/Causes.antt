@@ -2,11 +2,11 @@
 use Rattle.std.proofs.Common.{◌≡◌, ◌≤◌, ◌<◌, inl, inr, ⊎_elim, ℕ, Bool, true, false, List, sym, ap, subst, arith, Option, Result, Ok, Err, IfErr}
 use Rattle.host_core.specs.Counts.{Counts, DiskMayRise, NoneFell, PrintMayRise, Rose, last_count}
 use Rattle.host_core.specs.State.{State}
-use Rattle.gcu_lines.specs.Printing.{IsTold, may_have_written, outcome_of, IsPrinted, IsSaid}
-use Rattle.gcu_lines.specs.Lines.{last_line}
-use Rattle.gcu_lines.specs.declared.outcomes.Outcome.{Outcome}
-use Rattle.gcu_lines.specs.declared.outcomes.Outcome.TheVariants.{Done, Memory, Usage, InputFault, DiskFault, PrintFault, ServiceFault, Unorderable, Budget}
-use Rattle.gcu_asking.specs.Preparing.{Refuses}
+use Rattle.gcu_output.specs.Printing.{IsTold, may_have_written, outcome_of, IsPrinted, IsSaid}
+use Rattle.gcu_output.specs.Lines.{last_line}
+use Rattle.gcu_output.specs.declared.outcomes.Outcome.{Outcome}
+use Rattle.gcu_output.specs.declared.outcomes.Outcome.TheVariants.{Done, Memory, Usage, InputFault, DiskFault, PrintFault, ServiceFault, Unorderable, Budget}
+use Rattle.gcu_requests.specs.Preparing.{Refuses}
 use Rattle.gcu_engine.specs.Answers.{HasCause}
 use Rattle.gcu_engine.specs.PlanCommands.{RefusesOrEnds}
 

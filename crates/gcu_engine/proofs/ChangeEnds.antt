@@ -10,9 +10,9 @@ use Rattle.change_apply.specs.Change.{Change}
 use Rattle.change_apply.specs.Crashes.{IsLeft}
 use Rattle.change_apply.specs.Ends.{Finishes, Stops}
 use Rattle.change_apply.specs.declared.errors.ApplyFault.TheVariants.{Disk, Print, Service}
-use Rattle.gcu_lines.specs.Lines.{last_line, service_line}
-use Rattle.gcu_lines.specs.declared.outcomes.Outcome.{Outcome}
-use Rattle.gcu_lines.specs.declared.outcomes.Outcome.TheVariants.{Done, DiskFault, PrintFault, ServiceFault}
+use Rattle.gcu_output.specs.Lines.{last_line, service_line}
+use Rattle.gcu_output.specs.declared.outcomes.Outcome.{Outcome}
+use Rattle.gcu_output.specs.declared.outcomes.Outcome.TheVariants.{Done, DiskFault, PrintFault, ServiceFault}
 use Rattle.gcu_engine.specs.FaultLines.{found, line_at, service_lines_at}
 use Rattle.gcu_engine.specs.Answers.{HasCause}
 use Rattle.gcu_engine.specs.Changing.{IsLastLine, LeftChanged}

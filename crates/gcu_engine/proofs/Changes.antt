@@ -15,17 +15,17 @@ use Rattle.change_apply.specs.Change.{Change, name_at, restarts_at}
 use Rattle.change_apply.specs.Ends.{IsStopped, IsStoppedInRestarts}
 use Rattle.change_apply.specs.declared.ready.Restart.{Restart}
 use Rattle.plan_options.specs.Targets.{Target, patched, replaced, rolled_back}
-use Rattle.gcu_lines.specs.Lines.{last_line, service_line}
-use Rattle.gcu_lines.specs.declared.outcomes.Outcome.{Outcome}
-use Rattle.gcu_lines.specs.declared.outcomes.Outcome.TheVariants.{Done, Memory, Usage, InputFault, DiskFault, PrintFault, ServiceFault, Unorderable, Budget, TargetInvalid}
-use Rattle.gcu_asking.specs.Asking.{Asking, a_file, follows, follows_by, ◌>>>◌}
-use Rattle.gcu_asking.specs.ChangeAsked.{settled_asked}
-use Rattle.gcu_asking.specs.PlanAsked.{HasKeys, IsElsewhereAs, IsValidOr, made_asked, planning_asked, start_asked}
-use Rattle.gcu_asking.specs.ReadPlannings.{planning_of}
-use Rattle.gcu_asking.specs.Preparing.{FailsIn, Refuses, StandsIn, refusal}
-use Rattle.gcu_asking.specs.Request.{Planning, Request, change}
-use Rattle.gcu_asking.specs.RulesAsked.{settings_asked}
-use Rattle.gcu_asking.specs.declared.planning.Planning as code
+use Rattle.gcu_output.specs.Lines.{last_line, service_line}
+use Rattle.gcu_output.specs.declared.outcomes.Outcome.{Outcome}
+use Rattle.gcu_output.specs.declared.outcomes.Outcome.TheVariants.{Done, Memory, Usage, InputFault, DiskFault, PrintFault, ServiceFault, Unorderable, Budget, TargetInvalid}
+use Rattle.gcu_requests.specs.Asking.{Asking, a_file, follows, follows_by, ◌>>>◌}
+use Rattle.gcu_requests.specs.ChangeAsked.{settled_asked}
+use Rattle.gcu_requests.specs.PlanAsked.{HasKeys, IsElsewhereAs, IsValidOr, made_asked, planning_asked, start_asked}
+use Rattle.gcu_requests.specs.ReadPlannings.{planning_of}
+use Rattle.gcu_requests.specs.Preparing.{FailsIn, Refuses, StandsIn, refusal}
+use Rattle.gcu_requests.specs.Request.{Planning, Request, change}
+use Rattle.gcu_requests.specs.RulesAsked.{settings_asked}
+use Rattle.gcu_requests.specs.declared.planning.Planning as code
 use Rattle.gcu_engine.specs.FaultLines.{AreNamed}
 use Rattle.gcu_engine.specs.Answers.{HasCause, Leaves, Prints, Says}
 use Rattle.gcu_engine.specs.Changing.{AreAcknowledged, IsChangeFor, LeftChanged, LeftOfChange, begun}

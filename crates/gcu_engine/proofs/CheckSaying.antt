@@ -3,14 +3,14 @@ use Rattle.std.proofs.Common.{Option, Some, None, Ok, Err, IfSome, refl}
 use Rattle.host_core.specs.Counts.{Counts}
 use Rattle.host_core.specs.State.{State}
 use Rattle.conf_doc.specs.declared.configuration.Config.{Config}
-use Rattle.gcu_lines.specs.Lines.{last_line}
-use Rattle.gcu_lines.specs.declared.outcomes.Outcome.{Outcome}
-use Rattle.gcu_lines.specs.declared.outcomes.Outcome.TheVariants.{Done}
-use Rattle.gcu_asking.specs.Checking.{check_asked}
-use Rattle.gcu_asking.specs.Preparing.{Finds, Refuses}
-use Rattle.gcu_asking.specs.Request as request
+use Rattle.gcu_output.specs.Lines.{last_line}
+use Rattle.gcu_output.specs.declared.outcomes.Outcome.{Outcome}
+use Rattle.gcu_output.specs.declared.outcomes.Outcome.TheVariants.{Done}
+use Rattle.gcu_requests.specs.Checking.{check_asked}
+use Rattle.gcu_requests.specs.Preparing.{Finds, Refuses}
+use Rattle.gcu_requests.specs.Request as request
 use Rattle.gcu_engine.specs.Answers.{Says}
-use Rattle.gcu_asking.proofs.Checked.{check_of}
+use Rattle.gcu_requests.proofs.Checked.{check_of}
 use Rattle.gcu_engine.proofs.Answering.{refused_says}
 
 -- what is printed of a valid configuration is what is asked for

@@ -6,14 +6,14 @@ use Rattle.host_core.specs.State.{State, settled, with_pending}
 use Rattle.checkpoints.specs.Changes.{IsDeleted, IsDeletedOrNot}
 use Rattle.checkpoints.specs.Names.{is_good_name}
 use Rattle.checkpoints.specs.Points.{Held, points}
-use Rattle.gcu_lines.specs.declared.outcomes.Outcome.{Outcome}
-use Rattle.gcu_lines.specs.declared.outcomes.Outcome.TheVariants.{BadName, DiskFault}
-use Rattle.gcu_asking.specs.Asked.{delete_asked, there_answer, there_asked}
-use Rattle.gcu_asking.specs.Asking.{a_settling, follows, settles_first, ◌>>>◌}
-use Rattle.gcu_asking.specs.Preparing.{Found}
-use Rattle.gcu_asking.specs.Request as request
-use Rattle.gcu_asking.specs.Request.{Request}
-use Rattle.gcu_asking.proofs.Finding.{then_found}
+use Rattle.gcu_output.specs.declared.outcomes.Outcome.{Outcome}
+use Rattle.gcu_output.specs.declared.outcomes.Outcome.TheVariants.{BadName, DiskFault}
+use Rattle.gcu_requests.specs.Asked.{delete_asked, there_answer, there_asked}
+use Rattle.gcu_requests.specs.Asking.{a_settling, follows, settles_first, ◌>>>◌}
+use Rattle.gcu_requests.specs.Preparing.{Found}
+use Rattle.gcu_requests.specs.Request as request
+use Rattle.gcu_requests.specs.Request.{Request}
+use Rattle.gcu_requests.proofs.Finding.{then_found}
 use Rattle.gcu_engine.proofs.Writing.{FindsUnit, IsWriting}
 
 -- what deleting does to the files

@@ -4,17 +4,17 @@ use Rattle.host_core.specs.Crashes.{Elapses, LeavesOnly, Left, MayLeave, MayLeav
 use Rattle.host_core.specs.State.{State, printed}
 use Rattle.host_core.proofs.Runs.{begins, goes_on, weaker}
 use Rattle.plan_options.specs.Targets.{Target}
-use Rattle.gcu_lines.specs.Printing.{LeftWithOutput}
-use Rattle.gcu_asking.specs.Asked.{form_asked}
-use Rattle.gcu_asking.specs.Asking.{Asking}
-use Rattle.gcu_asking.specs.ChangeAsked.{change_asked}
-use Rattle.gcu_asking.specs.Form.{Form, change, form}
-use Rattle.gcu_asking.specs.Request as request
-use Rattle.gcu_asking.specs.Request.{Request}
+use Rattle.gcu_output.specs.Printing.{LeftWithOutput}
+use Rattle.gcu_requests.specs.Asked.{form_asked}
+use Rattle.gcu_requests.specs.Asking.{Asking}
+use Rattle.gcu_requests.specs.ChangeAsked.{change_asked}
+use Rattle.gcu_requests.specs.Form.{Form, change, form}
+use Rattle.gcu_requests.specs.Request as request
+use Rattle.gcu_requests.specs.Request.{Request}
 use Rattle.gcu_engine.specs.Answers.{LeftByForm, LeftDoing, LeftMeanwhile, LeftOf}
 use Rattle.gcu_engine.specs.Commands.{LeftTo, TellsOn}
 use Rattle.gcu_engine.specs.Doing.{LeftToChange}
-use Rattle.gcu_lines.proofs.Elapsing.{elapses_both, elapses_weaker}
+use Rattle.gcu_output.proofs.Elapsing.{elapses_both, elapses_weaker}
 
 -- with no output yet
 pub now_with_output : (before : Option State) (left : Left) → MayLeaveNow before left → LeftWithOutput before left

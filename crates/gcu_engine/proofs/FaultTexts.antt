@@ -8,8 +8,8 @@ use Rattle.move_core.specs.declared.settings.ServiceTie.{ServiceTie}
 use Rattle.move_core.specs.declared.settings.Settings.{Settings}
 use Rattle.change_apply.specs.Change.{name_at, restart_of, restarts_of}
 use Rattle.change_apply.specs.declared.ready.Restart.{Restart}
-use Rattle.gcu_lines.specs.Lines.{last_line, service_line}
-use Rattle.gcu_lines.specs.declared.outcomes.Outcome.TheVariants.{DiskFault}
+use Rattle.gcu_output.specs.Lines.{last_line, service_line}
+use Rattle.gcu_output.specs.declared.outcomes.Outcome.TheVariants.{DiskFault}
 use Rattle.gcu_engine.specs.FaultLines.{AreNamed, AreServiceLines, disk_lines, found, line_at, line_for, lines_for, service_lines_at}
 use Rattle.gcu_engine.specs.declared.fault_lines.ServiceLine.{ServiceLine}
 

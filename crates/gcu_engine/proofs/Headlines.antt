@@ -16,17 +16,17 @@ use Rattle.change_apply.specs.Crashes.{StandAt}
 use Rattle.change_apply.specs.Ends.{IsStopped}
 use Rattle.change_apply.specs.declared.ready.Restart.{Restart}
 use Rattle.plan_options.specs.Targets.{Target}
-use Rattle.gcu_lines.specs.Lines.{last_line}
-use Rattle.gcu_lines.specs.declared.outcomes.Outcome.{Outcome}
-use Rattle.gcu_lines.specs.declared.outcomes.Outcome.TheVariants.{Done, Memory, InputFault, DiskFault, PrintFault, ServiceFault, Unorderable, Budget}
-use Rattle.gcu_asking.specs.Asked.{asked, form_asked}
-use Rattle.gcu_asking.specs.Asking.{Asking}
-use Rattle.gcu_asking.specs.ChangeAsked.{change_asked}
-use Rattle.gcu_asking.specs.Form.{Form, form}
-use Rattle.gcu_asking.specs.Form as forms
-use Rattle.gcu_asking.specs.PlanAsked.{dry_run_asked}
-use Rattle.gcu_asking.specs.Request as request
-use Rattle.gcu_asking.specs.Request.{Planning, Request}
+use Rattle.gcu_output.specs.Lines.{last_line}
+use Rattle.gcu_output.specs.declared.outcomes.Outcome.{Outcome}
+use Rattle.gcu_output.specs.declared.outcomes.Outcome.TheVariants.{Done, Memory, InputFault, DiskFault, PrintFault, ServiceFault, Unorderable, Budget}
+use Rattle.gcu_requests.specs.Asked.{asked, form_asked}
+use Rattle.gcu_requests.specs.Asking.{Asking}
+use Rattle.gcu_requests.specs.ChangeAsked.{change_asked}
+use Rattle.gcu_requests.specs.Form.{Form, form}
+use Rattle.gcu_requests.specs.Form as forms
+use Rattle.gcu_requests.specs.PlanAsked.{dry_run_asked}
+use Rattle.gcu_requests.specs.Request as request
+use Rattle.gcu_requests.specs.Request.{Planning, Request}
 use Rattle.gcu_engine.specs.Answers.{Answers, IsDoneOutput, IsUntouched, Leaves, LeavesDone, LeavesStopped, LeftByForm, LeftDoing, LeftMeanwhile, LeftOf, Prints, Says}
 use Rattle.gcu_engine.specs.Changing.{IsChangeFor, IsFirstText, IsLastLine, LeftChanged, LeftEarly, LeftOfChange, begun}
 use Rattle.gcu_engine.specs.Headline.{HasNoOrder, IsBefore, IsHeadline, IsLastOrNext, IsOneChange, IsPlanOutput, IsRightPlan, PrintsPlan, StandsAfter, StoresTarget, target_in}

@@ -2,12 +2,12 @@
 use Rattle.std.proofs.Common.{ℕ, List, ◌++◌, refl, Option, Some, None, Ok, Err, IfSome}
 use Rattle.host_core.specs.Counts.{Counts}
 use Rattle.host_core.specs.State.{State}
-use Rattle.gcu_lines.specs.Lines.{last_line, lines}
-use Rattle.gcu_lines.specs.declared.outcomes.Outcome.{Outcome}
-use Rattle.gcu_lines.specs.declared.outcomes.Outcome.TheVariants.{Done}
-use Rattle.gcu_asking.specs.Asked.{list_asked}
-use Rattle.gcu_asking.specs.Preparing.{Finds, Refuses}
-use Rattle.gcu_asking.specs.Request as request
+use Rattle.gcu_output.specs.Lines.{last_line, lines}
+use Rattle.gcu_output.specs.declared.outcomes.Outcome.{Outcome}
+use Rattle.gcu_output.specs.declared.outcomes.Outcome.TheVariants.{Done}
+use Rattle.gcu_requests.specs.Asked.{list_asked}
+use Rattle.gcu_requests.specs.Preparing.{Finds, Refuses}
+use Rattle.gcu_requests.specs.Request as request
 use Rattle.gcu_engine.specs.Answers.{Says}
 use Rattle.gcu_engine.proofs.Answering.{refused_says}
 

@@ -7,18 +7,18 @@ use Rattle.host_core.specs.State.{State}
 use Rattle.host_core.proofs.Runs as runs
 use Rattle.checkpoints.specs.Names.{is_good_name}
 use Rattle.plan_options.specs.Targets.{Target, patched, replaced, rolled_back}
-use Rattle.gcu_lines.specs.Lines.{last_line}
-use Rattle.gcu_lines.specs.declared.outcomes.Outcome.{Outcome}
-use Rattle.gcu_lines.specs.declared.outcomes.Outcome.TheVariants.{Done, Memory, InputFault, DiskFault, PrintFault, ServiceFault, Unorderable, Budget, BadName}
-use Rattle.gcu_asking.specs.Asking.{Asking, Source, follows}
-use Rattle.gcu_asking.specs.ChangeAsked.{change_asked, settled_asked}
-use Rattle.gcu_asking.specs.PlanAsked.{target_answer}
-use Rattle.gcu_asking.specs.Preparing.{Found, Refuses, RefusesAlways, refusal}
-use Rattle.gcu_asking.specs.Request.{Request}
+use Rattle.gcu_output.specs.Lines.{last_line}
+use Rattle.gcu_output.specs.declared.outcomes.Outcome.{Outcome}
+use Rattle.gcu_output.specs.declared.outcomes.Outcome.TheVariants.{Done, Memory, InputFault, DiskFault, PrintFault, ServiceFault, Unorderable, Budget, BadName}
+use Rattle.gcu_requests.specs.Asking.{Asking, Source, follows}
+use Rattle.gcu_requests.specs.ChangeAsked.{change_asked, settled_asked}
+use Rattle.gcu_requests.specs.PlanAsked.{target_answer}
+use Rattle.gcu_requests.specs.Preparing.{Found, Refuses, RefusesAlways, refusal}
+use Rattle.gcu_requests.specs.Request.{Request}
 use Rattle.gcu_engine.specs.Answers.{Complete, IsStopped, IsUntouched, Prints, Says}
 use Rattle.gcu_engine.specs.Commands.{AnswersTo, CompleteTo}
 use Rattle.gcu_engine.specs.Doing.{LeftToChange}
-use Rattle.gcu_asking.proofs.Finding.{first_refused, found_always}
+use Rattle.gcu_requests.proofs.Finding.{first_refused, found_always}
 use Rattle.gcu_engine.proofs.Answering.{refused_says}
 
 -- ---- names

@@ -5,18 +5,18 @@ use Rattle.host_core.specs.Counts.{Counts}
 use Rattle.host_core.specs.State.{State}
 use Rattle.move_core.specs.declared.moves.Move.{Move}
 use Rattle.plan_options.specs.Targets.{Target}
-use Rattle.gcu_lines.specs.declared.outcomes.Outcome.{Outcome}
-use Rattle.gcu_lines.specs.declared.outcomes.Outcome.TheVariants.{Done, Memory, Usage, InputFault, DiskFault, PrintFault, ServiceFault, Unorderable, Budget}
-use Rattle.gcu_asking.specs.Asking.{Asking, follows}
-use Rattle.gcu_asking.specs.PlanAsked.{dry_run_asked, plan_asked, planning_asked, target_answer}
-use Rattle.gcu_asking.specs.ReadPlannings.{planning_of}
-use Rattle.gcu_asking.specs.Preparing.{Finds, Refuses, RefusesAlways, refusal}
-use Rattle.gcu_asking.specs.Request as request
-use Rattle.gcu_asking.specs.Request.{Request}
-use Rattle.gcu_asking.specs.declared.planning.Planning as code
+use Rattle.gcu_output.specs.declared.outcomes.Outcome.{Outcome}
+use Rattle.gcu_output.specs.declared.outcomes.Outcome.TheVariants.{Done, Memory, Usage, InputFault, DiskFault, PrintFault, ServiceFault, Unorderable, Budget}
+use Rattle.gcu_requests.specs.Asking.{Asking, follows}
+use Rattle.gcu_requests.specs.PlanAsked.{dry_run_asked, plan_asked, planning_asked, target_answer}
+use Rattle.gcu_requests.specs.ReadPlannings.{planning_of}
+use Rattle.gcu_requests.specs.Preparing.{Finds, Refuses, RefusesAlways, refusal}
+use Rattle.gcu_requests.specs.Request as request
+use Rattle.gcu_requests.specs.Request.{Request}
+use Rattle.gcu_requests.specs.declared.planning.Planning as code
 use Rattle.gcu_engine.specs.Answers.{HasCause}
 use Rattle.gcu_engine.specs.PlanCommands.{IsSolved, RefusesOrEnds, SaysPlan}
-use Rattle.gcu_asking.proofs.Finding.{first_refused, found_always, then_found}
+use Rattle.gcu_requests.proofs.Finding.{first_refused, found_always, then_found}
 use Rattle.gcu_engine.proofs.Answering.{refused_says}
 
 -- the request for it

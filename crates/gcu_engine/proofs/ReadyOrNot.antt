@@ -8,24 +8,24 @@ use Rattle.conf_store.specs.Changes.{IsSettled}
 use Rattle.conf_store.specs.Folds.{StandsFor}
 use Rattle.move_core.specs.declared.moves.Move.{Move}
 use Rattle.plan_options.specs.Targets.{Target}
-use Rattle.gcu_lines.specs.Lines.{last_line}
-use Rattle.gcu_lines.specs.Printing.{IsSaid, LeftInLine}
-use Rattle.gcu_lines.specs.declared.outcomes.Outcome.{Outcome}
-use Rattle.gcu_lines.specs.declared.outcomes.Outcome.TheVariants.{Memory, InputFault, DiskFault, Unorderable, Budget}
-use Rattle.gcu_asking.specs.Asking.{Asking}
-use Rattle.gcu_asking.specs.ChangeAsked.{settled_asked}
-use Rattle.gcu_asking.specs.PlanAsked.{planning_asked}
-use Rattle.gcu_asking.specs.ReadPlannings.{planning_of}
-use Rattle.gcu_asking.specs.Preparing.{Finds, Refuses}
-use Rattle.gcu_asking.specs.Request.{Planning, Request}
-use Rattle.gcu_asking.specs.declared.planning.Planning as code
+use Rattle.gcu_output.specs.Lines.{last_line}
+use Rattle.gcu_output.specs.Printing.{IsSaid, LeftInLine}
+use Rattle.gcu_output.specs.declared.outcomes.Outcome.{Outcome}
+use Rattle.gcu_output.specs.declared.outcomes.Outcome.TheVariants.{Memory, InputFault, DiskFault, Unorderable, Budget}
+use Rattle.gcu_requests.specs.Asking.{Asking}
+use Rattle.gcu_requests.specs.ChangeAsked.{settled_asked}
+use Rattle.gcu_requests.specs.PlanAsked.{planning_asked}
+use Rattle.gcu_requests.specs.ReadPlannings.{planning_of}
+use Rattle.gcu_requests.specs.Preparing.{Finds, Refuses}
+use Rattle.gcu_requests.specs.Request.{Planning, Request}
+use Rattle.gcu_requests.specs.declared.planning.Planning as code
 use Rattle.gcu_engine.specs.Answers.{HasCause}
 use Rattle.gcu_engine.specs.Commands.{AnswersTo, IsReady}
 use Rattle.gcu_engine.specs.Doing.{IsKept, IsMissed, IsPrepared, IsReadyIn, LeftDoing, LeftToChange, change_by}
 use Rattle.gcu_engine.specs.PlanCommands.{IsSolved, RefusesOrEnds}
 use Rattle.gcu_engine.specs.Plannings.{IsPlanFor}
 use Rattle.gcu_engine.specs.declared.change.ReadyChange.{ReadyChange}
-use Rattle.gcu_lines.proofs.Elapsing.{elapses_both}
+use Rattle.gcu_output.proofs.Elapsing.{elapses_both}
 use Rattle.gcu_engine.proofs.Causes.{rose_from}
 use Rattle.gcu_engine.proofs.Changes.{KeepsPoints, change_for, doing_left, early_left, missed_before, missed_says, part_left, ready_before, refused_missed, settled_early, solved_missed}
 use Rattle.gcu_engine.proofs.Writing.{ready_printed}

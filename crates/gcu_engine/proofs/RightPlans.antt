@@ -11,11 +11,11 @@ use Rattle.move_core.specs.Plans.{IsAllowed, IsWay, conf}
 use Rattle.move_core.specs.declared.contexts.Ctx.{Ctx}
 use Rattle.move_core.specs.declared.moves.Move.{Move}
 use Rattle.plan_options.specs.Targets.{Target}
-use Rattle.gcu_lines.specs.declared.outcomes.Outcome.{Outcome}
-use Rattle.gcu_asking.specs.PlanAsked.{goal_asked, made_asked, planning_asked, start_asked}
-use Rattle.gcu_asking.specs.Request.{Planning}
-use Rattle.gcu_asking.specs.RulesAsked.{ctx_asked}
-use Rattle.gcu_asking.specs.StoredAsked.{stored_answer}
+use Rattle.gcu_output.specs.declared.outcomes.Outcome.{Outcome}
+use Rattle.gcu_requests.specs.PlanAsked.{goal_asked, made_asked, planning_asked, start_asked}
+use Rattle.gcu_requests.specs.Request.{Planning}
+use Rattle.gcu_requests.specs.RulesAsked.{ctx_asked}
+use Rattle.gcu_requests.specs.StoredAsked.{stored_answer}
 use Rattle.gcu_engine.specs.Headline.{IsRightPlan}
 use Rattle.gcu_engine.specs.Plannings.{IsPlanFor}
 

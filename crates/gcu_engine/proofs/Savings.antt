@@ -7,17 +7,17 @@ use Rattle.conf_doc.specs.declared.configuration.Config.{Config}
 use Rattle.checkpoints.specs.Changes.{IsSaved, IsSavedOrNot}
 use Rattle.checkpoints.specs.Names.{is_good_name}
 use Rattle.checkpoints.specs.Points.{Held, points}
-use Rattle.gcu_lines.specs.declared.outcomes.Outcome.{Outcome}
-use Rattle.gcu_lines.specs.declared.outcomes.Outcome.TheVariants.{BadName, DiskFault}
-use Rattle.gcu_asking.specs.Asked.{absent_answer, absent_asked, save_asked}
-use Rattle.gcu_asking.specs.Asking.{Asking, a_settling, follows, follows_by, settles_first, ◌>>>◌}
-use Rattle.gcu_asking.specs.Checking.{IsJudged, check_asked}
-use Rattle.gcu_asking.specs.ModelFiles.{AreModels, File, bytes_asked, files_asked, model_limit, models_asked, paths_asked, texts_in}
-use Rattle.gcu_asking.specs.Preparing.{Finds, Found}
-use Rattle.gcu_asking.specs.Request as request
-use Rattle.gcu_asking.specs.Request.{Request}
-use Rattle.gcu_asking.specs.StoredAsked.{stored_asked}
-use Rattle.gcu_asking.proofs.Finding.{first_refused, then_found}
+use Rattle.gcu_output.specs.declared.outcomes.Outcome.{Outcome}
+use Rattle.gcu_output.specs.declared.outcomes.Outcome.TheVariants.{BadName, DiskFault}
+use Rattle.gcu_requests.specs.Asked.{absent_answer, absent_asked, save_asked}
+use Rattle.gcu_requests.specs.Asking.{Asking, a_settling, follows, follows_by, settles_first, ◌>>>◌}
+use Rattle.gcu_requests.specs.Checking.{IsJudged, check_asked}
+use Rattle.gcu_requests.specs.ModelFiles.{AreModels, File, bytes_asked, files_asked, model_limit, models_asked, paths_asked, texts_in}
+use Rattle.gcu_requests.specs.Preparing.{Finds, Found}
+use Rattle.gcu_requests.specs.Request as request
+use Rattle.gcu_requests.specs.Request.{Request}
+use Rattle.gcu_requests.specs.StoredAsked.{stored_asked}
+use Rattle.gcu_requests.proofs.Finding.{first_refused, then_found}
 use Rattle.gcu_engine.proofs.Writing.{FindsUnit, IsWriting}
 
 -- what saving does to the files

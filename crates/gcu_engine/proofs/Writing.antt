@@ -13,13 +13,13 @@ use Rattle.host_core.specs.Names.{name_cmp}
 use Rattle.host_core.specs.State.{Files, Pending, State, dirty, listing, printed, settled, with_file, with_pending}
 use Rattle.host_core.proofs.Runs as runs
 use Rattle.conf_store.specs.Changes.{AreLeft, Changes, Leads, Settles}
-use Rattle.gcu_lines.specs.Printing.{LeftWithOutput, IsFirst, IsTold, may_have_written, outcome_of, IsPrinted}
-use Rattle.gcu_lines.specs.Lines.{last_line}
-use Rattle.gcu_lines.specs.declared.outcomes.Outcome.{Outcome}
-use Rattle.gcu_lines.specs.declared.outcomes.Outcome.TheVariants.{Done, Memory, Usage, InputFault, DiskFault, PrintFault, ServiceFault, Unorderable, Budget}
-use Rattle.gcu_asking.specs.Asking.{Asking, a_file, a_settling}
-use Rattle.gcu_asking.specs.Preparing.{FailsIn, Finds, Found, Refuses, StandsIn, refusal}
-use Rattle.gcu_asking.specs.Request.{Request}
+use Rattle.gcu_output.specs.Printing.{LeftWithOutput, IsFirst, IsTold, may_have_written, outcome_of, IsPrinted}
+use Rattle.gcu_output.specs.Lines.{last_line}
+use Rattle.gcu_output.specs.declared.outcomes.Outcome.{Outcome}
+use Rattle.gcu_output.specs.declared.outcomes.Outcome.TheVariants.{Done, Memory, Usage, InputFault, DiskFault, PrintFault, ServiceFault, Unorderable, Budget}
+use Rattle.gcu_requests.specs.Asking.{Asking, a_file, a_settling}
+use Rattle.gcu_requests.specs.Preparing.{FailsIn, Finds, Found, Refuses, StandsIn, refusal}
+use Rattle.gcu_requests.specs.Request.{Request}
 use Rattle.gcu_engine.specs.Answers.{HasCause, LeavesDone, LeavesStopped, LeftChanging, LeftDoing, LeftOf, Says, IsDoneOutput}
 use Rattle.gcu_engine.specs.Commands.{AnswersTo, IsReady, LeavesRefused, LeftTo, TellsOn}
 use Rattle.gcu_engine.proofs.Answering.{printed_leaves, refused_cause, refused_says}

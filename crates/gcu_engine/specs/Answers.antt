@@ -11,16 +11,16 @@ use Rattle.move_core.specs.Operations.{plan_text}
 use Rattle.move_core.specs.declared.moves.Move.{Move}
 use Rattle.change_apply.specs.Change.{name_at}
 use Rattle.change_apply.specs.declared.errors.ApplyFault.TheVariants.{Disk, Service}
-use Rattle.gcu_lines.specs.Lines.{last_line, lines, service_line}
-use Rattle.gcu_lines.specs.declared.outcomes.Outcome.{Outcome}
-use Rattle.gcu_lines.specs.declared.outcomes.Outcome.TheVariants.{Done, Memory, Usage, InputFault, DiskFault, PrintFault, ServiceFault, Unorderable, Budget}
-use Rattle.gcu_lines.specs.Printing.{LeftWithOutput}
-use Rattle.gcu_asking.specs.Asked.{asked, form_asked}
-use Rattle.gcu_asking.specs.Asking.{Asking, an_input, a_file, a_settling}
-use Rattle.gcu_asking.specs.ChangeAsked.{change_asked}
-use Rattle.gcu_asking.specs.Form as forms
-use Rattle.gcu_asking.specs.Form.{Form, form}
-use Rattle.gcu_asking.specs.Request.{Planning, Request, change, delete_checkpoint, demo, list_checkpoints, plan, preview, check, save_checkpoint}
+use Rattle.gcu_output.specs.Lines.{last_line, lines, service_line}
+use Rattle.gcu_output.specs.declared.outcomes.Outcome.{Outcome}
+use Rattle.gcu_output.specs.declared.outcomes.Outcome.TheVariants.{Done, Memory, Usage, InputFault, DiskFault, PrintFault, ServiceFault, Unorderable, Budget}
+use Rattle.gcu_output.specs.Printing.{LeftWithOutput}
+use Rattle.gcu_requests.specs.Asked.{asked, form_asked}
+use Rattle.gcu_requests.specs.Asking.{Asking, an_input, a_file, a_settling}
+use Rattle.gcu_requests.specs.ChangeAsked.{change_asked}
+use Rattle.gcu_requests.specs.Form as forms
+use Rattle.gcu_requests.specs.Form.{Form, form}
+use Rattle.gcu_requests.specs.Request.{Planning, Request, change, delete_checkpoint, demo, list_checkpoints, plan, preview, check, save_checkpoint}
 use Rattle.gcu_engine.specs.Changing.{AreAcknowledged, IsChanged, IsCutShort, IsHalted, LeftOfChange}
 use Rattle.gcu_engine.specs.Plannings.{IsPlanFor, IsUnsolved}
 use Rattle.gcu_engine.specs.Summary.{summary}

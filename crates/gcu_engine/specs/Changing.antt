@@ -13,10 +13,10 @@ use Rattle.change_apply.specs.Crashes.{IsLeft}
 use Rattle.change_apply.specs.Ends.{Finishes as IsFinished, IsStoppedBy}
 use Rattle.change_apply.specs.declared.errors.ApplyFault.{ApplyFault}
 use Rattle.change_apply.specs.declared.errors.ApplyFault.TheVariants.{Print}
-use Rattle.gcu_lines.specs.Lines.{last_line, service_line}
-use Rattle.gcu_lines.specs.declared.outcomes.Outcome.{Outcome}
-use Rattle.gcu_asking.specs.Asking.{Asking}
-use Rattle.gcu_asking.specs.Request.{Planning, Request, change}
+use Rattle.gcu_output.specs.Lines.{last_line, service_line}
+use Rattle.gcu_output.specs.declared.outcomes.Outcome.{Outcome}
+use Rattle.gcu_requests.specs.Asking.{Asking}
+use Rattle.gcu_requests.specs.Request.{Planning, Request, change}
 use Rattle.gcu_engine.specs.Plannings.{IsPlanFor}
 
 -- the change that does a plan on what the folder stands for, with the services of each move

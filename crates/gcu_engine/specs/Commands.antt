@@ -4,11 +4,11 @@ use Rattle.host_core.specs.Counts.{Counts, NoneRose}
 use Rattle.host_core.specs.Crashes.{Left}
 use Rattle.host_core.specs.State.{Files, State}
 use Rattle.conf_store.specs.Changes.{Changes}
-use Rattle.gcu_lines.specs.Lines.{last_line}
-use Rattle.gcu_lines.specs.declared.outcomes.Outcome.{Outcome}
-use Rattle.gcu_lines.specs.declared.outcomes.Outcome.TheVariants.{DiskFault}
-use Rattle.gcu_asking.specs.Asking.{Asking}
-use Rattle.gcu_asking.specs.Request.{Request}
+use Rattle.gcu_output.specs.Lines.{last_line}
+use Rattle.gcu_output.specs.declared.outcomes.Outcome.{Outcome}
+use Rattle.gcu_output.specs.declared.outcomes.Outcome.TheVariants.{DiskFault}
+use Rattle.gcu_requests.specs.Asking.{Asking}
+use Rattle.gcu_requests.specs.Request.{Request}
 use Rattle.gcu_engine.specs.Answers.{Complete, Leaves, LeftOf, Says}
 
 -- what is left, with that answer

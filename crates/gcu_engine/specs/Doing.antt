@@ -11,12 +11,12 @@ use Rattle.move_core.specs.declared.settings.Settings.{Settings}
 use Rattle.change_apply.specs.Change.{Change, change_of, restarts_at, steps}
 use Rattle.change_apply.specs.Ends.{Finishes, IsStoppedBy, IsStoppedInRestarts}
 use Rattle.change_apply.specs.declared.errors.ApplyFault.TheVariants.{Disk, Print}
-use Rattle.gcu_lines.specs.Lines.{last_line, service_line}
-use Rattle.gcu_lines.specs.declared.outcomes.Outcome.{Outcome}
-use Rattle.gcu_lines.specs.declared.outcomes.Outcome.TheVariants.{Done, DiskFault, PrintFault, ServiceFault, Unorderable, Budget}
-use Rattle.gcu_asking.specs.Asking.{Asking}
-use Rattle.gcu_asking.specs.Preparing.{FailsIn, StandsIn, refusal}
-use Rattle.gcu_asking.specs.Request.{Planning, Request}
+use Rattle.gcu_output.specs.Lines.{last_line, service_line}
+use Rattle.gcu_output.specs.declared.outcomes.Outcome.{Outcome}
+use Rattle.gcu_output.specs.declared.outcomes.Outcome.TheVariants.{Done, DiskFault, PrintFault, ServiceFault, Unorderable, Budget}
+use Rattle.gcu_requests.specs.Asking.{Asking}
+use Rattle.gcu_requests.specs.Preparing.{FailsIn, StandsIn, refusal}
+use Rattle.gcu_requests.specs.Request.{Planning, Request}
 use Rattle.gcu_engine.specs.FaultLines.{AreFaultLines, AreNamed}
 use Rattle.gcu_engine.specs.Answers.{HasCause}
 use Rattle.gcu_engine.specs.Changing.{IsChangeFor, LeftChanged, LeftOfChange}

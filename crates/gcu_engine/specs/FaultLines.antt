@@ -3,8 +3,8 @@ use Rattle.std.specs.Prelude.{◌≡◌, ◌==◌, ℕ, zero, suc, List, [], ◌
 use Rattle.move_core.specs.declared.settings.Settings.{Settings}
 use Rattle.change_apply.specs.Change.{name_at}
 use Rattle.change_apply.specs.declared.ready.Restart.{Restart}
-use Rattle.gcu_lines.specs.Lines.{last_line, service_line}
-use Rattle.gcu_lines.specs.declared.outcomes.Outcome.TheVariants.{DiskFault}
+use Rattle.gcu_output.specs.Lines.{last_line, service_line}
+use Rattle.gcu_output.specs.declared.outcomes.Outcome.TheVariants.{DiskFault}
 use Rattle.gcu_engine.specs.declared.fault_lines.FaultLines.{FaultLines}
 use Rattle.gcu_engine.specs.declared.fault_lines.ServiceLine.{ServiceLine}
 

@@ -18,14 +18,14 @@ use Rattle.move_core.specs.declared.contexts.Ctx.{Ctx}
 use Rattle.move_core.specs.declared.moves.Move.{Move}
 use Rattle.change_apply.specs.Acknowledgements.{ack, acks}
 use Rattle.plan_options.specs.Targets.{Target}
-use Rattle.gcu_lines.specs.declared.outcomes.Outcome.{Outcome}
-use Rattle.gcu_lines.specs.declared.outcomes.Outcome.TheVariants.{Done, Unorderable}
-use Rattle.gcu_asking.specs.Asked.{asked}
-use Rattle.gcu_asking.specs.Form.{Form, form, plan, change}
-use Rattle.gcu_asking.specs.PlanAsked.{made_asked}
-use Rattle.gcu_asking.specs.Request as request
-use Rattle.gcu_asking.specs.Request.{Planning, Request, delete_checkpoint, save_checkpoint}
-use Rattle.gcu_asking.specs.RulesAsked.{ctx_asked}
+use Rattle.gcu_output.specs.declared.outcomes.Outcome.{Outcome}
+use Rattle.gcu_output.specs.declared.outcomes.Outcome.TheVariants.{Done, Unorderable}
+use Rattle.gcu_requests.specs.Asked.{asked}
+use Rattle.gcu_requests.specs.Form.{Form, form, plan, change}
+use Rattle.gcu_requests.specs.PlanAsked.{made_asked}
+use Rattle.gcu_requests.specs.Request as request
+use Rattle.gcu_requests.specs.Request.{Planning, Request, delete_checkpoint, save_checkpoint}
+use Rattle.gcu_requests.specs.RulesAsked.{ctx_asked}
 use Rattle.gcu_engine.specs.Changing.{IsLastLine}
 
 -- ---- a plan

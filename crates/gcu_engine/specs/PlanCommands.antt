@@ -4,14 +4,14 @@ use Rattle.host_core.specs.Counts.{Counts}
 use Rattle.host_core.specs.State.{State}
 use Rattle.move_core.specs.Operations.{plan_text}
 use Rattle.move_core.specs.declared.moves.Move.{Move}
-use Rattle.gcu_lines.specs.Lines.{last_line}
-use Rattle.gcu_lines.specs.declared.outcomes.Outcome.{Outcome}
-use Rattle.gcu_lines.specs.declared.outcomes.Outcome.TheVariants.{Done, Memory, Unorderable, Budget}
-use Rattle.gcu_asking.specs.Asking.{Asking}
-use Rattle.gcu_asking.specs.Preparing.{Refuses}
-use Rattle.gcu_asking.specs.Request.{Request}
-use Rattle.gcu_asking.specs.declared.planning.Planning.{Planning}
-use Rattle.gcu_asking.specs.ReadPlannings.{planning_of}
+use Rattle.gcu_output.specs.Lines.{last_line}
+use Rattle.gcu_output.specs.declared.outcomes.Outcome.{Outcome}
+use Rattle.gcu_output.specs.declared.outcomes.Outcome.TheVariants.{Done, Memory, Unorderable, Budget}
+use Rattle.gcu_requests.specs.Asking.{Asking}
+use Rattle.gcu_requests.specs.Preparing.{Refuses}
+use Rattle.gcu_requests.specs.Request.{Request}
+use Rattle.gcu_requests.specs.declared.planning.Planning.{Planning}
+use Rattle.gcu_requests.specs.ReadPlannings.{planning_of}
 use Rattle.gcu_engine.specs.Answers.{Says}
 use Rattle.gcu_engine.specs.Plannings.{HasNone, IsPlanFor}
 use Rattle.gcu_engine.specs.Summary.{summary}

@@ -5,9 +5,9 @@ use Rattle.move_core.specs.declared.moves.Move.{Move}
 use Rattle.plan_search.specs.Searches.{IsSearchAnswer}
 use Rattle.plan_search.specs.declared.errors.SearchError.{SearchError}
 use Rattle.plan_search.specs.declared.errors.SearchError.TheVariants as search
-use Rattle.gcu_lines.specs.declared.outcomes.Outcome.{Outcome}
-use Rattle.gcu_lines.specs.declared.outcomes.Outcome.TheVariants.{Unorderable, Budget}
-use Rattle.gcu_asking.specs.Request.{Planning, Request, change, demo, plan}
+use Rattle.gcu_output.specs.declared.outcomes.Outcome.{Outcome}
+use Rattle.gcu_output.specs.declared.outcomes.Outcome.TheVariants.{Unorderable, Budget}
+use Rattle.gcu_requests.specs.Request.{Planning, Request, change, demo, plan}
 
 -- each move is allowed where it stands, the last one leads to the goal, and there are fewer than the
 -- budget; it is the first way, and fewer configurations than the budget are ahead of goal

@@ -1,7 +1,7 @@
 -- What a demonstration prints before its last line.
 use Rattle.std.specs.Prelude.{ℕ, ◌*◌, ◌/◌, List, [], ◌∷◌, ◌++◌, codes, decimal}
 use Rattle.gcu_demo.specs.Demo.{vlans_with}
-use Rattle.gcu_lines.specs.Lines.{lines, space}
+use Rattle.gcu_output.specs.Lines.{lines, space}
 
 -- a name and a number
 abbrev pub counted : List ℕ → ℕ → List ℕ

@@ -3,14 +3,14 @@ ghost use Rattle.std.specs.Prelude.{◌≡◌, ◌≤◌, Ok};
 ghost use Rattle.host_core.specs.Counts.{NoneFell};
 ghost use Rattle.host_core.specs.Crashes.{LeavesOnly};
 ghost use Rattle.host_core.specs.Names.{longest_scoped_name};
-ghost use Rattle.gcu_lines.specs.declared.outcomes.Outcome.TheVariants.{Usage as usage};
-ghost use Rattle.gcu_asking.specs.Checking.{check_asked};
+ghost use Rattle.gcu_output.specs.declared.outcomes.Outcome.TheVariants.{Usage as usage};
+ghost use Rattle.gcu_requests.specs.Checking.{check_asked};
 ghost use Rattle.gcu_engine.specs.Answers.{HasCause};
 ghost use Rattle.gcu_engine.specs.Commands.{AnswersTo, CompleteTo, LeftTo};
 
 use crate::Outcome;
-use gcu_asking::judge_stored;
-use gcu_lines::say;
+use gcu_requests::judge_stored;
+use gcu_output::say;
 use host_core::Host;
 use std::alloc::Global;
 

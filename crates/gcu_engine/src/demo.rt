@@ -3,10 +3,10 @@ ghost use Rattle.std.specs.Prelude.{◌≡◌, ◌≤◌, ◌++◌, IfErr, IfOk,
 ghost use Rattle.host_core.specs.Counts.{NoneFell, PrintMayRise};
 ghost use Rattle.host_core.specs.Crashes.{Elapses, LeavesOnly, MayLeaveNow};
 ghost use Rattle.gcu_demo.specs.Demo.{most_ports};
-ghost use Rattle.gcu_lines.specs.Printing.{LeftWithOutput, IsSaid};
-ghost use Rattle.gcu_lines.specs.Lines.{last_line, line_feed};
-ghost use Rattle.gcu_lines.specs.declared.outcomes.Outcome.TheVariants.{Done as done, Usage as usage};
-ghost use Rattle.gcu_asking.specs.DemoAsked.{demo_asked};
+ghost use Rattle.gcu_output.specs.Printing.{LeftWithOutput, IsSaid};
+ghost use Rattle.gcu_output.specs.Lines.{last_line, line_feed};
+ghost use Rattle.gcu_output.specs.declared.outcomes.Outcome.TheVariants.{Done as done, Usage as usage};
+ghost use Rattle.gcu_requests.specs.DemoAsked.{demo_asked};
 ghost use Rattle.gcu_engine.specs.Answers.{HasCause};
 ghost use Rattle.gcu_engine.specs.Commands.{AnswersTo, CompleteTo, LeftTo};
 ghost use Rattle.gcu_engine.specs.PlanCommands.{RefusesOrEnds, SaysSteps};
@@ -14,8 +14,8 @@ ghost use Rattle.gcu_engine.specs.Summary.{counted, summary};
 
 use crate::Outcome;
 use crate::solving::find_plan;
-use gcu_asking::prepare_demo;
-use gcu_lines::{print, say, say_memory};
+use gcu_requests::prepare_demo;
+use gcu_output::{print, say, say_memory};
 use host_core::Host;
 use move_core::{Boxes, Kit, Plan};
 use plan_options::Demo;

@@ -5,14 +5,14 @@ ghost use Rattle.host_core.specs.Counts.{NoneFell};
 ghost use Rattle.host_core.specs.Crashes.{LeavesOnly};
 ghost use Rattle.host_core.specs.Names.{longest_scoped_name};
 ghost use Rattle.plan_options.specs.Views.{target_view};
-ghost use Rattle.gcu_lines.specs.declared.outcomes.Outcome.TheVariants.{Usage as usage};
-ghost use Rattle.gcu_asking.specs.PlanAsked.{dry_run_asked};
+ghost use Rattle.gcu_output.specs.declared.outcomes.Outcome.TheVariants.{Usage as usage};
+ghost use Rattle.gcu_requests.specs.PlanAsked.{dry_run_asked};
 ghost use Rattle.gcu_engine.specs.Answers.{HasCause};
 ghost use Rattle.gcu_engine.specs.Commands.{AnswersTo, CompleteTo, LeftTo};
 
 use crate::Outcome;
 use crate::solving::solve;
-use gcu_lines::{say, show_plan};
+use gcu_output::{say, show_plan};
 use host_core::Host;
 use move_core::{Boxes, Kit};
 use plan_options::Target;

@@ -2,12 +2,12 @@
 //! afterwards.
 ghost use Rattle.std.specs.Prelude.{◌≡◌, ◌++◌, suc, [], All, IfOk, codes, decimal, map, option_map, string_bytes, unwrap_or};
 ghost use Rattle.change_apply.specs.Change.{ArePositions, restarts_of};
-ghost use Rattle.gcu_lines.specs.Lines.{last_line, service_line as text_of_service, space};
-ghost use Rattle.gcu_lines.specs.declared.outcomes.Outcome.TheVariants.{DiskFault as disk_fault};
+ghost use Rattle.gcu_output.specs.Lines.{last_line, service_line as text_of_service, space};
+ghost use Rattle.gcu_output.specs.declared.outcomes.Outcome.TheVariants.{DiskFault as disk_fault};
 ghost use Rattle.gcu_engine.specs.FaultLines.{AreFaultLines, AreServiceLines, disk_lines as lines_of_disk, found, line_at, lines_for, service_lines_at};
 
 use crate::Outcome;
-use gcu_lines::{line, numbered_line, quoted};
+use gcu_output::{line, numbered_line, quoted};
 use host_core::{Memory, Names, Sequence, Txt};
 use move_core::Settings;
 use std::alloc::{AllocError, Global};

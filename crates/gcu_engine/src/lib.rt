@@ -15,6 +15,6 @@ mod solving;
 
 pub use conf_check::Rule;
 pub use conf_store::StoredWhy;
-pub use gcu_lines::{Outcome, PointWhy};
+pub use gcu_output::{Outcome, PointWhy};
 pub use kit_lists::{kit_extenders, kit_generators, kit_rules};
 pub use run_command::run;

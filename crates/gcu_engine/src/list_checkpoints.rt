@@ -2,18 +2,18 @@
 ghost use Rattle.std.specs.Prelude.{◌≡◌, ◌++◌, IfErr, IfOk, OnOk, take};
 ghost use Rattle.host_core.specs.Counts.{DiskMayRise, NoneFell, PrintMayRise};
 ghost use Rattle.host_core.specs.Crashes.{Elapses, LeavesOnly, MayLeaveNow};
-ghost use Rattle.gcu_lines.specs.Printing.{LeftWithOutput, IsSaid};
-ghost use Rattle.gcu_lines.specs.Lines.{last_line, line_feed, lines as in_lines};
-ghost use Rattle.gcu_lines.specs.declared.outcomes.Outcome.TheVariants.{Done as done, Usage as usage};
-ghost use Rattle.gcu_asking.specs.Asked.{list_asked};
-ghost use Rattle.gcu_asking.specs.Preparing.{Finds, Refuses};
-ghost use Rattle.gcu_asking.specs.Request.{list_checkpoints as list_of};
+ghost use Rattle.gcu_output.specs.Printing.{LeftWithOutput, IsSaid};
+ghost use Rattle.gcu_output.specs.Lines.{last_line, line_feed, lines as in_lines};
+ghost use Rattle.gcu_output.specs.declared.outcomes.Outcome.TheVariants.{Done as done, Usage as usage};
+ghost use Rattle.gcu_requests.specs.Asked.{list_asked};
+ghost use Rattle.gcu_requests.specs.Preparing.{Finds, Refuses};
+ghost use Rattle.gcu_requests.specs.Request.{list_checkpoints as list_of};
 ghost use Rattle.gcu_engine.specs.Answers.{HasCause};
 ghost use Rattle.gcu_engine.specs.Commands.{AnswersTo, CompleteTo, LeftTo};
 
 use crate::Outcome;
 use checkpoints::{PointError, names};
-use gcu_lines::{print, say, say_memory};
+use gcu_output::{print, say, say_memory};
 use host_core::{Host, Memory, Names};
 use std::alloc::Global;
 

@@ -6,12 +6,12 @@ ghost use Rattle.host_core.specs.Names.{longest_scoped_name};
 ghost use Rattle.move_core.specs.Contexts.{rulebook};
 ghost use Rattle.plan_search.specs.Searches.{IsSearchAnswer};
 ghost use Rattle.plan_options.specs.Views.{target_view};
-ghost use Rattle.gcu_asking.specs.PlanAsked.{dry_run_asked};
-ghost use Rattle.gcu_asking.specs.ReadPlannings.{IsReadyToSearch};
+ghost use Rattle.gcu_requests.specs.PlanAsked.{dry_run_asked};
+ghost use Rattle.gcu_requests.specs.ReadPlannings.{IsReadyToSearch};
 ghost use Rattle.gcu_engine.specs.PlanCommands.{IsSolved, RefusesOrEnds, SaysPlan};
 
 use crate::Outcome;
-use gcu_asking::{Planning, prepare, test_target};
+use gcu_requests::{Planning, prepare, test_target};
 use host_core::Host;
 use move_core::{Boxes, Kit, Plan};
 use plan_options::Target;

@@ -137,12 +137,13 @@ put_first e [] all = refl
 put_first e (f ∷ es) all =
     ap (λ r. by_order r (named e ∷ named f ∷ map named es) ((string_bytes f.0, e.1.items) ∷ map named es) (named f ∷ put name_cmp (string_bytes e.0) e.1.items (map named es))) all.0
 
-entries_in : (es : List Entry) → IsStrictlySortedBy string_cmp (keys_of es) → entries (files_in es) ≡ map named es
+-- the entries of the files are those of the map
+pub entries-files_in : (es : List Entry) → IsStrictlySortedBy string_cmp (keys_of es) → entries (files_in es) ≡ map named es
 unfolding IsStrictlySortedBy
-entries_in [] s = none_of _ (sym (finmap.len-entries finmap.empty) ∙ finmap.len-empty name_cmp (List ℕ))
-entries_in (e ∷ es) s =
+entries-files_in [] s = none_of _ (sym (finmap.len-entries finmap.empty) ∙ finmap.len-empty name_cmp (List ℕ))
+entries-files_in (e ∷ es) s =
     finmap.entries-insert nat_list_cmp_total (files_in es) (string_bytes e.0) e.1.items
-    ∙ ap (put name_cmp (string_bytes e.0) e.1.items) (entries_in es s.1) ∙ put_first e es s.0
+    ∙ ap (put name_cmp (string_bytes e.0) e.1.items) (entries-files_in es s.1) ∙ put_first e es s.0
 
 names_of : (es : List Entry) → map (λ e. e.0) (map named es) ≡ map string_bytes (keys_of es)
 names_of [] = refl
@@ -151,7 +152,7 @@ names_of (e ∷ es) = ap (λ (ns : List (List ℕ)). string_bytes e.0 ∷ ns) (n
 -- the names of the files are the keys of the map
 pub keys-files_in : (es : List Entry) → IsStrictlySortedBy string_cmp (keys_of es)
     → finmap.keys (files_in es) ≡ map string_bytes (keys_of es)
-keys-files_in es s = ap (map (λ e. e.0)) (entries_in es s) ∙ names_of es
+keys-files_in es s = ap (map (λ e. e.0)) (entries-files_in es s) ∙ names_of es
 
 -- ---- a list of pairs, put in from its end
 

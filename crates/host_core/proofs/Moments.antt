@@ -4,11 +4,11 @@ use Rattle.std.specs.Prelude.{if◌then◌else◌}
 use Rattle.std.specs.FinMap.{get}
 use Rattle.std.proofs.lemmas.Bool.Decides.{leb_tells}
 use Rattle.std.proofs.lemmas.List.{append-nil, append_assoc}
-use Rattle.host_core.specs.Counts.{Counts, last_count}
-use Rattle.host_core.specs.Crashes.{Left, Image, MayLeave, MayLeaveInPrint, Elapses, Passes, Moment, LeftBy, LeftSince}
-use Rattle.host_core.specs.Faults.{raised}
-use Rattle.host_core.specs.State.{State, Pending, settled, dirty, listing, CanWrite, with_pending, after_listing, printed}
-use Rattle.host_core.specs.MemoryHost.{MemoryHost, called, starving, next_fails, Ends, IsPast, GoesOn}
+use Rattle.host_core.specs.Counts.{Counts, NoneFell, last_count}
+use Rattle.host_core.specs.Crashes.{Left, Image, MayLeave, MayLeaveInPrint, Elapses, Passes, Moment, LeftBy}
+use Rattle.host_core.specs.Faults.{raised, input_fault, disk_fault, print_fault, service_fault}
+use Rattle.host_core.specs.State.{State, Pending, settled, dirty, listing, CanWrite, with_pending, after_listing, printed, Grows}
+use Rattle.host_core.specs.MemoryHost.{MemoryHost, moment_of, left_of, called, starving, next_fails, Ends, IsPast, GoesOn}
 use Rattle.host_core.proofs.EntriesOfFiles.{content_there}
 
 -- ---- the ends of a call
@@ -39,42 +39,64 @@ raised_past : (n : ℕ) → IsPast n (raised n)
 raised_past n =
     ⊎_elim (λ at_last. inr (omega (arith, at_last.1))) (λ below. inl (omega (arith, below.1))) (leb_tells last_count n)
 
--- a call that met no fault
-pub goes_well : (old : MemoryHost) (s : State) (past : List Moment) → s.inputs ≡ old.state.inputs
-    → GoesOn old (called (record old { state = s; past = past }))
-goes_well old s past same =
-    record { faults = refl; inputs = same; calls = raised_later old.calls; starved = omega arith; counts = inl refl }
+-- where nothing comes out the output stays
+pub keeps : (old new : State) → new.inputs ≡ old.inputs → new.output ≡ old.output → new.restarts ≡ old.restarts → Grows old new
+keeps old new inputs output restarts = record {
+  inputs = inputs;
+  output = ([], output ∙ sym (append-nil old.output));
+  restarts = ([], restarts ∙ sym (append-nil old.restarts));
+}
 
--- a call whose number a fault has
-pub goes_faulty : (old : MemoryHost) (s : State) (past : List Moment) (counts : Counts) → s.inputs ≡ old.state.inputs → IsTrue (next_fails old)
-    → GoesOn old (called (record old { state = s; past = past; counts = counts }))
-goes_faulty old s past counts same fails = record {
+-- no fault makes a count less
+pub input_fell : (c : Counts) → NoneFell c (input_fault c)
+input_fell c = record { input = raised_later c.input; disk = omega arith; print = omega arith; service = omega arith }
+
+pub disk_fell : (c : Counts) → NoneFell c (disk_fault c)
+disk_fell c = record { input = omega arith; disk = raised_later c.disk; print = omega arith; service = omega arith }
+
+pub print_fell : (c : Counts) → NoneFell c (print_fault c)
+print_fell c = record { input = omega arith; disk = omega arith; print = raised_later c.print; service = omega arith }
+
+pub service_fell : (c : Counts) → NoneFell c (service_fault c)
+service_fell c = record { input = omega arith; disk = omega arith; print = omega arith; service = raised_later c.service }
+
+-- a call that met no fault
+pub goes_well : (old : MemoryHost) (s : State) (past : List Moment) → Grows old.state s
+    → GoesOn old (called (record old { state = s; past = past }))
+goes_well old s past grows = record {
   faults = refl;
-  inputs = same;
+  state = grows;
   calls = raised_later old.calls;
   starved = omega arith;
+  none_fell = record { input = omega arith; disk = omega arith; print = omega arith; service = omega arith };
+  counts = inl refl;
+}
+
+-- a call whose number a fault has
+pub goes_faulty : (old : MemoryHost) (s : State) (past : List Moment) (counts : Counts) → Grows old.state s → NoneFell old.counts counts → IsTrue (next_fails old)
+    → GoesOn old (called (record old { state = s; past = past; counts = counts }))
+goes_faulty old s past counts grows none_fell fails = record {
+  faults = refl;
+  state = grows;
+  calls = raised_later old.calls;
+  starved = omega arith;
+  none_fell = none_fell;
   counts = inr (inl (old.calls, omega arith, raised_past old.calls, fails));
 }
 
 -- a call that found no memory
-pub goes_hungry : (old : MemoryHost) (s : State) (past : List Moment) (counts : Counts) → s.inputs ≡ old.state.inputs
+pub goes_hungry : (old : MemoryHost) (s : State) (past : List Moment) (counts : Counts) → Grows old.state s → NoneFell old.counts counts
     → GoesOn old (called (record old { state = s; past = past; counts = counts; starved = raised old.starved }))
-goes_hungry old s past counts same = record {
+goes_hungry old s past counts grows none_fell = record {
   faults = refl;
-  inputs = same;
+  state = grows;
   calls = raised_later old.calls;
   starved = raised_later old.starved;
+  none_fell = none_fell;
   counts = inr (inr (raised_past old.starved));
 }
 
 -- ---- moments
-
-module _ where
-  abbrev pub moment : MemoryHost → ℕ
-  moment m = length m.past
-
-  abbrev pub left_since : MemoryHost → ℕ → Left → Type 0
-  left_since m t left = LeftSince m.state m.past t left
 
 drop_front : {A : Type 0} (t : ℕ) (xs ys : List A) → t ≤ length xs → drop t (xs ++ ys) ≡ drop t xs ++ ys
 drop_front zero xs ys le = refl
@@ -118,7 +140,7 @@ module _ (old new : MemoryHost) (during : Left → Type 0) (after : (left : Left
   -- with one moment more
   pub moves : (bytes : List ℕ) → new.past ≡ old.past ++ (old.state, bytes) ∷ []
       → ((left : Left) → MayLeaveInPrint bytes (Some old.state) left → MayLeave old.state left ⊎ during left)
-      → Elapses moment left_since old new during
+      → Elapses moment_of left_of old new during
   moves bytes is between = record {
     later = omega (arith, ap length is, length-append old.past ((old.state, bytes) ∷ []));
     nothing_else = λ t left le. ⊎_elim (λ now. inr (after left now))
@@ -132,7 +154,7 @@ module _ (old new : MemoryHost) (during : Left → Type 0) (after : (left : Left
   }
 
   -- with none
-  pub stays : new.past ≡ old.past → ((left : Left) → MayLeave old.state left → MayLeave new.state left) → Elapses moment left_since old new during
+  pub stays : new.past ≡ old.past → ((left : Left) → MayLeave old.state left → MayLeave new.state left) → Elapses moment_of left_of old new during
   stays is now = record {
     later = omega (arith, ap length is);
     nothing_else = λ t left le. ⊎_elim (λ here. inr (after left here)) (λ by. inl (inr (subst (λ ms. LeftBy (drop t ms) left) is by)));
@@ -180,7 +202,7 @@ at_front s bytes half rest left whole now = (half, rest, whole, now)
 
 -- each front of what was printed is among the moments
 pub passes : (old new : MemoryHost) (bytes : List ℕ) → new.past ≡ old.past ++ (old.state, bytes) ∷ []
-    → Passes moment left_since old new (MayLeaveInPrint bytes (Some old.state))
+    → Passes moment_of left_of old new (MayLeaveInPrint bytes (Some old.state))
 passes old new bytes is t left le here =
     inr (subst (λ ms. LeftBy ms left) (sym (ap (drop t) is ∙ drop_front t old.past ((old.state, bytes) ∷ []) le))
     (left_last (drop t old.past) (old.state, bytes) left here))

@@ -25,6 +25,12 @@ picked_image (Bytes bytes) (listing before) now = inr refl
 picked_image Before (listing before) now = inl refl
 picked_image After (listing before) now = inr refl
 
+-- the files as they read are an image
+pub same_image : (pending : Pending) (now : Files) → Image pending now now
+same_image settled now = refl
+same_image (dirty name) now = (get now name, sym (content_there name now))
+same_image (listing before) now = inr refl
+
 -- what was set before at the same name is gone
 pub content_again : (name : List ℕ) (first second : Option (List ℕ)) (files : Files)
     → with_file name second (with_file name first files) ≡ with_file name second files

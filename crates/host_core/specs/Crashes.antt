@@ -22,9 +22,13 @@ pub record MayLeave (s : State) (left : Left) : Type 0 where
   pub output : left.output ≡ s.output
   pub restarts : left.restarts ≡ s.restarts
 
+-- what is there, as it reads
+abbrev pub as_it_reads : State → Left
+as_it_reads s = record { files = s.files; output = s.output; restarts = s.restarts }
+
 -- with nothing pending a crash leaves what is there, and nothing else
 pub one_image : (s : State) (left : Left) → s.pending ≡ settled → MayLeave s left
-    → left ≡ record { files = s.files; output = s.output; restarts = s.restarts }
+    → left ≡ as_it_reads s
 one_image s left clean may =
     let files : left.files ≡ s.files = subst (λ p. Image p s.files left.files) clean may.files in
     λ i. record { files = files i; output = may.output i; restarts = may.restarts i }

@@ -2,7 +2,9 @@
 pub mod Answers
 pub mod Counts
 pub mod Crashes
+pub mod Entries
 pub mod Faults
+pub mod Frames
 pub mod Inputs
 pub mod MemoryHost
 pub mod Names
@@ -10,6 +12,5 @@ pub mod Picks
 pub mod State
 -- what only private clauses cite
 pub mod Codes
-pub mod Entries
 pub mod Laws
 pub mod Steps

@@ -2,9 +2,9 @@
 use Rattle.std.specs.Prelude.{◌≡◌, ◌⊎◌, ℕ, ◌/◌, ◌<◌, ◌≤◌, if◌then◌else◌, Bool, IsTrue, IsFalse, List, [], ◌∷◌, ◌++◌, length, take, map, Result, Ok, Err, Vec}
 use Rattle.std.specs.declared.alloc.Global.{Global}
 use Rattle.std.specs.FinMap as finmap
-use Rattle.host_core.specs.Counts.{Counts, last_count}
-use Rattle.host_core.specs.Crashes.{Moment}
-use Rattle.host_core.specs.State.{State, Files, settled}
+use Rattle.host_core.specs.Counts.{Counts, last_count, NoneFell}
+use Rattle.host_core.specs.Crashes.{Left, Moment, LeftSince}
+use Rattle.host_core.specs.State.{State, Files, settled, Grows}
 use Rattle.host_core.specs.Faults.{is_faulty, raised, no_faults, input_fault, disk_fault, print_fault, service_fault}
 use Rattle.host_core.specs.declared.faults.Faults.{Faults}
 
@@ -34,6 +34,20 @@ fresh inputs files faults = record {
   calls = 0;
   starved = 0;
 }
+
+-- the host with these faults, where the next call has the number 0
+abbrev pub faulty_by : Faults → MemoryHost → MemoryHost
+faulty_by faults m = record m { faults = faults; calls = 0 }
+
+-- ---- its moments
+
+-- how many there were
+abbrev pub moment_of : MemoryHost → ℕ
+moment_of m = length m.past
+
+-- what a crash may have left at the moment of that number or a later one
+abbrev pub left_of : MemoryHost → ℕ → Left → Type 0
+left_of m t left = LeftSince m.state m.past t left
 
 -- ---- what a call changes
 
@@ -109,7 +123,8 @@ HasFault old new =
 -- the same host later: a count rose only by a fault of its own or for want of memory
 pub record GoesOn (old new : MemoryHost) : Type 0 where
   pub faults : new.faults ≡ old.faults
-  pub inputs : new.state.inputs ≡ old.state.inputs
+  pub state : Grows old.state new.state
   pub calls : old.calls ≤ new.calls
   pub starved : old.starved ≤ new.starved
+  pub none_fell : NoneFell old.counts new.counts
   pub counts : (new.counts ≡ old.counts) ⊎ HasFault old new

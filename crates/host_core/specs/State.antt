@@ -90,3 +90,15 @@ PrintsPart bytes old new =
 -- the restart of that service was requested
 abbrev pub after_restart : List ℕ → State → State
 after_restart service s = record s { restarts = s.restarts ++ service ∷ [] }
+
+-- ---- what no call changes
+
+-- the one is a front of the other
+abbrev pub IsFront : {A : Type 0} → List A → List A → Type 0
+IsFront front whole = (rest : List _) × (whole ≡ front ++ rest)
+
+-- the inputs stay, and what came out only grows
+pub record Grows (old new : State) : Type 0 where
+  pub inputs : new.inputs ≡ old.inputs
+  pub output : IsFront old.output new.output
+  pub restarts : IsFront old.restarts new.restarts

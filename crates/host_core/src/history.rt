@@ -1,7 +1,8 @@
 //! What a host in memory tells: the state that it is in, and those that it was in.
-ghost use Rattle.std.specs.Prelude.{◌≡◌, ◌≤◌, ◌<◌, [], ◌∷◌, length, option_map, IsSome, IfOk, OnOk, OnErr, Some, None};
-ghost use Rattle.std.specs.FinMap.{get};
+ghost use Rattle.std.specs.Prelude.{◌≡◌, ◌≤◌, ◌<◌, [], ◌∷◌, length, map, option_map, IsSome, IfOk, OnOk, OnErr, Some, None};
+ghost use Rattle.std.specs.FinMap.{get, entries};
 ghost use Rattle.std.specs.VecDeque.{deque_len, deque_capacity};
+ghost use Rattle.host_core.specs.Entries.{named};
 ghost use Rattle.host_core.specs.Names.{longest_file_name};
 ghost use Rattle.host_core.specs.Steps.{undone};
 ghost use Rattle.host_core.specs.declared.pending.Pending.TheVariants.{Listing};
@@ -15,7 +16,7 @@ use crate::short_names::ShortName;
 use crate::texts::add_copy;
 use crate::{Memory, Names, Pick, Txt};
 use std::alloc::Global;
-use std::collections::VecDeque;
+use std::collections::{BTreeMap, VecDeque};
 use std::marker::Model;
 use std::mem::replace;
 
@@ -139,6 +140,13 @@ impl History {
         ensures { IfOk result (λ all. all ≡ names_of self.now.state) }
     {
         self.files.names(alloc)
+    }
+
+    /// All files.
+    pub(crate) fn files(&self) -> &BTreeMap<String, Vec<u8>>
+        ensures { map named result.now.entries ≡ entries self.now.state.files }
+    {
+        self.files.all()
     }
 
     /// All that was printed.

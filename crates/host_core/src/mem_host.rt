@@ -1,14 +1,17 @@
 //! A host in memory, for tests. It tells everything, and fails where it is told to.
-ghost use Rattle.std.specs.Prelude.{◌≡◌, ◌≤◌, option_map, IfOk};
+ghost use Rattle.std.specs.Prelude.{◌≡◌, ◌≤◌, map, option_map, IfOk};
+ghost use Rattle.std.specs.FinMap.{entries};
 ghost use Rattle.host_core.specs.Crashes.{Image};
+ghost use Rattle.host_core.specs.Entries.{named};
 ghost use Rattle.host_core.specs.Picks.{crashed};
 ghost use Rattle.host_core.specs.State.{file};
-ghost use Rattle.host_core.specs.MemoryHost.{files_of, fresh, called, starving, next_fails, IsPast};
+ghost use Rattle.host_core.specs.MemoryHost.{files_of, fresh, faulty_by, called, starving, next_fails, IsPast};
 
 use crate::history::History;
 use crate::named_bytes::NamedBytes;
 use crate::{FaultCounts, Faults, Memory, Names, Pick, Sequence, Txt};
 use std::alloc::Global;
+use std::collections::BTreeMap;
 use std::marker::Model;
 
 /// A host in memory. A call fails where `Faults` have its number. Calls that have no answer for want of
@@ -84,6 +87,13 @@ impl MemHost {
         self.history.file(name)
     }
 
+    /// All files, each at its name.
+    pub fn files(&self) -> &BTreeMap<String, Vec<u8>>
+        ensures { map named result.now.entries ≡ entries self.now.state.files }
+    {
+        self.history.files()
+    }
+
     /// How many calls there were, up to the greatest `u64`: the number of the next call.
     pub fn calls(&self) -> u64
         ensures { result ≡ self.now.calls }
@@ -117,6 +127,17 @@ impl MemHost {
         ensures past { IsPast self.old.starved self.new.starved }
     {
         self.starved = self.starved.saturating_add(1);
+    }
+
+    /// The same host with these faults, with no calls so far.
+    pub fn with_faults(self, faults: Faults) -> MemHost
+        ensures { result ≡ faulty_by faults self }
+    {
+        MemHost {
+            faults,
+            calls: 0,
+            ..self
+        }
     }
 
     /// The host after a crash now: it starts from the picked image, with nothing pending, with no faults

@@ -1,6 +1,7 @@
 //! Byte strings by name, as inputs and as files.
-ghost use Rattle.std.specs.Prelude.{◌≡◌, option_map, IsSome, IfOk, OnOk, OnErr, Some, None};
+ghost use Rattle.std.specs.Prelude.{◌≡◌, map, option_map, IsSome, IfOk, OnOk, OnErr, Some, None};
 ghost use Rattle.std.specs.FinMap as finmap;
+ghost use Rattle.host_core.specs.Entries.{named};
 ghost use Rattle.host_core.specs.MemoryHost.{files_of};
 ghost use Rattle.host_core.specs.State.{with_file};
 
@@ -59,6 +60,14 @@ impl NamedBytes {
             None => None,
             Some(bytes) => Some(bytes.as_slice()),
         }
+    }
+
+    /// All of them.
+    pub(crate) fn all(&self) -> &BTreeMap<String, Vec<u8>>
+        ensures { map named result.now.entries ≡ finmap.entries self.now }
+    {
+        let _ = self.entries.len();
+        &self.entries
     }
 
     /// Puts bytes at a name, and gives those that were there.

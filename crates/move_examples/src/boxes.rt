@@ -11,7 +11,7 @@ use crate::situations::{Situation, situation_at};
 use conf_doc::Config;
 use example_rows::{Fail, Table, items_at, text_bytes};
 use move_core::{Boxes as KitBoxes, Generated, Kit, Move, Moves, listed_moves_are_defined, step};
-use plan_lists::listed;
+use move_lists::listed;
 use serde_json::Value;
 use std::alloc::Global;
 

@@ -9,7 +9,7 @@ use crate::ranks::ranked_at;
 use crate::situations::{Situation, situation_at};
 use example_rows::{Fail, Table, items_at, number_at, text_bytes};
 use move_core::{Boxes, Kit, Move, Ranked};
-use plan_lists::{first_moves, listed, listed_in_part};
+use move_lists::{first_moves, listed, listed_in_part};
 use serde_json::Value;
 use std::alloc::Global;
 

@@ -18,8 +18,8 @@ use Rattle.move_core.specs.declared.contexts.Ctx.{Ctx}
 use Rattle.move_core.specs.declared.moves.Move.{Move}
 use Rattle.move_core.specs.declared.moves.Ranked.{Ranked}
 use Rattle.plan_search.specs.FirstWays.{StandsBefore}
-use Rattle.plan_lists.specs.Parts.{AreListedIn, EndsEarlier, part_of}
-use Rattle.plan_lists.proofs.PartOrder.{part_first}
+use Rattle.move_lists.specs.Parts.{AreListedIn, EndsEarlier, part_of}
+use Rattle.move_lists.proofs.PartOrder.{part_first}
 use Rattle.plan_search.specs.Kits.{IsInParts, move_problem, move_tied}
 use Rattle.plan_search.specs.Problems.{IsPart, PrecedesLater}
 use Rattle.plan_search.proofs.Pairs.{pairs_first, pairs_none, pairs_tail}

@@ -18,7 +18,7 @@ use Rattle.move_core.specs.declared.moves.Generated.{Generated}
 use Rattle.move_core.specs.declared.moves.Move.{Move}
 use Rattle.move_core.specs.declared.moves.Move.TheVariants.{Add, Remove, Replace}
 use Rattle.move_core.specs.declared.moves.Ranked.{Ranked}
-use Rattle.plan_lists.specs.Parts.{part_at, part_of}
+use Rattle.move_lists.specs.Parts.{part_at, part_of}
 use Rattle.plan_search.specs.FirstWays.{StandsBefore}
 use Rattle.plan_search.specs.Problems.{Problem, IsLawful, part_count}
 

@@ -2,13 +2,13 @@
 ghost use Rattle.std.specs.Prelude.{◌≡◌, ◌<◌, List, IfOk, IfSome, MatchOption};
 ghost use Rattle.conf_doc.specs.declared.configuration.Config.{Config as Configuration};
 ghost use Rattle.move_core.specs.Moves.{step};
-ghost use Rattle.plan_lists.specs.declared.firsts.First.{First};
+ghost use Rattle.move_lists.specs.declared.firsts.First.{First};
 ghost use Rattle.plan_search.specs.Problems.{Problem, IsLawful, IsPart, part_count};
 
 use conf_doc::Config;
 use host_core::Memory;
 use move_core::Move;
-use plan_lists::Firsts;
+use move_lists::Firsts;
 use std::alloc::Global;
 
 /// Into how many parts the list at a configuration is divided.

@@ -14,6 +14,6 @@ mod steps;
 
 pub use errors::SearchError;
 pub use laws::{first_ways_are_least, first_ways_are_surely_least, searches_have_one_answer};
-pub use plan_lists::listed;
+pub use move_lists::listed;
 pub use planning::search;
 pub use steps::Steps;

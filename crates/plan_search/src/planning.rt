@@ -2,7 +2,7 @@
 ghost use Rattle.std.specs.Prelude.{◌≡◌, ◌↔◌, ◌+◌, ◌<◌, length, IsTrue};
 ghost use Rattle.move_core.specs.Contexts.{IsNamed, IsValidIn, rulebook};
 ghost use Rattle.move_core.specs.Kinds.{AreBefore, AreOfKinds, extender_kinds, generator_kinds, rule_kinds};
-ghost use Rattle.plan_lists.specs.Firsts.{AreFirstsOf};
+ghost use Rattle.move_lists.specs.Firsts.{AreFirstsOf};
 ghost use Rattle.plan_search.specs.Kits.{move_problem, moves_lawful};
 ghost use Rattle.plan_search.specs.Searches.{IsSearchAnswer};
 
@@ -16,7 +16,7 @@ use host_core::Memory;
 use move_core::{
     Boxes, Ctx, Kit, Move, MoveExt, MoveGen, MoveRule, Plan, listed_moves_are_defined, step,
 };
-use plan_lists::{Firsts, first_moves, first_moves_after, listed_in_part};
+use move_lists::{Firsts, first_moves, first_moves_after, listed_in_part};
 use std::alloc::Global;
 use std::marker::PhantomData;
 use std::sync::ledger::Ledger;

@@ -11,7 +11,7 @@ use crate::{SearchError, Steps};
 use conf_doc::Config;
 use host_core::{Memory, Sequence};
 use move_core::{Move, Plan};
-use plan_lists::Firsts;
+use move_lists::Firsts;
 use std::alloc::Global;
 use std::sync::ledger::Ledger;
 

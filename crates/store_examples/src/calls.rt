@@ -27,7 +27,7 @@ impl Table for Calls {
 }
 
 /// The host of a row, of which those calls fail that the row tells.
-fn failing_host(alloc: Global, row: &Value) -> Result<MemHost, Fail>
+pub(crate) fn failing_host(alloc: Global, row: &Value) -> Result<MemHost, Fail>
     ensures { IfOk result (λ m. m.state.pending ≡ settled) }
 {
     let faults = faults_at(alloc, row)?;
@@ -81,7 +81,7 @@ fn host_done(alloc: Global, row: &Value) -> Result<MemHost, Fail> {
 }
 
 /// Whether the output and the restarts are those of the row.
-fn came_out(alloc: Global, row: &Value, host: &MemHost) -> Result<bool, Fail> {
+pub(crate) fn came_out(alloc: Global, row: &Value, host: &MemHost) -> Result<bool, Fail> {
     let printed = text_bytes(alloc, row, "output")?;
     Ok(host.output() == printed.as_slice() && are_restarts(row, host)?)
 }
@@ -212,7 +212,7 @@ fn input_told(alloc: Global, found: Result<Input, HostError>) -> Result<String, 
     }
 }
 
-fn names_told(alloc: Global, listed: Result<Names, HostError>) -> Result<String, Fail> {
+pub(crate) fn names_told(alloc: Global, listed: Result<Names, HostError>) -> Result<String, Fail> {
     match listed {
         Ok(names) => {
             let mut text = String::from_str(alloc, "names")?;
@@ -226,7 +226,10 @@ fn names_told(alloc: Global, listed: Result<Names, HostError>) -> Result<String,
     }
 }
 
-fn file_told(alloc: Global, read: Result<Option<Vec<u8>>, HostError>) -> Result<String, Fail> {
+pub(crate) fn file_told(
+    alloc: Global,
+    read: Result<Option<Vec<u8>>, HostError>,
+) -> Result<String, Fail> {
     match read {
         Ok(None) => Ok(String::from_str(alloc, "None")?),
         Ok(Some(bytes)) => text_of(alloc, &bytes),
@@ -241,7 +244,7 @@ fn text_of(alloc: Global, bytes: &[u8]) -> Result<String, Fail> {
     }
 }
 
-fn told(alloc: Global, answer: Result<(), Failed>) -> Result<String, Fail> {
+pub(crate) fn told(alloc: Global, answer: Result<(), Failed>) -> Result<String, Fail> {
     match answer {
         Ok(()) => Ok(String::from_str(alloc, "Ok")?),
         Err(Failed) => Ok(String::from_str(alloc, "Failed")?),

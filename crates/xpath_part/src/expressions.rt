@@ -9,7 +9,6 @@ use std::marker::Model;
 
 /// An expression (XPath 1.0, section 3). `or` and `and` group to the left, and parentheses leave no
 /// trace. Contracts see it as its `expression`.
-#[derive(Drop)]
 #[cycle(expression)]
 pub enum Expr {
     Or(Branch, Branch),
@@ -69,6 +68,44 @@ pub struct Steps {
 #[cycle(expression)]
 pub struct Tests {
     tests: Vec<Expr>,
+}
+
+/// `or` and `and` group to the left, so what is given up goes down there in a loop.
+impl Drop for Expr {
+    #[cycle(expression)]
+    fn drop(mut self) {
+        loop {
+            match self {
+                Expr::Or(left, right) => {
+                    drop(right);
+                    self = left.into_expr();
+                }
+                Expr::And(left, right) => {
+                    drop(right);
+                    self = left.into_expr();
+                }
+                Expr::Not(inner) => self = inner.into_expr(),
+                Expr::Alone(operand) => {
+                    drop(operand);
+                    return;
+                }
+                Expr::Equal(left, right) => {
+                    drop(left);
+                    drop(right);
+                    return;
+                }
+                Expr::Differ(left, right) => {
+                    drop(left);
+                    drop(right);
+                    return;
+                }
+                Expr::Count(path, _, _) => {
+                    drop(path);
+                    return;
+                }
+            }
+        }
+    }
 }
 
 impl Model for Branch {

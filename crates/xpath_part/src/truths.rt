@@ -164,7 +164,8 @@ fn count_selected<N: Nodes>(
     count_along(path.steps.items(), nodes, current, at, sought, limit)
 }
 
-/// The same of the nodes to which steps lead from a node.
+/// The same of the nodes to which steps lead from a node. The walk goes on in a loop where a step leads to
+/// one node at most.
 #[cycle(truth)]
 fn count_along<N: Nodes>(
     steps: &[Step],
@@ -182,30 +183,33 @@ fn count_along<N: Nodes>(
         result ≡ min limit (how_many (is_sought tree current sought.entry)
         (walk_of tree current steps.now at)) }
 {
-    let Some((step, rest)) = steps.split_first() else {
-        return count_node(nodes, current, at, sought);
-    };
-    match step {
-        Step::Up => {
-            if at == nodes.root() {
-                return 0;
+    let mut here = at;
+    let mut ahead = steps;
+    while let Some((step, rest)) = ahead.split_first() {
+        match step {
+            Step::Up => {
+                if here == nodes.root() {
+                    return 0;
+                }
+                here = nodes.parent(here);
             }
-            count_along(rest, nodes, current, nodes.parent(at), sought, limit)
+            Step::Stay => {}
+            Step::Child { name, tests, .. } => {
+                return count_below(
+                    name.as_str(),
+                    tests.items(),
+                    rest,
+                    nodes,
+                    current,
+                    here,
+                    sought,
+                    limit,
+                );
+            }
         }
-        Step::Stay => count_along(rest, nodes, current, at, sought, limit),
-        Step::Child { name, tests, .. } => {
-            count_below(
-                name.as_str(),
-                tests.items(),
-                rest,
-                nodes,
-                current,
-                at,
-                sought,
-                limit,
-            )
-        }
+        ahead = rest;
     }
+    count_node(nodes, current, here, sought)
 }
 
 /// The same of the nodes to which steps lead from those children of a node that have a name and pass

@@ -6,20 +6,21 @@ use Rattle.std.specs.Option.{option_map_or}
 use Rattle.std.proofs.lemmas.List.{map-append}
 use Rattle.yang_text.specs.Declarations.{Declaration, argument, block}
 use Rattle.yang_types.specs.Accepts.{Accepts, AcceptsAny}
-use Rattle.yang_types.specs.DataType.{DataType, text, number, length_within, value_within, matching, truth, builtin, types_of}
+use Rattle.yang_types.specs.DataType.{DataType, text, number, length_within, value_within, matching, truth, builtin, union, types_of}
 use Rattle.yang_types.specs.declared.types.Bounds.{Bounds}
 use Rattle.yang_types.specs.declared.types.Target.{Target}
-use Rattle.yang_scope.specs.Meanings.{type_meaning}
+use Rattle.yang_scope.specs.Meanings.{type_meaning, base_of}
 use Rattle.yang_scope.specs.Modules.{Module}
 use Rattle.yang_scope.specs.Paths.{Placed}
 use Rattle.yang_scope.specs.Statements.{is_keyword}
+use Rattle.yang_scope.specs.declared.bases.Base.{Base}
 use Rattle.yang_scope.specs.declared.bases.Base.TheVariants.{Text, Number, Enumeration, Truth, Leafref, Union, Builtin as BuiltIn}
 use Rattle.yang_scope.specs.declared.meanings.Meaning.{Meaning}
 use Rattle.yang_scope.specs.declared.meanings.Meaning.TheVariants.{Ends, Goes, Nothing}
 use Rattle.yang_values.specs.Defaults.{has_leafref, have_leafref}
 use Rattle.yang_values.specs.Endless.{untried, HasTaste, StandsFor, AreClosed, AreRight}
 use Rattle.yang_values.specs.Targets.{target_of}
-use Rattle.yang_values.specs.TypeValues.{path_of, only_type, union_of, leafref_of, named_type, matching_by, restrict, type_by, type_within, next}
+use Rattle.yang_values.specs.TypeValues.{path_of, only_type, leafref_of, named_type, matching_by, restrict, is_taken, restrict_if_taken, type_by, type_within, next}
 use Rattle.yang_values.specs.Values.{parts_in, restricted_values}
 use Rattle.yang_values.specs.Walks.{AreReached}
 use Rattle.yang_values.specs.declared.endless.Taste.{Taste}
@@ -54,16 +55,13 @@ module _ (s : List ℕ) where
         ),
       )
 
-  union_alike : (ts us : List DataType) → AllZip (Alike s) ts us → Alike s (union_of ts) (union_of us)
-  union_alike [] [] z = same text
-  union_alike [] (u ∷ us) z = absurd z
-  union_alike (t ∷ ts) [] z = absurd z
-  union_alike (t ∷ ts) (u ∷ us) z =
-      let all = any_alike (t ∷ ts) (u ∷ us) z in
+  union_alike : (ts us : List DataType) → AllZip (Alike s) ts us → Alike s (union (types_of ts)) (union (types_of us))
+  union_alike ts us z =
+      let all = any_alike ts us z in
       record { holds = all.0; accepts = all.1 }
 
   leafref_alike : (o : Option Target) (ts us : List DataType) → AllZip (Alike s) ts us → Alike s (leafref_of o ts) (leafref_of o us)
-  leafref_alike None ts us z = same text
+  leafref_alike None ts us z = record { holds = refl; accepts = (only_alike ts us z).accepts }
   leafref_alike (Some target) ts us z = record { holds = refl; accepts = (only_alike ts us z).accepts }
 
   named_alike : (modules : List Module) (d : Declaration) (ts us : List DataType) (meaning : Meaning) → AllZip (Alike s) ts us
@@ -104,16 +102,20 @@ module _ (s : List ℕ) where
       (either_alike (is_keyword (codes "range") d) _ _ _ _ (range_alike (parts_in values d) t u a)
       (either_alike (is_keyword (codes "pattern") d) _ _ _ _ (pattern_alike is_pattern (argument d) t u a) a))
 
-  fold_alike : (is_pattern : List ℕ → Bool) (values : List Bounds) (ds : List Declaration) (t u : DataType) → Alike s t u
-      → Alike s (fold (restrict is_pattern values) t ds) (fold (restrict is_pattern values) u ds)
-  fold_alike is_pattern values [] t u a = a
-  fold_alike is_pattern values (d ∷ ds) t u a =
-      fold_alike is_pattern values ds (restrict is_pattern values t d) (restrict is_pattern values u d) (restrict_alike is_pattern values t u d a)
+  taken_alike : (is_pattern : List ℕ → Bool) (base : Option Base) (values : List Bounds) (t u : DataType) (d : Declaration) → Alike s t u
+      → Alike s (restrict_if_taken is_pattern base values t d) (restrict_if_taken is_pattern base values u d)
+  taken_alike is_pattern base values t u d a = either_alike (is_taken base d) _ _ _ _ (restrict_alike is_pattern values t u d a) a
+
+  fold_alike : (is_pattern : List ℕ → Bool) (base : Option Base) (values : List Bounds) (ds : List Declaration) (t u : DataType) → Alike s t u
+      → Alike s (fold (restrict_if_taken is_pattern base values) t ds) (fold (restrict_if_taken is_pattern base values) u ds)
+  fold_alike is_pattern base values [] t u a = a
+  fold_alike is_pattern base values (d ∷ ds) t u a =
+      fold_alike is_pattern base values ds (restrict_if_taken is_pattern base values t d) (restrict_if_taken is_pattern base values u d) (taken_alike is_pattern base values t u d a)
 
   type_by_alike : (is_pattern : List ℕ → Bool) (modules : List Module) (p : Placed) (ts us : List DataType) → AllZip (Alike s) ts us
       → Alike s (type_by is_pattern modules p ts) (type_by is_pattern modules p us)
   type_by_alike is_pattern modules p ts us z =
-      fold_alike is_pattern (restricted_values modules p.0 p.1) (block p.1) _ _
+      fold_alike is_pattern (base_of modules p.0 (argument p.1)) (restricted_values modules p.0 p.1) (block p.1) _ _
       (named_alike modules p.1 ts us (type_meaning modules p.0 (argument p.1)) z)
 
   -- the same is known of both

@@ -1,21 +1,23 @@
 -- The data type of a type statement (RFC 7950, sections 7.3, 7.4 and 9). Where it has no fault it is
--- all that the statement says; a part that has a fault says nothing.
-use Rattle.std.specs.Prelude.{ℕ, zero, suc, Bool, List, [], ◌∷◌, map, Option, Some, None, codes, option_and_then, if◌then◌else◌}
+-- all that the statement says; a part that has a fault says nothing, and a restriction that its type
+-- doesn't take restricts nothing.
+use Rattle.std.specs.Prelude.{ℕ, zero, suc, ◌&&◌, ◌||◌, Bool, true, false, List, [], ◌∷◌, map, Option, Some, None, codes, option_and_then, if◌then◌else◌}
 use Rattle.std.specs.List.{fold, flat_map}
 use Rattle.std.specs.Option.{option_map_or, option_to_list}
 use Rattle.yang_text.specs.Declarations.{Declaration, argument, block}
 use Rattle.yang_types.specs.DataType.{DataType, text, number, length_within, value_within, matching, one_of, truth, builtin, leafref, union, types_of}
 use Rattle.yang_types.specs.declared.types.Bounds.{Bounds}
 use Rattle.yang_types.specs.declared.types.Target.{Target}
-use Rattle.yang_scope.specs.Meanings.{type_meaning}
+use Rattle.yang_scope.specs.Meanings.{type_meaning, base_of}
 use Rattle.yang_scope.specs.Modules.{Module}
 use Rattle.yang_scope.specs.Paths.{Placed, path_end}
 use Rattle.yang_scope.specs.Statements.{is_keyword, first_child, children_of}
+use Rattle.yang_scope.specs.declared.bases.Base.{Base}
 use Rattle.yang_scope.specs.declared.bases.Base.TheVariants.{Text, Number, Enumeration, Truth, Leafref, Union, Builtin as BuiltIn}
 use Rattle.yang_scope.specs.declared.meanings.Meaning.{Meaning}
 use Rattle.yang_scope.specs.declared.meanings.Meaning.TheVariants.{Ends, Goes, Nothing}
 use Rattle.yang_values.specs.Targets.{target_of}
-use Rattle.yang_values.specs.Values.{most_steps, parts_in, restricted_values, typedef_type}
+use Rattle.yang_values.specs.Values.{most_steps, is_restriction, parts_in, restricted_values, typedef_type}
 
 -- type statements of a module
 abbrev pub placed_in : ℕ → List Declaration → List Placed
@@ -49,24 +51,18 @@ next modules p = next_by modules p.0 p.1 (type_meaning modules p.0 (argument p.1
 abbrev pub enum_name : Declaration → List (List ℕ)
 enum_name d = if is_keyword (codes "enum") d then option_to_list (argument d) else []
 
--- an enumeration without a name says nothing
-abbrev pub enumeration_of : List (List ℕ) → DataType
-enumeration_of [] = text
-enumeration_of (name ∷ names) = one_of (name ∷ names)
-
 -- the type of a typedef, where there is one
 abbrev pub only_type : List DataType → DataType
 only_type [] = text
 only_type (t ∷ ts) = t
 
--- a union without a member says nothing
-abbrev pub union_of : List DataType → DataType
-union_of [] = text
-union_of (t ∷ ts) = union (types_of (t ∷ ts))
+-- the target of a leafref whose path leads to nothing
+abbrev pub nowhere : Target
+nowhere = record { table = []; shape = 0; part = 0 }
 
--- a leafref to nothing says nothing
+-- a leafref is one whatever its path says
 abbrev pub leafref_of : Option Target → List DataType → DataType
-leafref_of None ts = text
+leafref_of None ts = leafref nowhere (only_type ts)
 leafref_of (Some target) ts = leafref target (only_type ts)
 
 -- what a name stands for, by the types that it leads to
@@ -75,11 +71,11 @@ named_type modules d ts Nothing = text
 named_type modules d ts (Goes m place) = only_type ts
 named_type modules d ts (Ends Text) = text
 named_type modules d ts (Ends (Number b)) = number b
-named_type modules d ts (Ends Enumeration) = enumeration_of (flat_map enum_name (block d))
+named_type modules d ts (Ends Enumeration) = one_of (flat_map enum_name (block d))
 named_type modules d ts (Ends Truth) = truth
 named_type modules d ts (Ends Leafref) =
     leafref_of (option_and_then (target_of modules) (path_of d)) ts
-named_type modules d ts (Ends Union) = union_of ts
+named_type modules d ts (Ends Union) = union (types_of ts)
 named_type modules d ts (Ends (BuiltIn b)) = builtin b
 
 -- a pattern that is one
@@ -97,11 +93,29 @@ restrict is_pattern values t d =
     then option_map_or (matching_by is_pattern t) (argument d) t
     else t
 
--- the type of a statement by the types that it leads to: its restrictions stand round what its name
--- stands for, in the order of the text
+-- patterns restrict a string, and what has no base
+abbrev pub takes_patterns : Option Base → Bool
+takes_patterns None = true
+takes_patterns (Some Text) = true
+takes_patterns (Some _) = false
+
+-- a restriction that a type of this base takes
+abbrev pub is_taken : Option Base → Declaration → Bool
+is_taken base d = is_restriction base d || (takes_patterns base && is_keyword (codes "pattern") d)
+
+-- a type with one restriction more, where its base takes it
+abbrev pub restrict_if_taken :
+    (List ℕ → Bool) → Option Base → List Bounds → DataType → Declaration → DataType
+restrict_if_taken is_pattern base values t d =
+    if is_taken base d then restrict is_pattern values t d else t
+
+-- the type of a statement by the types that it leads to: the restrictions that it takes stand round
+-- what its name stands for, in the order of the text
 abbrev pub type_by : (List ℕ → Bool) → List Module → Placed → List DataType → DataType
 type_by is_pattern modules p ts =
-    fold (restrict is_pattern (restricted_values modules p.0 p.1))
+    fold
+    (restrict_if_taken is_pattern (base_of modules p.0 (argument p.1))
+    (restricted_values modules p.0 p.1))
     (named_type modules p.1 ts (type_meaning modules p.0 (argument p.1)))
     (block p.1)
 

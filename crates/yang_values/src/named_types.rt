@@ -5,7 +5,7 @@ ghost use Rattle.yang_text.specs.Declarations.{block};
 ghost use Rattle.yang_text.specs.Statements.{declaration};
 ghost use Rattle.yang_types.specs.DataTypes.{data_type};
 ghost use Rattle.yang_values.specs.Targets.{target_of};
-ghost use Rattle.yang_values.specs.TypeValues.{path_of, enum_name, enumeration_of, only_type, union_of, leafref_of, named_type};
+ghost use Rattle.yang_values.specs.TypeValues.{path_of, enum_name, only_type, nowhere, leafref_of, named_type};
 
 use crate::statements::is_keyword;
 use crate::targets::target_of;
@@ -41,16 +41,6 @@ fn enum_names(alloc: Global, statement: &Statement) -> Result<Sequence<Txt>, Mem
     Ok(enums)
 }
 
-fn enumeration_of(enums: Sequence<Txt>) -> Ty
-    ensures { data_type result ≡ enumeration_of enums }
-{
-    if enums.len() == 0 {
-        Ty::Text
-    } else {
-        Ty::OneOf(enums)
-    }
-}
-
 /// The only type of some.
 pub(crate) fn only_type(types: Vec<Ty>) -> Ty
     ensures { data_type result ≡ only_type (map data_type types.items) }
@@ -74,26 +64,27 @@ fn types_of(alloc: Global, types: Vec<Ty>) -> Result<Types, Memory>
     Ok(same)
 }
 
-fn union_of(alloc: Global, types: Vec<Ty>) -> Result<Ty, Memory>
-    ensures { IfOk result (λ ty. data_type ty ≡ union_of (map data_type types.items)) }
+/// The target of a leafref whose path leads to nothing.
+fn nowhere(alloc: Global) -> Result<Target, Memory>
+    ensures { IfOk result (λ target. target ≡ nowhere) }
 {
-    if types.is_empty() {
-        return Ok(Ty::Text);
-    }
-    let members = types_of(alloc, types)?;
-    Ok(Ty::Union(members))
+    let table = Txt::new(alloc, "")?;
+    Ok(Target {
+        table,
+        shape: 0,
+        part: 0,
+    })
 }
 
 fn leafref_of(alloc: Global, target: Option<Target>, types: Vec<Ty>) -> Result<Ty, Memory>
     ensures { IfOk result (λ ty. data_type ty ≡ leafref_of target (map data_type types.items)) }
 {
-    match target {
-        Some(target) => {
-            let inner = TyBox::new(alloc, only_type(types))?;
-            Ok(Ty::Ref(target, inner))
-        }
-        None => Ok(Ty::Text),
-    }
+    let target = match target {
+        Some(target) => target,
+        None => nowhere(alloc)?,
+    };
+    let inner = TyBox::new(alloc, only_type(types))?;
+    Ok(Ty::Ref(target, inner))
 }
 
 /// What the path of a leafref leads to.
@@ -129,14 +120,17 @@ pub(crate) fn named_type(
         Meaning::Ends(Base::Number(bounds)) => Ok(Ty::Number(bounds)),
         Meaning::Ends(Base::Enumeration) => {
             let enums = enum_names(alloc, statement)?;
-            Ok(enumeration_of(enums))
+            Ok(Ty::OneOf(enums))
         }
         Meaning::Ends(Base::Truth) => Ok(Ty::Truth),
         Meaning::Ends(Base::Leafref) => {
             let target = leaf_target(alloc, names, statement)?;
             leafref_of(alloc, target, types)
         }
-        Meaning::Ends(Base::Union) => union_of(alloc, types),
+        Meaning::Ends(Base::Union) => {
+            let members = types_of(alloc, types)?;
+            Ok(Ty::Union(members))
+        }
         Meaning::Ends(Base::Builtin(builtin)) => Ok(Ty::Builtin(builtin)),
     }
 }

@@ -8,16 +8,16 @@ ghost use Rattle.yang_text.specs.Statements.{declaration};
 ghost use Rattle.yang_types.specs.DataType.{length_within, value_within};
 ghost use Rattle.yang_types.specs.DataTypes.{data_type};
 ghost use Rattle.yang_scope.specs.TypeFaults.{DecidesPatterns};
-ghost use Rattle.yang_values.specs.TypeValues.{matching_by, restrict, type_by};
+ghost use Rattle.yang_values.specs.TypeValues.{matching_by, restrict, takes_patterns, is_taken, restrict_if_taken, type_by};
 ghost use Rattle.yang_values.specs.Values.{restricted_values};
 
 use crate::named_types::named_type;
 use crate::statements::is_keyword;
-use crate::values::parts_in_at;
+use crate::values::{is_restriction, parts_in_at};
 use host_core::{Memory, Sequence, Txt};
 use std::alloc::Global;
 use yang_pattern::{Pattern, PatternError};
-use yang_scope::Names;
+use yang_scope::{Base, Names};
 use yang_text::Statement;
 use yang_types::{Bounds, Ty, TyBox};
 
@@ -125,6 +125,46 @@ fn restrict(
     }
 }
 
+/// Whether a type of this base may have patterns.
+fn takes_patterns(base: Option<Base>) -> bool
+    ensures { result ≡ takes_patterns base }
+{
+    match base {
+        None | Some(Base::Text) => true,
+        Some(_) => false,
+    }
+}
+
+/// Whether a statement is a restriction that a type of this base takes.
+fn is_taken(base: Option<Base>, statement: &Statement) -> bool
+    ensures { result ≡ is_taken base (declaration statement.now) }
+{
+    is_restriction(base, statement) || (takes_patterns(base) && is_keyword("pattern", statement))
+}
+
+/// A type with the restriction round it that a statement in a type statement is, where the base of that
+/// takes it.
+fn restrict_if_taken(
+    alloc: Global,
+    names: &Names,
+    number: usize,
+    statement: &Statement,
+    base: Option<Base>,
+    ty: Ty,
+    child: &Statement,
+) -> Result<Ty, Memory>
+    ensures { IfOk result (λ more. (is_pattern : List ℕ → Bool) → DecidesPatterns is_pattern
+        → data_type more ≡ restrict_if_taken is_pattern base
+        (restricted_values names.now number (declaration statement.now))
+        (data_type ty) (declaration child.now)) }
+{
+    if is_taken(base, child) {
+        restrict(alloc, names, number, statement, ty, child)
+    } else {
+        Ok(ty)
+    }
+}
+
 /// The type of a type statement, by the types that it leads to.
 pub(crate) fn type_by(
     alloc: Global,
@@ -138,9 +178,10 @@ pub(crate) fn type_by(
         (map data_type types.items)) }
 {
     let meaning = names.type_meaning(number, &statement.argument);
+    let base = names.base_of(number, &statement.argument);
     let mut ty = named_type(alloc, names, statement, types, meaning)?;
     for child in statement.block.items() {
-        ty = restrict(alloc, names, number, statement, ty, child)?;
+        ty = restrict_if_taken(alloc, names, number, statement, base, ty, child)?;
     }
     Ok(ty)
 }

@@ -1,8 +1,8 @@
 use Rattle.std.proofs.Common.{inl, refl, Err}
 use Rattle.plan_options.specs.Views.{target_view}
-use Rattle.gcu_lines.specs.Lines.{last_line}
-use Rattle.gcu_asking.specs.ChangeAsked.{change_asked}
-use Rattle.gcu_asking.proofs.Finding.{always_refuses}
+use Rattle.gcu_output.specs.Lines.{last_line}
+use Rattle.gcu_requests.specs.ChangeAsked.{change_asked}
+use Rattle.gcu_requests.proofs.Finding.{always_refuses}
 use Rattle.gcu_engine.proofs.Answering.{refused_cause, said_to}
 use Rattle.gcu_engine.proofs.Naming.{answers_wider, complete_wider, leaves_wider, misnamed_says}
 use Rattle.gcu_engine.proofs.ReadyOrNot.{begins_early, line_leaves}

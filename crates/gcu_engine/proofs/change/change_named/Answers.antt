@@ -1,5 +1,5 @@
 use Rattle.plan_options.specs.Views.{target_view}
-use Rattle.gcu_asking.specs.ChangeAsked.{settled_asked}
+use Rattle.gcu_requests.specs.ChangeAsked.{settled_asked}
 use Rattle.gcu_engine.proofs.Causes.{unsolved_cause}
 use Rattle.gcu_engine.proofs.Changes.{cause_from, change_answers}
 use Rattle.gcu_engine.proofs.Completing.{completes}

@@ -1,6 +1,6 @@
 use Rattle.std.proofs.Common.{refl, sym, subst, List, ℕ}
-use Rattle.gcu_lines.specs.Lines.{last_line}
-use Rattle.gcu_lines.specs.declared.outcomes.Outcome.TheVariants.{Done, DiskFault, ServiceFault}
+use Rattle.gcu_output.specs.Lines.{last_line}
+use Rattle.gcu_output.specs.declared.outcomes.Outcome.TheVariants.{Done, DiskFault, ServiceFault}
 use Rattle.gcu_engine.proofs.ChangeEnds.{IsLastIn, cut_in_step, disk_last, disk_printed, done_last, ends_left, ends_work, service_last, service_printed}
 use Rattle.gcu_engine.proofs.change.do_steps.Goals as goal
 

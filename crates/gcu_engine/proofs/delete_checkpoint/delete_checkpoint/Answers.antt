@@ -1,5 +1,5 @@
-use Rattle.gcu_lines.specs.Printing.{outcome_of}
-use Rattle.gcu_asking.specs.Asked.{delete_asked}
+use Rattle.gcu_output.specs.Printing.{outcome_of}
+use Rattle.gcu_requests.specs.Asked.{delete_asked}
 use Rattle.gcu_engine.proofs.Causes.{disk_fell, ended_cause}
 use Rattle.gcu_engine.proofs.Completing.{completes}
 use Rattle.gcu_engine.proofs.Elapsing.{asking_prints}

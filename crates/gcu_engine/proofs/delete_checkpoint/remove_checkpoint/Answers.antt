@@ -6,10 +6,10 @@ use Rattle.conf_store.specs.Reads.{OnlyReads}
 use Rattle.checkpoints.specs.Changes.{IsDeleted, IsDeletedOrNot}
 use Rattle.checkpoints.specs.Names.{is_good_name}
 use Rattle.checkpoints.specs.Points.{points}
-use Rattle.gcu_lines.specs.declared.outcomes.Outcome.TheVariants.{BadName, DiskFault}
-use Rattle.gcu_asking.specs.Asked.{delete_asked}
-use Rattle.gcu_asking.specs.Request.{delete_checkpoint}
-use Rattle.gcu_asking.proofs.Finding.{memory_found}
+use Rattle.gcu_output.specs.declared.outcomes.Outcome.TheVariants.{BadName, DiskFault}
+use Rattle.gcu_requests.specs.Asked.{delete_asked}
+use Rattle.gcu_requests.specs.Request.{delete_checkpoint}
+use Rattle.gcu_requests.proofs.Finding.{memory_found}
 use Rattle.gcu_engine.proofs.Deletions.{bad_name_found, deleting, may_delete, settled_found, settling_fault_found, settling_reads}
 use Rattle.gcu_engine.proofs.Writing.{FindsUnit, asking_goes_on, of_some, ready_before, ready_written, writes_within}
 use Rattle.gcu_engine.proofs.delete_checkpoint.remove_checkpoint.Goals as goal

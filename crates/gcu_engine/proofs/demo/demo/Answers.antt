@@ -1,7 +1,7 @@
 use Rattle.std.proofs.Common.{◌++◌, length}
-use Rattle.gcu_lines.specs.Lines.{last_line}
-use Rattle.gcu_lines.specs.declared.outcomes.Outcome.TheVariants.{Done}
-use Rattle.gcu_asking.specs.DemoAsked.{demo_asked}
+use Rattle.gcu_output.specs.Lines.{last_line}
+use Rattle.gcu_output.specs.declared.outcomes.Outcome.TheVariants.{Done}
+use Rattle.gcu_requests.specs.DemoAsked.{demo_asked}
 use Rattle.gcu_engine.specs.Summary.{summary}
 use Rattle.gcu_engine.proofs.Answering.{said_to}
 use Rattle.gcu_engine.proofs.Causes.{done_cause, unsolved_cause}

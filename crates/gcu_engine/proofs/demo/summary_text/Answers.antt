@@ -1,7 +1,7 @@
 use Rattle.std.proofs.Common.{codes}
 use Rattle.gcu_demo.specs.Demo.{vlans_with}
-use Rattle.gcu_lines.specs.Lines.{last_line, line_feed}
-use Rattle.gcu_lines.specs.declared.outcomes.Outcome.TheVariants.{Done}
+use Rattle.gcu_output.specs.Lines.{last_line, line_feed}
+use Rattle.gcu_output.specs.declared.outcomes.Outcome.TheVariants.{Done}
 use Rattle.gcu_engine.specs.Summary.{changes_with, counted}
 use Rattle.gcu_engine.proofs.SummaryTexts.{lines_joined}
 use Rattle.gcu_engine.proofs.demo.summary_text.Goals as goal

@@ -1,9 +1,9 @@
 use Rattle.std.proofs.Common.{◌++◌}
 use Rattle.move_core.specs.Operations.{plan_text}
 use Rattle.plan_options.specs.Views.{target_view}
-use Rattle.gcu_lines.specs.Lines.{last_line}
-use Rattle.gcu_lines.specs.declared.outcomes.Outcome.TheVariants.{Done}
-use Rattle.gcu_asking.specs.PlanAsked.{dry_run_asked}
+use Rattle.gcu_output.specs.Lines.{last_line}
+use Rattle.gcu_output.specs.declared.outcomes.Outcome.TheVariants.{Done}
+use Rattle.gcu_requests.specs.PlanAsked.{dry_run_asked}
 use Rattle.gcu_engine.proofs.Answering.{said_to}
 use Rattle.gcu_engine.proofs.Causes.{done_cause, unsolved_cause}
 use Rattle.gcu_engine.proofs.Completing.{completes}

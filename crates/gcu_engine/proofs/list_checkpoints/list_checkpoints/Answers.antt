@@ -1,7 +1,7 @@
 use Rattle.std.proofs.Common.{◌++◌}
-use Rattle.gcu_lines.specs.Lines.{last_line, lines}
-use Rattle.gcu_lines.specs.declared.outcomes.Outcome.TheVariants.{Done}
-use Rattle.gcu_asking.specs.Asked.{list_asked}
+use Rattle.gcu_output.specs.Lines.{last_line, lines}
+use Rattle.gcu_output.specs.declared.outcomes.Outcome.TheVariants.{Done}
+use Rattle.gcu_requests.specs.Asked.{list_asked}
 use Rattle.gcu_engine.proofs.Answering.{refused_cause, said_to}
 use Rattle.gcu_engine.proofs.Causes.{disk_fell, said_cause}
 use Rattle.gcu_engine.proofs.Completing.{completes}

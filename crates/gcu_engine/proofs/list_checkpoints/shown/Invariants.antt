@@ -1,5 +1,5 @@
 use Rattle.std.proofs.Common.{◌≡◌, ◌++◌, drop}
-use Rattle.gcu_lines.specs.Lines.{lines}
+use Rattle.gcu_output.specs.Lines.{lines}
 use Rattle.gcu_engine.proofs.list_checkpoints.shown.Given as goal
 
 -- what is there and the lines that are left make all lines

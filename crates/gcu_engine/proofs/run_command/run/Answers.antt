@@ -1,9 +1,9 @@
 use Rattle.std.proofs.Common.{None, Some, inl, sym, ◌++◌}
 use Rattle.conf_doc.specs.Trees.{document}
-use Rattle.gcu_lines.specs.Lines.{last_line}
-use Rattle.gcu_lines.specs.Printing.{text_in_lines}
-use Rattle.gcu_lines.specs.declared.outcomes.Outcome.TheVariants.{Usage, Done}
-use Rattle.gcu_asking.specs.Form.{check, list_checkpoints}
+use Rattle.gcu_output.specs.Lines.{last_line}
+use Rattle.gcu_output.specs.Printing.{text_in_lines}
+use Rattle.gcu_output.specs.declared.outcomes.Outcome.TheVariants.{Usage, Done}
+use Rattle.gcu_requests.specs.Form.{check, list_checkpoints}
 use Rattle.gcu_engine.proofs.Completing.{complete_by}
 use Rattle.gcu_engine.proofs.Headlines.{headline}
 use Rattle.gcu_engine.proofs.Elapsing.{changes_by, command_leaves, command_leaves_behind, leaves_by}

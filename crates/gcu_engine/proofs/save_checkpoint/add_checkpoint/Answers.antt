@@ -8,14 +8,14 @@ use Rattle.checkpoints.specs.Changes.{IsSaved, IsSavedOrNot}
 use Rattle.checkpoints.specs.Names.{is_good_name}
 use Rattle.checkpoints.specs.Points.{points}
 use Rattle.conf_doc.specs.declared.configuration.Config.{Config}
-use Rattle.gcu_lines.specs.declared.outcomes.Outcome.TheVariants.{BadName, DiskFault}
-use Rattle.gcu_asking.specs.Asked.{save_asked}
-use Rattle.gcu_asking.specs.Checking.{check_asked}
-use Rattle.gcu_asking.specs.Preparing.{Finds}
-use Rattle.gcu_asking.specs.StoredAsked.{stored_asked}
-use Rattle.gcu_asking.specs.Request.{check, save_checkpoint}
-use Rattle.gcu_lines.proofs.Elapsing.{elapses_both}
-use Rattle.gcu_asking.proofs.Finding.{memory_found}
+use Rattle.gcu_output.specs.declared.outcomes.Outcome.TheVariants.{BadName, DiskFault}
+use Rattle.gcu_requests.specs.Asked.{save_asked}
+use Rattle.gcu_requests.specs.Checking.{check_asked}
+use Rattle.gcu_requests.specs.Preparing.{Finds}
+use Rattle.gcu_requests.specs.StoredAsked.{stored_asked}
+use Rattle.gcu_requests.specs.Request.{check, save_checkpoint}
+use Rattle.gcu_output.proofs.Elapsing.{elapses_both}
+use Rattle.gcu_requests.proofs.Finding.{memory_found}
 use Rattle.gcu_engine.proofs.Savings.{bad_name_found, may_save, not_valid_found, saving, saving_found, settling_fault_found, settling_reads}
 use Rattle.gcu_engine.proofs.Writing.{FindsUnit, asking_goes_on, asking_settles, of_some, ready_before, ready_settled, ready_written, writes_within}
 use Rattle.gcu_engine.proofs.save_checkpoint.add_checkpoint.Goals as goal

@@ -1,8 +1,8 @@
 use Rattle.std.proofs.lemmas.Result.{err_from_is_err_and}
 use Rattle.plan_options.specs.Views.{target_view}
 use Rattle.std.proofs.Common.{Ok, Err}
-use Rattle.gcu_asking.specs.PlanAsked.{dry_run_asked}
-use Rattle.gcu_asking.proofs.Finding.{always_refuses}
+use Rattle.gcu_requests.specs.PlanAsked.{dry_run_asked}
+use Rattle.gcu_requests.proofs.Finding.{always_refuses}
 use Rattle.gcu_engine.proofs.PlanSaying.{named_found, no_named, plan_refused, plan_says, refuses_ends, solved_ends}
 use Rattle.gcu_engine.proofs.solving.solve.Goals as goal
 

@@ -86,13 +86,14 @@ count_below-returns g t c =
 pub count_along-returns-in-Child : goal.count_along-returns-in-Child
 count_along-returns-in-Child g t c =
     let tree = g.N.Nodes.tree c.args.nodes.now in
-    let leads = λ (ss : Strides). min c.args.limit (how_many (is_sought tree c.args.current c.args.sought) (walk tree c.args.current ss c.args.at)) in
+    let leads = λ (ss : Strides). min c.args.limit (how_many (is_sought tree c.args.current c.args.sought) (walk tree c.args.current ss c.loop-step.here)) in
     let rest = strides_of (map step_of c.in-Some.rest.now) in
     c.count_below.ensures
-    ∙ ap (λ es. min c.args.limit (sought_below tree c.args.current c.args.sought (predicates_of es) rest (tree.children c.args.at c.as_str.result.now))) c.items.ensures
-    ∙ ap (λ name. min c.args.limit (sought_below tree c.args.current c.args.sought (predicates_of c.in-Child.tests) rest (tree.children c.args.at name))) c.as_str.ensures.text
+    ∙ ap (λ es. min c.args.limit (sought_below tree c.args.current c.args.sought (predicates_of es) rest (tree.children c.loop-step.here c.as_str.result.now))) c.items.ensures
+    ∙ ap (λ name. min c.args.limit (sought_below tree c.args.current c.args.sought (predicates_of c.in-Child.tests) rest (tree.children c.loop-step.here name))) c.as_str.ensures.text
     ∙ ap (λ s. leads (stride (step_of s) rest)) (sym c.in-Child.is)
     ∙ ap (λ (ss : List Step). leads (strides_of (map step_of ss))) (sym c.in-Some.ensures.cases.0)
+    ∙ ap (λ ns. min c.args.limit (how_many (is_sought tree c.args.current c.args.sought) ns)) c.loop-step.invariant.same
 
 pub count_child-pass-requires : goal.count_child-pass-requires
 count_child-pass-requires g t c κs within = (omega (arith, strides_weigh (strides_of (map step_of c.args.rest.now))), search rules)

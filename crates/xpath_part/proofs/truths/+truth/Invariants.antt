@@ -1,7 +1,7 @@
 use Rattle.std.proofs.Common.{◌≡◌, ◌<◌, ◌≤◌, drop, length, map, min, slice_get, ◌+◌, ◌-◌, ◌^◌, IfSome}
 use Rattle.xpath_part.specs.Expression.{weight, term_weight, path_weight, strides_weight, predicates_weight, strides_of, predicates_of}
 use Rattle.xpath_part.specs.Expressions.{expression, term_of, path_of, step_of}
-use Rattle.xpath_part.specs.Sought.{sought_below}
+use Rattle.xpath_part.specs.Sought.{sought_below, walk_of}
 use Rattle.xpath_part.specs.Truth.{value, passes}
 use Rattle.xpath_part.proofs.Weights.{sought_weight}
 use Rattle.xpath_part.proofs.truths.+truth.Given as goal
@@ -65,3 +65,13 @@ invariant-count_below-loop-next g l =
 
 abbrev pub decreases-count_below-loop-next : goal.decreases-count_below-loop-next
 decreases-count_below-loop-next g l = length ((g.N.Nodes.tree l.nodes).children l.at l.name) - l.i
+
+abbrev pub invariant-count_along-loop-step : goal.invariant-count_along-loop-step
+invariant-count_along-loop-step g l = let tree = g.N.Nodes.tree l.nodes in record {
+  same : walk_of tree l.current l.ahead l.here ≡ walk_of tree l.current l.fn.steps l.fn.at;
+  node : g.N.Nodes.is_node l.nodes l.here;
+  within : strides_weight (strides_of (map step_of l.ahead)) ≤ strides_weight (strides_of (map step_of l.fn.steps));
+}
+
+abbrev pub decreases-count_along-loop-step : goal.decreases-count_along-loop-step
+decreases-count_along-loop-step g l = strides_weight (strides_of (map step_of l.ahead))

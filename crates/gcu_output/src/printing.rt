@@ -1,0 +1,147 @@
+//! How an answer is printed.
+ghost use Rattle.std.specs.Prelude.{◌≡◌, ◌++◌, IfErr, IfOk};
+ghost use Rattle.host_core.specs.Counts.{PrintMayRise};
+ghost use Rattle.host_core.specs.Crashes.{Elapses, MayLeaveInPrint};
+ghost use Rattle.conf_doc.specs.Trees.{document};
+ghost use Rattle.move_core.specs.Operations.{plan_text as text_of_plan};
+ghost use Rattle.gcu_output.specs.Printing.{LeftWithOutput, IsFirst, IsTold, is_disk_fault as is_fault, may_have_written, outcome_of, IsPrinted, IsSaid, LeftInLine, text_in_lines};
+ghost use Rattle.gcu_output.specs.Lines.{last_line};
+ghost use Rattle.gcu_output.specs.declared.outcomes.Outcome.TheVariants.{Done as done, Memory as no_memory};
+
+use crate::Outcome;
+use crate::lines::line;
+use crate::tree_text::tree_text;
+use conf_doc::Tree;
+use host_core::{Host, Memory};
+use move_core::{Plan, plan_text};
+use std::alloc::Global;
+
+/// Prints the last line of an outcome that isn't Done, and answers it.
+pub fn say<H: Host>(alloc: Global, outcome: Outcome, host: &mut H) -> Outcome
+    ensures said { IsSaid outcome (last_line outcome)
+        (H.told host.old) (H.told host.new) (H.counts host.old) (H.counts host.new) result }
+    ensures counts { PrintMayRise (H.counts host.old) (H.counts host.new) }
+    ensures time { Elapses H.moment H.left_since host.old host.new
+        (LeftWithOutput (H.told host.old)) }
+    ensures line { Elapses H.moment H.left_since host.old host.new
+        (LeftInLine (H.told host.old)) }
+    ensures goes { H.goes_on host.old host.new }
+{
+    match line(alloc, &outcome) {
+        Ok(text) => print(outcome, text.as_bytes(), host),
+        Err(_) => say_memory(host),
+    }
+}
+
+/// Prints the last line of a command that writes. Once something may have been written no memory is asked
+/// for, which is so with Done and with a disk fault.
+pub fn tell<H: Host>(alloc: Global, done: Result<(), Outcome>, host: &mut H) -> Outcome
+    requires { IfErr done IsFirst }
+    ensures told { IsTold (may_have_written (outcome_of done)) (outcome_of done)
+        (H.told host.old) (H.told host.new) (H.counts host.old) (H.counts host.new) result }
+    ensures counts { PrintMayRise (H.counts host.old) (H.counts host.new) }
+    ensures time { Elapses H.moment H.left_since host.old host.new
+        (LeftWithOutput (H.told host.old)) }
+    ensures goes { H.goes_on host.old host.new }
+{
+    match done {
+        Ok(()) => print(Outcome::Done, b"done\n", host),
+        Err(refusal) if is_disk_fault(&refusal) => {
+            let fault = Outcome::DiskFault { step: 0 };
+            print(fault, b"refused 4 disk fault after 0\n", host)
+        }
+        Err(refusal) => say(alloc, refusal, host),
+    }
+}
+
+fn is_disk_fault(outcome: &Outcome) -> bool
+    ensures { result ≡ is_fault outcome.now }
+{
+    match outcome {
+        Outcome::DiskFault { .. } => true,
+        _ => false,
+    }
+}
+
+/// Prints the file text of a configuration's tree and the last line of Done.
+pub fn show<H: Host>(alloc: Global, tree: &Tree, host: &mut H) -> Outcome
+    ensures said { IsSaid done (text_in_lines (document tree.now) ++ last_line done)
+        (H.told host.old) (H.told host.new) (H.counts host.old) (H.counts host.new) result }
+    ensures counts { PrintMayRise (H.counts host.old) (H.counts host.new) }
+    ensures time { Elapses H.moment H.left_since host.old host.new
+        (LeftWithOutput (H.told host.old)) }
+    ensures goes { H.goes_on host.old host.new }
+{
+    match shown(alloc, tree) {
+        Ok(text) => print(Outcome::Done, &text, host),
+        Err(Memory) => say_memory(host),
+    }
+}
+
+/// Prints the text of a plan and the last line of Done.
+pub fn show_plan<H: Host>(alloc: Global, plan: &Plan, host: &mut H) -> Outcome
+    ensures said { IsSaid done (text_of_plan plan.now ++ last_line done)
+        (H.told host.old) (H.told host.new) (H.counts host.old) (H.counts host.new) result }
+    ensures counts { PrintMayRise (H.counts host.old) (H.counts host.new) }
+    ensures time { Elapses H.moment H.left_since host.old host.new
+        (LeftWithOutput (H.told host.old)) }
+    ensures goes { H.goes_on host.old host.new }
+{
+    match shown_plan(alloc, plan) {
+        Ok(lines) => print(Outcome::Done, &lines, host),
+        Err(Memory) => say_memory(host),
+    }
+}
+
+/// Prints the last line of Memory, for which no memory is needed.
+pub fn say_memory<H: Host>(host: &mut H) -> Outcome
+    ensures printed { IsPrinted no_memory (last_line no_memory)
+        (H.told host.old) (H.told host.new) (H.counts host.old) (H.counts host.new) result }
+    ensures counts { PrintMayRise (H.counts host.old) (H.counts host.new) }
+    ensures time { Elapses H.moment H.left_since host.old host.new
+        (LeftWithOutput (H.told host.old)) }
+    ensures line { Elapses H.moment H.left_since host.old host.new
+        (LeftInLine (H.told host.old)) }
+    ensures goes { H.goes_on host.old host.new }
+{
+    print(Outcome::Memory, b"refused 1 memory\n", host)
+}
+
+/// The whole output with a configuration's tree.
+fn shown(alloc: Global, tree: &Tree) -> Result<Vec<u8>, Memory>
+    ensures { IfOk result (λ b. b.items ≡ text_in_lines (document tree.now) ++ last_line done) }
+{
+    let mut text = tree_text(alloc, tree)?;
+    match text.extend_from_slice(b"done\n") {
+        Ok(()) => Ok(text),
+        Err(_) => Err(Memory),
+    }
+}
+
+/// The whole output with a plan.
+fn shown_plan(alloc: Global, plan: &Plan) -> Result<Vec<u8>, Memory>
+    ensures { IfOk result (λ b. b.items ≡ text_of_plan plan.now ++ last_line done) }
+{
+    let mut text = plan_text(alloc, plan)?;
+    match text.extend_from_slice(b"done\n") {
+        Ok(()) => Ok(text),
+        Err(_) => Err(Memory),
+    }
+}
+
+/// Prints the whole output of an outcome in one call.
+pub fn print<H: Host>(outcome: Outcome, text: &[u8], host: &mut H) -> Outcome
+    ensures printed { IsPrinted outcome text.now
+        (H.told host.old) (H.told host.new) (H.counts host.old) (H.counts host.new) result }
+    ensures counts { PrintMayRise (H.counts host.old) (H.counts host.new) }
+    ensures time { Elapses H.moment H.left_since host.old host.new
+        (LeftWithOutput (H.told host.old)) }
+    ensures text { Elapses H.moment H.left_since host.old host.new
+        (MayLeaveInPrint text.now (H.told host.old)) }
+    ensures goes { H.goes_on host.old host.new }
+{
+    match host.print(text) {
+        Ok(()) => outcome,
+        Err(_) => Outcome::PrintFault { step: 0 },
+    }
+}

@@ -1,0 +1,92 @@
+-- What words ask of a host that tells its state: the first refusal in its order, or the request.
+use Rattle.std.specs.Prelude.{ℕ, List, Option, Some, None, Result, Ok, Err}
+use Rattle.std.specs.FinMap.{get, keys}
+use Rattle.host_core.specs.Answers.{map_ok}
+use Rattle.host_core.specs.State.{State}
+use Rattle.conf_doc.specs.declared.configuration.Config.{Config}
+use Rattle.checkpoints.specs.Points.{Held, points}
+use Rattle.gcu_output.specs.declared.outcomes.Outcome.{Outcome}
+use Rattle.gcu_output.specs.declared.outcomes.Outcome.TheVariants.{Usage, NoCheckpoint, CheckpointExists}
+use Rattle.gcu_output.specs.declared.outcomes.PointWhy.TheVariants as why
+use Rattle.gcu_requests.specs.Asking.{Asking, a_file, asks, follows, settles_first, ◌>>>◌}
+use Rattle.gcu_requests.specs.ChangeAsked.{change_asked}
+use Rattle.gcu_requests.specs.Checking.{check_asked}
+use Rattle.gcu_requests.specs.DemoAsked.{demo_asked}
+use Rattle.gcu_requests.specs.Form.{Form, change, check, delete_checkpoint, demo, form, list_checkpoints, plan, preview, save_checkpoint}
+use Rattle.gcu_requests.specs.PatchAsked.{patch_asked, target}
+use Rattle.gcu_requests.specs.PlanAsked.{dry_run_asked}
+use Rattle.gcu_requests.specs.PointAsked.{name_answer}
+use Rattle.gcu_requests.specs.Request as request
+use Rattle.gcu_requests.specs.Request.{Request}
+use Rattle.gcu_requests.specs.StoredAsked.{stored_asked}
+
+-- ---- checkpoints
+
+-- a checkpoint that isn't there is refused, whatever one that is there holds
+abbrev pub there_answer : List ℕ → Option Held → Result (List ℕ) Outcome
+there_answer name None = Err (NoCheckpoint name why.Absent)
+there_answer name (Some held) = Ok name
+
+-- the checkpoint of a name is to be deleted
+abbrev pub there_asked : List ℕ → State → Asking Request
+there_asked name s =
+    asks a_file (map_ok request.delete_checkpoint (there_answer name (get (points s.files) name)))
+
+-- a checkpoint that is there is refused, whatever it holds
+abbrev pub absent_answer : List ℕ → Config → Option Held → Result Request Outcome
+absent_answer name config None = Ok (request.save_checkpoint name config)
+absent_answer name config (Some held) = Err (CheckpointExists name)
+
+-- a configuration is to be saved as the checkpoint of a name
+abbrev pub absent_asked : List ℕ → Config → State → Asking Request
+absent_asked name config s =
+    asks a_file (absent_answer name config (get (points s.files) name))
+
+-- ---- the commands
+
+-- the configuration after a patch; the stored one is read before the patch
+abbrev pub target_asked : List ℕ → State → Asking Config
+target_asked path s =
+    stored_asked s >>> λ start.
+    patch_asked path s >>> λ ops.
+    follows (target ops start)
+
+-- `preview PATH`: the configuration after the patch
+abbrev pub preview_asked : List ℕ → State → Asking Request
+preview_asked path s = target_asked path s >>> λ c. follows (Ok (request.preview c))
+
+-- `list-checkpoints`: the names of all checkpoints
+abbrev pub list_asked : State → Asking Request
+list_asked s = asks a_file (Ok (request.list_checkpoints (keys (points s.files))))
+
+-- `checkpoint NAME`: the name is looked at before the folder, and the stored configuration is to be valid
+abbrev pub save_asked : List ℕ → State → Asking Request
+save_asked word s =
+    follows (name_answer word) >>> λ name.
+    settles_first >>> λ _.
+    check_asked s >>> λ _.
+    stored_asked s >>> λ start.
+    absent_asked name start s
+
+-- `delete-checkpoint NAME`: the name is looked at before the folder
+abbrev pub delete_asked : List ℕ → State → Asking Request
+delete_asked word s =
+    follows (name_answer word) >>> λ name.
+    settles_first >>> λ _.
+    there_asked name s
+
+-- what a command asks, or that there is none
+abbrev pub form_asked : Option Form → State → Asking Request
+form_asked None s = follows (Err Usage)
+form_asked (Some (preview path)) s = preview_asked path s
+form_asked (Some check) s = check_asked s
+form_asked (Some list_checkpoints) s = list_asked s
+form_asked (Some (save_checkpoint name)) s = save_asked name s
+form_asked (Some (delete_checkpoint name)) s = delete_asked name s
+form_asked (Some (plan goal budget)) s = dry_run_asked goal budget s
+form_asked (Some (change goal budget)) s = change_asked goal budget s
+form_asked (Some (demo seed ports)) s = demo_asked seed ports s
+
+-- what the words ask of a host in this state
+abbrev pub asked : List (List ℕ) → State → Asking Request
+asked words s = form_asked (form words) s

@@ -1,0 +1,44 @@
+-- What `check` asks: the models, the stored configuration, and whether that is valid.
+use Rattle.std.specs.Prelude.{◌≡◌, ℕ, List, Result, Ok, Err}
+use Rattle.host_core.specs.State.{State}
+use Rattle.conf_doc.specs.declared.configuration.Config.{Config}
+use Rattle.yang_model.specs.ModelSets.{ModelSet}
+use Rattle.conf_check.specs.Validity.{Breach, IsBreach, IsBreachBefore, IsValid}
+use Rattle.conf_check.specs.declared.violations.Rule.{Rule}
+use Rattle.violation_places.specs.Places.{IsPlaceOf}
+use Rattle.gcu_output.specs.declared.outcomes.Outcome.{Outcome}
+use Rattle.gcu_output.specs.declared.outcomes.Outcome.TheVariants.{CurrentInvalid}
+use Rattle.gcu_requests.specs.Asking.{Asking, follows_by, ◌>>>◌}
+use Rattle.gcu_requests.specs.ModelFiles.{models_asked}
+use Rattle.gcu_requests.specs.Request.{Request, check}
+use Rattle.gcu_requests.specs.StoredAsked.{stored_asked}
+
+-- a violation before which there is no other one
+pub record IsFirstBreach (models : ModelSet) (config : Config) (b : Breach) : Type 0 where
+  pub broken : IsBreach models config b
+  pub first : (a : Breach) → IsBreachBefore a b → ¬ IsBreach models config a
+
+-- the first violation, told by an answer with its place and its rule
+pub record IsInvalidAs (answer : List ℕ → Rule → Outcome) (models : ModelSet) (config : Config)
+    (e : Outcome) : Type 0 where
+  pub breach : Breach
+  pub first : IsFirstBreach models config breach
+  pub place : List ℕ
+  pub at : IsPlaceOf models config breach place
+  pub told : e ≡ answer place breach.rule
+
+-- that of the stored configuration
+abbrev pub IsInvalid : ModelSet → Config → Outcome → Type 0
+IsInvalid models config e = IsInvalidAs CurrentInvalid models config e
+
+-- a valid configuration, or its first violation
+abbrev pub IsJudged : ModelSet → Config → Result Request Outcome → Type 0
+IsJudged models config (Ok request) = IsValid models config × (request ≡ check)
+IsJudged models config (Err e) = IsInvalid models config e
+
+-- `check`: the models are read before the stored configuration
+abbrev pub check_asked : State → Asking Request
+check_asked s =
+    models_asked s >>> λ models.
+    stored_asked s >>> λ start.
+    follows_by (IsJudged models start)

@@ -1,0 +1,18 @@
+-- A form as the code keeps it.
+use Rattle.std.specs.Prelude.{Option, Some, None}
+use Rattle.plan_options.specs.Views.{target_view}
+use Rattle.gcu_requests.specs.Form as words
+use Rattle.gcu_requests.specs.declared.form.Form.{Form}
+use Rattle.gcu_requests.specs.declared.form.Form.TheVariants.{Unknown, Preview, Check, ListCheckpoints, SaveCheckpoint, DeleteCheckpoint, Plan, Change, Demo}
+
+-- the command that it is, or None for words that are no command
+abbrev pub form_view : Form → Option words.Form
+form_view Unknown = None
+form_view (Preview patch) = Some (words.preview patch.now)
+form_view Check = Some words.check
+form_view ListCheckpoints = Some words.list_checkpoints
+form_view (SaveCheckpoint name) = Some (words.save_checkpoint name.now)
+form_view (DeleteCheckpoint name) = Some (words.delete_checkpoint name.now)
+form_view (Plan target options) = Some (words.plan (target_view target) options.budget)
+form_view (Change target options) = Some (words.change (target_view target) options.budget)
+form_view (Demo size) = Some (words.demo size.seed size.ports)

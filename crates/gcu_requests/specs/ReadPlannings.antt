@@ -1,0 +1,30 @@
+-- What is read for a plan.
+use Rattle.std.specs.Prelude.{◌≡◌, ◌<◌, true, ⊤}
+use Rattle.std.specs.List.{AllPass}
+use Rattle.conf_doc.specs.WellFormed.{IsConfig}
+use Rattle.conf_store.specs.Files.{is_step_name}
+use Rattle.checkpoints.specs.Names.{is_good_name}
+use Rattle.move_core.specs.Contexts.{AgreeElsewhere, IsNamed, IsValidIn}
+use Rattle.plan_options.specs.Targets.{Target, rolled_back}
+use Rattle.gcu_requests.specs.Request as request
+use Rattle.gcu_requests.specs.declared.planning.Planning.{Planning}
+
+-- where the target is a checkpoint, its name is good
+abbrev pub HasGoodName : Target → Type 0
+HasGoodName (rolled_back name) = is_good_name name ≡ true
+HasGoodName other = ⊤
+
+-- what was read for a plan, as a request has it
+abbrev pub planning_of : Planning → request.Planning
+planning_of p =
+    record { ctx = p.ctx; start = p.stored.config; goal = p.goal; budget = p.budget }
+
+-- what a search asks of it
+pub record IsReadyToSearch (p : Planning) : Type 0 where
+  pub named : IsNamed p.ctx
+  pub formed : IsConfig p.stored.config
+  pub names : AllPass is_step_name p.stored.steps
+  pub start : IsValidIn p.ctx p.stored.config
+  pub goal : IsValidIn p.ctx p.goal
+  pub elsewhere : AgreeElsewhere p.ctx p.stored.config p.goal
+  pub budget : 0 < p.budget

@@ -1,0 +1,64 @@
+//! Whether the stored configuration is valid by its models, and where it isn't.
+ghost use Rattle.std.specs.Prelude.{◌≡◌, ◌≤◌, IfErr, IfOk, Ok};
+ghost use Rattle.host_core.specs.Counts.{NoneFell};
+ghost use Rattle.host_core.specs.Crashes.{Elapses, MayLeaveNow};
+ghost use Rattle.host_core.specs.Names.{longest_scoped_name};
+ghost use Rattle.conf_check.specs.Validity.{IsFirstViolation};
+ghost use Rattle.gcu_requests.specs.Asking.{follows_by};
+ghost use Rattle.gcu_requests.specs.Checking.{IsJudged, check_asked};
+ghost use Rattle.gcu_requests.specs.Preparing.{FailsIn, Finds, IsRightBy, Refuses, RefusesAlways, refusal};
+ghost use Rattle.gcu_requests.specs.Request.{check as check_of};
+ghost use Rattle.gcu_requests.specs.StoredAsked.{stored_asked};
+
+use crate::models::input_models;
+use crate::stored::read_config;
+use conf_check::{Violation, check as check_config};
+use conf_doc::Config;
+use gcu_output::Outcome;
+use host_core::Host;
+use std::alloc::Global;
+use violation_places::{place_of, rule_numbered};
+use yang_model::Models;
+
+/// The stored configuration, where it is valid.
+pub fn judge_stored<H: Host>(alloc: Global, host: &mut H) -> Result<Config, Outcome>
+    requires { longest_scoped_name ≤ H.longest_name }
+    ensures answer { Finds (H.told host.old) (λ _. check_of) result check_asked }
+    ensures stored { IfOk result (λ c. Finds (H.told host.old) (λ _. c) (Ok c) stored_asked) }
+    ensures told { H.told host.new ≡ H.told host.old }
+    ensures counts { NoneFell (H.counts host.old) (H.counts host.new) }
+    ensures cause { IfErr result (Refuses (H.counts host.old) (H.counts host.new)) }
+    ensures time { Elapses H.moment H.left_since host.old host.new (MayLeaveNow (H.told host.old)) }
+    ensures goes { H.goes_on host.old host.new }
+{
+    let models = input_models(alloc, host)?;
+    let config = read_config(alloc, host)?;
+    judge(alloc, &models, &config)?;
+    Ok(config)
+}
+
+/// Ok where a configuration is valid.
+fn judge(alloc: Global, models: &Models, config: &Config) -> Result<(), Outcome>
+    ensures answer { IsRightBy (λ _. check_of) result (IsJudged models.now config.now) }
+    ensures cause { IfErr result RefusesAlways }
+{
+    match check_config(models, config) {
+        Ok(()) => Ok(()),
+        Err(violation) => Err(invalid(alloc, models, config, &violation)),
+    }
+}
+
+/// The refusal of a violation.
+fn invalid(alloc: Global, models: &Models, config: &Config, violation: &Violation) -> Outcome
+    requires { IsFirstViolation models.now config.now violation.now }
+    ensures answer { FailsIn (refusal result) (follows_by (IsJudged models.now config.now)) }
+    ensures cause { RefusesAlways result }
+{
+    match (
+        place_of(alloc, models, config, violation),
+        rule_numbered(violation.rule),
+    ) {
+        (Ok(place), Some(rule)) => Outcome::CurrentInvalid { place, rule },
+        _ => Outcome::Memory,
+    }
+}

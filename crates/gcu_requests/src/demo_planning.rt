@@ -1,0 +1,58 @@
+//! What a plan between the two configurations of a demonstration needs.
+ghost use Rattle.std.specs.Prelude.{◌≡◌, IfErr, IfOk};
+ghost use Rattle.host_core.specs.Counts.{NoneFell};
+ghost use Rattle.host_core.specs.Crashes.{Elapses, MayLeaveNow};
+ghost use Rattle.move_core.specs.Contexts.{IsNamed};
+ghost use Rattle.gcu_requests.specs.DemoAsked.{demo_planning_asked, generated_asked};
+ghost use Rattle.gcu_requests.specs.ReadPlannings.{IsReadyToSearch, planning_of};
+ghost use Rattle.gcu_requests.specs.Preparing.{Finds, Found, Refuses, RefusesAlways};
+
+use crate::judging::{End, judge};
+use crate::plan_goal::judge_goal;
+use crate::planning::Planning;
+use crate::rules::input_ctx;
+use conf_store::Stored;
+use gcu_demo::make;
+use gcu_output::Outcome;
+use host_core::{Host, Names};
+use move_core::Ctx;
+use plan_options::{DEFAULT_BUDGET, Demo};
+use std::alloc::Global;
+
+/// Reads what a demonstration needs, and generates its configurations.
+pub fn prepare_demo<H: Host>(alloc: Global, size: Demo, host: &mut H) -> Result<Planning, Outcome>
+    ensures answer { Finds (H.told host.old) planning_of result
+        (demo_planning_asked size.seed size.ports) }
+    ensures ready { IfOk result IsReadyToSearch }
+    ensures told { H.told host.new ≡ H.told host.old }
+    ensures counts { NoneFell (H.counts host.old) (H.counts host.new) }
+    ensures cause { IfErr result (Refuses (H.counts host.old) (H.counts host.new)) }
+    ensures time { Elapses H.moment H.left_since host.old host.new (MayLeaveNow (H.told host.old)) }
+    ensures goes { H.goes_on host.old host.new }
+{
+    let ctx = input_ctx(alloc, host)?;
+    generate(alloc, ctx, size)
+}
+
+/// Generates the configurations of a demonstration, and judges them.
+fn generate(alloc: Global, ctx: Ctx, size: Demo) -> Result<Planning, Outcome>
+    requires named { IsNamed ctx }
+    ensures answer { Found planning_of result (generated_asked size.seed size.ports ctx) }
+    ensures ready { IfOk result IsReadyToSearch }
+    ensures cause { IfErr result RefusesAlways }
+{
+    let (start, goal) = make(alloc, size.seed, size.ports)?;
+    let config = judge(alloc, End::Start, &ctx, start)?;
+    let goal = judge_goal(alloc, &ctx, &config, goal)?;
+    let stored = Stored {
+        config,
+        steps: Names::new(alloc),
+        folded: false,
+    };
+    Ok(Planning {
+        ctx,
+        stored,
+        goal,
+        budget: DEFAULT_BUDGET,
+    })
+}

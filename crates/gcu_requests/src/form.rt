@@ -1,0 +1,130 @@
+//! Which words are a command.
+ghost use Rattle.std.specs.Prelude.{◌≡◌, Some};
+ghost use Rattle.plan_options.specs.Views.{options_view, target_view};
+ghost use Rattle.gcu_requests.specs.Form.{form, form_of_demo, form_of_more, form_of_one, form_of_plan, form_of_two, planned};
+ghost use Rattle.gcu_requests.specs.FormView.{form_view};
+
+use host_core::Txt;
+use plan_options::{Demo, Options, Target, is_positional, read_demo, read_options, read_target};
+
+/// A command with its words.
+pub enum Form<'a> {
+    /// The words are no command.
+    Unknown,
+    /// Prints the stored configuration as the patch of this input would leave it.
+    Preview {
+        patch: &'a Txt,
+    },
+    /// Says whether the stored configuration is valid.
+    Check,
+    /// Prints the names of all checkpoints.
+    ListCheckpoints,
+    /// Saves the stored configuration as the checkpoint of this name.
+    SaveCheckpoint {
+        name: &'a Txt,
+    },
+    /// Deletes the checkpoint of this name.
+    DeleteCheckpoint {
+        name: &'a Txt,
+    },
+    /// Prints a plan for the target.
+    Plan {
+        target: Target<'a>,
+        options: Options,
+    },
+    /// Does a plan for the target.
+    Change {
+        target: Target<'a>,
+        options: Options,
+    },
+    /// Counts the steps of a plan between generated configurations.
+    Demo {
+        size: Demo,
+    },
+}
+
+/// The command that the words are.
+pub fn read_form(words: &[Txt]) -> Form<'_>
+    ensures { form_view result ≡ form words.now }
+{
+    match words {
+        [command] => form_of_one(command),
+        [command, word] => form_of_two(command, word),
+        [command, word, more @ ..] => form_of_more(command, word, more),
+        [] => Form::Unknown,
+    }
+}
+
+/// The command that a word is.
+fn form_of_one(command: &Txt) -> Form<'_>
+    ensures { form_view result ≡ form_of_one command.now }
+{
+    if command.as_str() == "check" {
+        return Form::Check;
+    }
+    if command.as_str() == "list-checkpoints" {
+        return Form::ListCheckpoints;
+    }
+    Form::Unknown
+}
+
+/// The command that two words are.
+fn form_of_two<'a>(command: &'a Txt, word: &'a Txt) -> Form<'a>
+    ensures { form_view result ≡ form_of_two command.now word.now }
+{
+    let name = command.as_str();
+    if name == "preview" && is_positional(word) {
+        return Form::Preview { patch: word };
+    }
+    if name == "checkpoint" && is_positional(word) {
+        return Form::SaveCheckpoint { name: word };
+    }
+    if name == "delete-checkpoint" && is_positional(word) {
+        return Form::DeleteCheckpoint { name: word };
+    }
+    form_of_plan(command, word, &[])
+}
+
+/// The command that a word, a second one and more are.
+fn form_of_more<'a>(command: &Txt, word: &'a Txt, words: &[Txt]) -> Form<'a>
+    ensures { form_view result ≡ form_of_more command.now word.now words.now }
+{
+    if command.as_str() == "demo" {
+        return form_of_demo(word, words);
+    }
+    form_of_plan(command, word, words)
+}
+
+/// The demonstration that a seed and a number of ports are.
+fn form_of_demo<'a>(seed: &Txt, words: &[Txt]) -> Form<'a>
+    ensures { form_view result ≡ form_of_demo seed.now words.now }
+{
+    match words {
+        [ports] => match read_demo(seed, ports) {
+            Some(size) => Form::Demo { size },
+            None => Form::Unknown,
+        },
+        _ => Form::Unknown,
+    }
+}
+
+/// The command that a word, a second one and options are.
+fn form_of_plan<'a>(command: &Txt, word: &'a Txt, words: &[Txt]) -> Form<'a>
+    ensures { form_view result ≡ form_of_plan command.now word.now words.now }
+{
+    match (read_target(command, word), read_options(words)) {
+        (Some(target), Some(options)) => planned(target, options),
+        _ => Form::Unknown,
+    }
+}
+
+/// A plan is only printed, or done.
+fn planned(target: Target<'_>, options: Options) -> Form<'_>
+    ensures { form_view result
+        ≡ Some (planned (target_view target.entry) (options_view options)) }
+{
+    if options.dry_run {
+        return Form::Plan { target, options };
+    }
+    Form::Change { target, options }
+}

@@ -1,0 +1,63 @@
+//! Whether the start and the goal of a plan are valid, and where they aren't.
+ghost use Rattle.std.specs.Prelude.{◌≡◌, IfErr, IfOk};
+ghost use Rattle.conf_check.specs.Validity.{IsFirstViolation};
+ghost use Rattle.move_core.specs.Contexts.{IsValidIn};
+ghost use Rattle.gcu_requests.specs.Asking.{follows_by};
+ghost use Rattle.gcu_requests.specs.Judging.{answer_of};
+ghost use Rattle.gcu_requests.specs.PlanAsked.{IsValidOr};
+ghost use Rattle.gcu_requests.specs.Preparing.{FailsIn, IsRightBy, RefusesAlways, refusal};
+
+use conf_check::{Rule, Violation, check};
+use conf_doc::Config;
+use gcu_output::Outcome;
+use host_core::Txt;
+use move_core::Ctx;
+use std::alloc::Global;
+use violation_places::{place_of, rule_numbered};
+
+/// Which configuration is judged.
+#[derive(Clone, Copy)]
+pub(crate) enum End {
+    /// The one that a plan begins with.
+    Start,
+    /// The one that it leads to.
+    Goal,
+}
+
+/// The configuration, where it is valid.
+pub(crate) fn judge(alloc: Global, end: End, ctx: &Ctx, config: Config) -> Result<Config, Outcome>
+    ensures answer { IsRightBy (λ c. c) result (IsValidOr (answer_of end) ctx.now config) }
+    ensures valid { IfOk result (IsValidIn ctx.now) }
+    ensures cause { IfErr result RefusesAlways }
+{
+    match check(&ctx.models, &config) {
+        Ok(()) => Ok(config),
+        Err(violation) => Err(invalid(alloc, end, ctx, &config, &violation)),
+    }
+}
+
+/// The refusal of a violation.
+fn invalid(alloc: Global, end: End, ctx: &Ctx, config: &Config, violation: &Violation) -> Outcome
+    requires { IsFirstViolation ctx.now.models config.now violation.now }
+    ensures answer { FailsIn (refusal result)
+        (follows_by (IsValidOr (answer_of end) ctx.now config.now)) }
+    ensures cause { RefusesAlways result }
+{
+    match (
+        place_of(alloc, &ctx.models, config, violation),
+        rule_numbered(violation.rule),
+    ) {
+        (Ok(place), Some(rule)) => answer(end, place, rule),
+        _ => Outcome::Memory,
+    }
+}
+
+/// The refusal with its place and its rule.
+fn answer(end: End, place: Txt, rule: Rule) -> Outcome
+    ensures { result ≡ answer_of end place rule }
+{
+    match end {
+        End::Start => Outcome::CurrentInvalid { place, rule },
+        End::Goal => Outcome::TargetInvalid { place, rule },
+    }
+}

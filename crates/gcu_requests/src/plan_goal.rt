@@ -1,0 +1,146 @@
+//! The goal of a plan: what the target makes of the start, where a plan may end with that. It is the same for
+//! all commands that plan but for where the target comes from, which has a file of its own for each of them.
+ghost use Rattle.std.specs.Prelude.{◌≡◌, ◌≤◌, true, IfErr, IfOk, OnOk};
+ghost use Rattle.host_core.specs.Answers.{Gives};
+ghost use Rattle.host_core.specs.Counts.{NoneFell};
+ghost use Rattle.host_core.specs.Crashes.{Elapses, MayLeaveNow};
+ghost use Rattle.host_core.specs.Names.{longest_scoped_name};
+ghost use Rattle.move_core.specs.Contexts.{AgreeElsewhere, IsValidIn};
+ghost use Rattle.checkpoints.specs.Names.{is_good_name as is_name};
+ghost use Rattle.plan_options.specs.Views.{target_view};
+ghost use Rattle.gcu_requests.specs.PlanAsked.{HasKeys, IsElsewhereAs, goal_asked, judged_asked, made_asked, target_answer};
+ghost use Rattle.gcu_requests.specs.ReadPlannings.{HasGoodName};
+ghost use Rattle.gcu_requests.specs.PointAsked.{name_answer};
+ghost use Rattle.gcu_requests.specs.Preparing.{Finds, Found, IsRightBy, Refuses, RefusesAlways, refusal};
+
+use crate::checkpoint_goal::checkpoint_goal;
+use crate::file_goal::file_goal;
+use crate::judging::{End, judge};
+use crate::patch_goal::patch_goal;
+use checkpoints::is_good_name;
+use conf_doc::Config;
+use gcu_output::Outcome;
+use host_core::{Host, Txt};
+use move_core::Ctx;
+use plan_options::{Source, Target};
+use goal_checks::{difference_elsewhere, empty_table};
+use std::alloc::Global;
+
+/// Refuses a name that no checkpoint has, where the target is a checkpoint.
+pub fn test_target(alloc: Global, target: Target<'_>) -> Result<(), Outcome>
+    ensures answer { Gives (λ _. target_view target.entry) refusal result
+        (target_answer (target_view target.entry)) }
+    ensures named { OnOk result (HasGoodName (target_view target.entry)) }
+    ensures cause { IfErr result RefusesAlways }
+{
+    match target.source {
+        Source::Patch | Source::File => Ok(()),
+        Source::Checkpoint => test_name(alloc, target.word),
+    }
+}
+
+/// Refuses a name that no checkpoint has.
+fn test_name(alloc: Global, name: &Txt) -> Result<(), Outcome>
+    ensures answer { Gives (λ _. name.now) refusal result (name_answer name.now) }
+    ensures named { OnOk result (is_name name.now ≡ true) }
+    ensures cause { IfErr result RefusesAlways }
+{
+    if is_good_name(name.as_str()) {
+        return Ok(());
+    }
+    let name = name.copy(alloc)?;
+    Err(Outcome::BadName { name })
+}
+
+/// The goal of a plan from a start. It is the same on all tables without a model, has no table without keys
+/// that has a model, and is valid.
+pub(crate) fn read_goal<H: Host>(
+    alloc: Global,
+    target: Target<'_>,
+    ctx: &Ctx,
+    start: &Config,
+    host: &mut H,
+) -> Result<Config, Outcome>
+    requires longest { longest_scoped_name ≤ H.longest_name }
+    requires named { HasGoodName (target_view target) }
+    ensures answer { Finds (H.told host.old) (λ c. c) result
+        (goal_asked (target_view target.entry) ctx.now start.now) }
+    ensures valid { IfOk result (IsValidIn ctx.now) }
+    ensures elsewhere { IfOk result (AgreeElsewhere ctx.now start.now) }
+    ensures told { H.told host.new ≡ H.told host.old }
+    ensures counts { NoneFell (H.counts host.old) (H.counts host.new) }
+    ensures cause { IfErr result (Refuses (H.counts host.old) (H.counts host.new)) }
+    ensures time { Elapses H.moment H.left_since host.old host.new (MayLeaveNow (H.told host.old)) }
+    ensures goes { H.goes_on host.old host.new }
+{
+    let goal = make_goal(alloc, target, start, host)?;
+    judge_goal(alloc, ctx, start, goal)
+}
+
+/// The configuration, where a plan from a start may have it for its goal.
+pub(crate) fn judge_goal(
+    alloc: Global,
+    ctx: &Ctx,
+    start: &Config,
+    goal: Config,
+) -> Result<Config, Outcome>
+    ensures answer { Found (λ c. c) result (judged_asked ctx.now start.now goal) }
+    ensures valid { IfOk result (IsValidIn ctx.now) }
+    ensures elsewhere { IfOk result (AgreeElsewhere ctx.now start.now) }
+    ensures cause { IfErr result RefusesAlways }
+{
+    test_elsewhere(alloc, ctx, start, &goal)?;
+    test_keys(alloc, ctx, &goal)?;
+    judge(alloc, End::Goal, ctx, goal)
+}
+
+/// What the target makes of the start.
+fn make_goal<H: Host>(
+    alloc: Global,
+    target: Target<'_>,
+    start: &Config,
+    host: &mut H,
+) -> Result<Config, Outcome>
+    requires longest { longest_scoped_name ≤ H.longest_name }
+    requires named { HasGoodName (target_view target) }
+    ensures answer { Finds (H.told host.old) (λ c. c) result
+        (made_asked (target_view target.entry) start.now) }
+    ensures told { H.told host.new ≡ H.told host.old }
+    ensures counts { NoneFell (H.counts host.old) (H.counts host.new) }
+    ensures cause { IfErr result (Refuses (H.counts host.old) (H.counts host.new)) }
+    ensures time { Elapses H.moment H.left_since host.old host.new (MayLeaveNow (H.told host.old)) }
+    ensures goes { H.goes_on host.old host.new }
+{
+    match target.source {
+        Source::Patch => patch_goal(alloc, target.word, start, host),
+        Source::File => file_goal(alloc, target.word, host),
+        Source::Checkpoint => checkpoint_goal(alloc, target.word, host),
+    }
+}
+
+/// Refuses the first table without a model that differs.
+fn test_elsewhere(alloc: Global, ctx: &Ctx, start: &Config, goal: &Config) -> Result<(), Outcome>
+    ensures answer { IsRightBy (λ u. u) result (IsElsewhereAs ctx.now start.now goal.now) }
+    ensures agree { OnOk result (AgreeElsewhere ctx.now start.now goal.now) }
+    ensures cause { IfErr result RefusesAlways }
+{
+    match difference_elsewhere(ctx, start, goal) {
+        None => Ok(()),
+        Some(table) => Err(Outcome::NoModel {
+            table: Txt::new(alloc, table)?,
+        }),
+    }
+}
+
+/// Refuses the first table with a model that has no keys.
+fn test_keys(alloc: Global, ctx: &Ctx, goal: &Config) -> Result<(), Outcome>
+    ensures answer { IsRightBy (λ u. u) result (HasKeys ctx.now goal.now) }
+    ensures cause { IfErr result RefusesAlways }
+{
+    match empty_table(ctx, goal) {
+        None => Ok(()),
+        Some(table) => Err(Outcome::EmptyTable {
+            table: Txt::new(alloc, table)?,
+        }),
+    }
+}

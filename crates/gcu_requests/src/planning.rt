@@ -1,0 +1,110 @@
+//! What a command that plans needs.
+ghost use Rattle.std.specs.Prelude.{◌≡◌, ◌≤◌, ◌<◌, IfErr, IfOk, IfSome};
+ghost use Rattle.std.specs.List.{AllPass};
+ghost use Rattle.host_core.specs.Counts.{DiskMayRise, NoneFell};
+ghost use Rattle.host_core.specs.Crashes.{Elapses, MayLeaveNow};
+ghost use Rattle.host_core.specs.Names.{longest_scoped_name};
+ghost use Rattle.conf_doc.specs.WellFormed.{IsConfig};
+ghost use Rattle.conf_store.specs.Files.{is_step_name};
+ghost use Rattle.conf_store.specs.Folds.{StandsFor};
+ghost use Rattle.move_core.specs.Contexts.{IsValidIn};
+ghost use Rattle.plan_options.specs.Views.{target_view};
+ghost use Rattle.gcu_output.specs.declared.outcomes.Outcome.TheVariants.{CurrentInvalid as current_invalid};
+ghost use Rattle.gcu_requests.specs.PlanAsked.{IsValidOr, planning_asked, start_asked};
+ghost use Rattle.gcu_requests.specs.ReadPlannings.{HasGoodName, IsReadyToSearch, planning_of};
+ghost use Rattle.gcu_requests.specs.Preparing.{Finds, IsRightBy, Refuses, RefusesAlways};
+
+use crate::judging::{End, judge};
+use crate::plan_goal::read_goal;
+use crate::rules::input_ctx;
+use crate::stored::read_folder;
+use conf_doc::Config;
+use conf_store::Stored;
+use gcu_output::Outcome;
+use host_core::Host;
+use move_core::Ctx;
+use plan_options::Target;
+use std::alloc::Global;
+
+/// What a plan is searched for: by what its moves are judged, from where, to where, and how many
+/// configurations may be met.
+#[derive(Drop)]
+pub struct Planning {
+    pub ctx: Ctx,
+    pub stored: Stored,
+    pub goal: Config,
+    pub budget: u32,
+}
+
+/// Reads what a plan needs.
+pub fn prepare<H: Host>(
+    alloc: Global,
+    target: Target<'_>,
+    budget: u32,
+    host: &mut H,
+) -> Result<Planning, Outcome>
+    requires longest { longest_scoped_name ≤ H.longest_name }
+    requires named { HasGoodName (target_view target) }
+    requires budget { 0 < budget }
+    ensures answer { Finds (H.told host.old) planning_of result
+        (planning_asked (target_view target.entry) budget) }
+    ensures ready { IfOk result IsReadyToSearch }
+    ensures budget { IfOk result (λ p. p.budget ≡ budget) }
+    ensures stands { IfOk result
+        (λ p. IfSome (H.told host.old) (λ s. StandsFor p.stored s.files)) }
+    ensures told { H.told host.new ≡ H.told host.old }
+    ensures counts { NoneFell (H.counts host.old) (H.counts host.new) }
+    ensures cause { IfErr result (Refuses (H.counts host.old) (H.counts host.new)) }
+    ensures time { Elapses H.moment H.left_since host.old host.new (MayLeaveNow (H.told host.old)) }
+    ensures goes { H.goes_on host.old host.new }
+{
+    let ctx = input_ctx(alloc, host)?;
+    let stored = read_start(alloc, &ctx, host)?;
+    let goal = read_goal(alloc, target, &ctx, &stored.config, host)?;
+    Ok(Planning {
+        ctx,
+        stored,
+        goal,
+        budget,
+    })
+}
+
+/// What the folder stands for, where that is valid.
+fn read_start<H: Host>(alloc: Global, ctx: &Ctx, host: &mut H) -> Result<Stored, Outcome>
+    requires { longest_scoped_name ≤ H.longest_name }
+    ensures answer { Finds (H.told host.old) (λ what. what.config) result (start_asked ctx.now) }
+    ensures stands { IfOk result
+        (λ what. IfSome (H.told host.old) (λ s. StandsFor what s.files)) }
+    ensures names { IfOk result (λ what. AllPass is_step_name what.steps) }
+    ensures formed { IfOk result (λ what. IsConfig what.config) }
+    ensures valid { IfOk result (λ what. IsValidIn ctx.now what.config) }
+    ensures told { H.told host.new ≡ H.told host.old }
+    ensures counts { DiskMayRise (H.counts host.old) (H.counts host.new) }
+    ensures cause { IfErr result (Refuses (H.counts host.old) (H.counts host.new)) }
+    ensures time { Elapses H.moment H.left_since host.old host.new (MayLeaveNow (H.told host.old)) }
+    ensures goes { H.goes_on host.old host.new }
+{
+    let what = read_folder(alloc, host)?;
+    judge_start(alloc, ctx, what)
+}
+
+/// What was loaded, where it is valid.
+fn judge_start(alloc: Global, ctx: &Ctx, what: Stored) -> Result<Stored, Outcome>
+    ensures answer { IsRightBy (λ what. what.config) result
+        (IsValidOr current_invalid ctx.now what.config) }
+    ensures same { IfOk result (λ found. found ≡ what) }
+    ensures valid { IfOk result (λ found. IsValidIn ctx.now found.config) }
+    ensures cause { IfErr result RefusesAlways }
+{
+    let Stored {
+        config,
+        steps,
+        folded,
+    } = what;
+    let config = judge(alloc, End::Start, ctx, config)?;
+    Ok(Stored {
+        config,
+        steps,
+        folded,
+    })
+}

@@ -1,0 +1,5 @@
+use Rattle.move_lists.proofs.Known.{listed_finite}
+use Rattle.move_lists.proofs.laws.moves_are_finite.Goals as goal
+
+pub returns : goal.returns
+returns c = listed_finite

@@ -1,5 +1,0 @@
-use Rattle.plan_lists.proofs.Existing.{surely_listed}
-use Rattle.plan_lists.proofs.laws.lists_exist.Goals as goal
-
-pub returns : goal.returns
-returns c = surely_listed

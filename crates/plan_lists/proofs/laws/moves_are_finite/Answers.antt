@@ -1,5 +1,0 @@
-use Rattle.plan_lists.proofs.Known.{listed_finite}
-use Rattle.plan_lists.proofs.laws.moves_are_finite.Goals as goal
-
-pub returns : goal.returns
-returns c = listed_finite

@@ -1,5 +1,0 @@
-use Rattle.plan_lists.proofs.Joined.{parts_joined}
-use Rattle.plan_lists.proofs.laws.parts_make_the_list.Goals as goal
-
-pub returns : goal.returns
-returns c ctx start cur goal_now = parts_joined ctx start cur goal_now

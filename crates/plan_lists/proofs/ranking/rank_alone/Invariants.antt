@@ -1,7 +1,0 @@
-use Rattle.std.proofs.Common.{◌≡◌, take}
-use Rattle.plan_lists.specs.Ranking.{ranked_alone}
-use Rattle.plan_lists.proofs.ranking.rank_alone.Given as goal
-
--- those that were looked at
-abbrev pub invariant-loop-first : goal.invariant-loop-first
-invariant-loop-first l = l.ranked.items ≡ ranked_alone l.restoring (take l.first-index l.firsts)

@@ -1,5 +1,0 @@
-use Rattle.plan_lists.proofs.Noted.{entries_once}
-use Rattle.plan_lists.proofs.reaches.Reach.len.Goals as goal
-
-pub returns-clause-once : goal.returns-clause-once
-returns-clause-once c = entries_once c.self.inside.depths c.args.self.now c.self.view_is c.len.ensures.unique

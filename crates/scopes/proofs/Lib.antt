@@ -1,0 +1,11 @@
+pub mod Apart
+pub mod Changes
+pub mod Keeping
+pub mod ListedNames
+pub mod Outside
+pub mod Parting
+pub mod PlainNames
+pub mod ScopeNames
+pub mod Scoping
+pub mod Time
+pub mod Whole

@@ -1,0 +1,5 @@
+use Rattle.scopes.proofs.Whole.{whole_folder}
+use Rattle.scopes.proofs.laws.localhost_shows_the_folder.Goals as goal
+
+pub returns : goal.returns
+returns c = λ s. whole_folder s
