@@ -5,5 +5,6 @@ pub mod Inputs
 pub mod Calls
 pub mod Errors
 pub mod Listings
+pub mod Openings
 pub mod Requests
 pub mod Turns

@@ -13,10 +13,11 @@ ghost use Rattle.real_host.specs.Requests.{restart_request};
 ghost use Rattle.real_host.specs.Turns.{IsInterrupted, AnswersInTurns};
 
 use crate::listing::{listed_names, sorted_names};
+use crate::opening::{made_anew, open_file, open_left};
 use crate::reading::{host_error, is_kind, read_input, read_whole};
 use host_core::{Failed, HostError, Input, Names, Txt};
 use std::alloc::Global;
-use std::fs::{File, OpenFile, OpenOptions, ReadDir};
+use std::fs::{File, OpenFile, OpenOptions, Permissions, ReadDir};
 use std::io::{ErrorKind, Write};
 use std::rt::Files;
 use std::{fs, io};
@@ -33,7 +34,7 @@ const FOLDER: &str = ".";
 /// How often a call is made at most that a signal interrupts.
 const MOST_CALLS: u64 = u64::MAX;
 
-/// What the input at a path holds.
+/// What the input at a path holds. From the working folder on, what is no file is a fault.
 pub(crate) fn input_bytes<R: Files>(
     rt: &R,
     alloc: Global,
@@ -42,13 +43,13 @@ pub(crate) fn input_bytes<R: Files>(
 ) -> Result<Input, HostError>
     ensures { IfOk result (IsWithin limit) }
 {
-    match open_there(rt, path)? {
+    match open_input(rt, path)? {
         None => Ok(Input::Absent),
         Some(mut file) => read_input(alloc, &mut file, limit),
     }
 }
 
-/// The bytes of the file of a name, where there is one.
+/// The bytes of the file of a name, where there is one. What is no file is a fault.
 pub(crate) fn file_bytes<R: Files>(
     rt: &R,
     alloc: Global,
@@ -59,7 +60,7 @@ pub(crate) fn file_bytes<R: Files>(
     if !is_plain(name) {
         return Err(HostError::Failed);
     }
-    match open_there(rt, name)? {
+    match there(open_to_read(rt, name))? {
         None => Ok(None),
         Some(mut file) => Ok(Some(read_whole(alloc, &mut file)?)),
     }
@@ -78,14 +79,17 @@ pub(crate) fn file_names<R: Files + AllocGlobal + Clone + Drop>(
     }
 }
 
-/// Writes a file whole.
+/// Writes a file whole. It is made anew: what stood at its name is removed, and no link is followed.
 pub(crate) fn write_file<R: Files>(rt: &R, name: &str, bytes: &[u8]) -> Result<(), Failed>
     ensures { ¬ IsPlainName name.now → IsErr result }
 {
     if !is_plain(name) {
         return Err(Failed);
     }
-    done(fs::write(rt, name, bytes))
+    match made_anew(|| new_file(rt, name), || again(|| rt.remove_file(name))) {
+        Ok(mut file) => done(file.write_all(bytes)),
+        Err(_) => Err(Failed),
+    }
 }
 
 /// Syncs the bytes of a file.
@@ -95,13 +99,13 @@ pub(crate) fn sync_file<R: Files>(rt: &R, name: &str) -> Result<(), Failed>
     if !is_plain(name) {
         return Err(Failed);
     }
-    match OpenOptions::new().write(true).open(rt, name) {
+    match open_to_read(rt, name) {
         Ok(file) => done(file.sync_all()),
         Err(_) => Err(Failed),
     }
 }
 
-/// Gives a file another name.
+/// Gives a file another name, and the mode of the file that stood there, where the system lets it.
 pub(crate) fn rename_file<R: Files>(rt: &R, from: &str, to: &str) -> Result<(), Failed>
     ensures from { ¬ IsPlainName from.now → IsErr result }
     ensures to { ¬ IsPlainName to.now → IsErr result }
@@ -109,6 +113,7 @@ pub(crate) fn rename_file<R: Files>(rt: &R, from: &str, to: &str) -> Result<(), 
     if !is_plain(from) || !is_plain(to) {
         return Err(Failed);
     }
+    keep_mode(rt, from, to)?;
     done(again(|| rt.rename(from, to)))
 }
 
@@ -122,7 +127,7 @@ pub(crate) fn remove_file<R: Files>(rt: &R, name: &str) -> Result<(), Failed>
     done(again(|| rt.remove_file(name)))
 }
 
-/// Syncs each file that may have been written and not synced, and then the folder.
+/// Syncs each file that an earlier command may have left unsynced, and then the folder.
 pub(crate) fn settle_files<R: Files + AllocGlobal + Clone + Drop>(rt: &R) -> Result<(), Failed> {
     let Ok(entries) = open_folder(rt) else {
         return Err(Failed);
@@ -130,7 +135,7 @@ pub(crate) fn settle_files<R: Files + AllocGlobal + Clone + Drop>(rt: &R) -> Res
     let Ok(names) = listed_names(rt.alloc(), entries) else {
         return Err(Failed);
     };
-    each_scratch(&names, |name| sync_file(rt, name))?;
+    each_scratch(&names, |name| sync_left(rt, name))?;
     match File::open(rt, FOLDER) {
         Ok(folder) => done(folder.sync_all()),
         Err(_) => Err(Failed),
@@ -159,11 +164,7 @@ pub(crate) fn log_restart<R: Files + AllocGlobal>(rt: &R, service: &str) -> Resu
     let Ok(line) = restart_line(rt.alloc(), service) else {
         return Err(Failed);
     };
-    match OpenOptions::new()
-        .append(true)
-        .create(true)
-        .open(rt, RESTARTS_LOG)
-    {
+    match open_log(rt) {
         Ok(mut log) => done(log.write_all(line.as_bytes())),
         Err(_) => Err(Failed),
     }
@@ -180,12 +181,76 @@ fn restart_line(alloc: Global, service: &str) -> Result<String, HostError>
     Ok(line)
 }
 
-/// The file at a path, or None where there is none: where the path names nothing, or leads through
-/// something that is no folder.
-fn open_there<R: Files>(rt: &R, path: &str) -> Result<Option<R::File>, HostError>
+/// The input at a path, or None where there is none. One from the root on is opened as it is given, so
+/// that standard input and the pipe of a shell are read too.
+fn open_input<R: Files>(rt: &R, path: &str) -> Result<Option<R::File>, HostError>
     ensures { IfErr result (λ e. e ≡ call_failed) }
 {
-    there(File::open(rt, path))
+    if path.starts_with('/') {
+        return there(File::open(rt, path));
+    }
+    there(open_to_read(rt, path))
+}
+
+/// The file at a path. What is no file is not opened.
+fn open_to_read<R: Files>(rt: &R, path: &str) -> io::Result<R::File> {
+    open_file(&again(|| rt.metadata(path)), || File::open(rt, path))
+}
+
+/// The log of restarts, made where it is not there. What is no file is not opened.
+fn open_log<R: Files>(rt: &R) -> io::Result<R::File> {
+    let about = again(|| rt.metadata(RESTARTS_LOG));
+    open_file(&about, || {
+        OpenOptions::new()
+            .append(true)
+            .create(true)
+            .open(rt, RESTARTS_LOG)
+    })
+}
+
+/// A new file of a name at which nothing stands.
+fn new_file<R: Files>(rt: &R, name: &str) -> io::Result<R::File> {
+    OpenOptions::new()
+        .write(true)
+        .create_new(true)
+        .open(rt, name)
+}
+
+/// Syncs a file that an earlier command may have left unsynced, where it is one.
+fn sync_left<R: Files>(rt: &R, name: &str) -> Result<(), Failed> {
+    let about = again(|| rt.symlink_metadata(name));
+    match open_left(&about, || File::open(rt, name))? {
+        Some(file) => done(file.sync_all()),
+        None => Ok(()),
+    }
+}
+
+/// Gives a file the mode of the one whose name it is to take, where that is one of another mode and the
+/// system lets it. It is synced with that mode.
+fn keep_mode<R: Files>(rt: &R, from: &str, to: &str) -> Result<(), Failed> {
+    match (file_mode(rt, to), file_mode(rt, from)) {
+        (Some(mode), Some(own)) if mode != own => set_mode(rt, from, mode),
+        _ => Ok(()),
+    }
+}
+
+/// The mode of the file of a name, where there is one.
+fn file_mode<R: Files>(rt: &R, name: &str) -> Option<Permissions> {
+    match again(|| rt.symlink_metadata(name)) {
+        Ok(about) if about.is_file() => Some(about.permissions()),
+        _ => None,
+    }
+}
+
+/// Gives a file a mode, where the system lets it, and syncs it then.
+fn set_mode<R: Files>(rt: &R, name: &str, mode: Permissions) -> Result<(), Failed> {
+    let Ok(file) = File::open(rt, name) else {
+        return Ok(());
+    };
+    match file.set_permissions(mode) {
+        Ok(()) => done(file.sync_all()),
+        Err(_) => Ok(()),
+    }
 }
 
 /// What was opened, or None where there is none.
@@ -269,7 +334,7 @@ fn is_scratch(name: &str) -> bool
 }
 
 /// Whether an error says that there is no file at the path.
-fn is_missing(error: &io::Error) -> bool
+pub(crate) fn is_missing(error: &io::Error) -> bool
     ensures { IsTrue result ↔ IsMissing (error_kind error.now) }
 {
     is_kind(error, ErrorKind::NotFound) || is_kind(error, ErrorKind::NotADirectory)

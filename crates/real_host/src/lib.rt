@@ -5,6 +5,7 @@ mod as_host;
 mod command_line;
 mod folder;
 mod listing;
+mod opening;
 mod reading;
 #[cfg(test)]
 mod tests;
