@@ -8,3 +8,4 @@ pub mod Listings
 pub mod Openings
 pub mod Requests
 pub mod Turns
+pub mod Unsynced

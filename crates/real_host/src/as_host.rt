@@ -1,16 +1,19 @@
 //! The host that the program works on: the working folder, standard output and `restarts.log`.
-ghost use Rattle.std.specs.Prelude.{◌≡◌, ◌≤◌, length, None, IfOk, IsErr, OnOk, OnErr, IsErrOf, IsSorted};
+ghost use Rattle.std.specs.Prelude.{◌≡◌, ◌≢◌, ◌≤◌, length, None, IfOk, IsErr, OnOk, OnErr, IsErrOf, IsSorted};
 ghost use Rattle.host_core.specs.Counts.{Rose, Counts, InputMayRise, DiskMayRise, PrintMayRise, ServiceMayRise};
 ghost use Rattle.host_core.specs.Faults.{no_faults, input_fault, disk_fault, print_fault, service_fault};
 ghost use Rattle.host_core.specs.Names.{longest_file_name, name_cmp};
 ghost use Rattle.host_core.specs.declared.errors.HostError.TheVariants.{Failed as call_failed};
 ghost use Rattle.real_host.specs.Inputs.{IsWithin};
 ghost use Rattle.real_host.specs.Names.{IsPlainName};
+ghost use Rattle.real_host.specs.Unsynced.{IsOnly};
 
 use crate::folder::{
-    file_bytes, file_names, input_bytes, log_restart, remove_file, rename_file, settle_files,
-    sync_file, write_file,
+    file_bytes, file_names, input_bytes, log_restart, remove_file, rename_file, sync_file,
+    write_file,
 };
+use crate::settling::settle_files;
+use crate::unsynced::Unsynced;
 use host_core::{Failed, FaultCounts, Host, HostError, Input, Names};
 use std::alloc::Global;
 use std::rt::Files;
@@ -22,6 +25,7 @@ use std::rt::Files;
 pub struct RealHost<R> {
     rt: R,
     counts: FaultCounts,
+    unsynced: Unsynced,
 }
 
 impl<R: Files + Print + AllocGlobal + Clone + Drop> RealHost<R> {
@@ -29,10 +33,12 @@ impl<R: Files + Print + AllocGlobal + Clone + Drop> RealHost<R> {
     pub fn new(rt: R) -> Self
         ensures counts { result.counts ≡ no_faults }
         ensures runtime { result.rt ≡ rt }
+        ensures unsynced { result.unsynced ≡ Unsynced.Unlisted }
     {
         RealHost {
             rt,
             counts: FaultCounts::new(),
+            unsynced: Unsynced::Unlisted,
         }
     }
 
@@ -43,6 +49,7 @@ impl<R: Files + Print + AllocGlobal + Clone + Drop> RealHost<R> {
         ensures err { OnErr result (self.new.counts ≡ disk_fault self.old.counts) }
         ensures counts { DiskMayRise self.old.counts self.new.counts }
         ensures cause { OnErr result (Rose self.old.counts.disk self.new.counts.disk) }
+        ensures unsynced { self.new.unsynced ≡ self.old.unsynced }
     {
         if done.is_err() {
             self.counts.add_disk();
@@ -135,7 +142,12 @@ impl<R: Files + Print + AllocGlobal + Clone + Drop> Host for RealHost<R> {
         ensures not_failed { OnOk result (self.new.counts ≡ self.old.counts) }
         ensures failed { OnErr result (self.new.counts ≡ disk_fault self.old.counts) }
         ensures refused { ¬ IsPlainName name.now → IsErr result }
+        ensures unsynced { self.old.unsynced ≡ Unsynced.Nothing
+            → IsOnly name.now self.new.unsynced }
+        ensures unsynced_too { self.old.unsynced ≢ Unsynced.Nothing
+            → self.new.unsynced ≡ Unsynced.Unlisted }
     {
+        self.unsynced.add(name);
         let done = write_file(&self.rt, name, bytes);
         self.count_disk(done)
     }
@@ -148,8 +160,16 @@ impl<R: Files + Print + AllocGlobal + Clone + Drop> Host for RealHost<R> {
         ensures not_failed { OnOk result (self.new.counts ≡ self.old.counts) }
         ensures failed { OnErr result (self.new.counts ≡ disk_fault self.old.counts) }
         ensures refused { ¬ IsPlainName name.now → IsErr result }
+        ensures synced { OnOk result (IsOnly name.now self.old.unsynced
+            → self.new.unsynced ≡ Unsynced.Nothing) }
+        ensures others { ¬ IsOnly name.now self.old.unsynced
+            → self.new.unsynced ≡ self.old.unsynced }
+        ensures unsynced { OnErr result (self.new.unsynced ≡ self.old.unsynced) }
     {
         let done = sync_file(&self.rt, name);
+        if done.is_ok() {
+            self.unsynced.remove(name);
+        }
         self.count_disk(done)
     }
 
@@ -187,8 +207,13 @@ impl<R: Files + Print + AllocGlobal + Clone + Drop> Host for RealHost<R> {
         ensures cause { OnErr result (Rose self.old.counts.disk self.new.counts.disk) }
         ensures not_failed { OnOk result (self.new.counts ≡ self.old.counts) }
         ensures failed { OnErr result (self.new.counts ≡ disk_fault self.old.counts) }
+        ensures synced { OnOk result (self.new.unsynced ≡ Unsynced.Nothing) }
+        ensures unsynced { OnErr result (self.new.unsynced ≡ self.old.unsynced) }
     {
-        let done = settle_files(&self.rt);
+        let done = settle_files(&self.rt, &self.unsynced);
+        if done.is_ok() {
+            self.unsynced = Unsynced::Nothing;
+        }
         self.count_disk(done)
     }
 

@@ -1,21 +1,20 @@
 //! The files of the working folder. A call that a signal interrupts is tried again: here where std does
 //! not do so itself, which opens, writes and syncs again, and `reading.rt`, which reads again.
 
-ghost use Rattle.std.specs.Prelude.{◌≡◌, ◌↔◌, IsTrue, IsErr, IfOk, IfErr, OnOk, OnErr, Ok, Err, Some, None, is_ok, string_bytes, filter, IsSorted};
+ghost use Rattle.std.specs.Prelude.{◌≡◌, ◌↔◌, IsTrue, IsErr, IfOk, IfErr, Ok, Err, Some, None, is_ok, string_bytes, IsSorted};
 ghost use Rattle.std.specs.IoError.{error_kind};
 ghost use Rattle.host_core.specs.Names.{name_cmp};
 ghost use Rattle.host_core.specs.declared.errors.HostError.TheVariants.{Failed as call_failed, Memory as no_memory};
-ghost use Rattle.real_host.specs.Calls.{AreDone, AnyFails};
 ghost use Rattle.real_host.specs.Errors.{IsMissing};
 ghost use Rattle.real_host.specs.Inputs.{IsWithin};
-ghost use Rattle.real_host.specs.Names.{AreDots, IsPlainName, is_scratch_name};
+ghost use Rattle.real_host.specs.Names.{AreDots, IsPlainName};
 ghost use Rattle.real_host.specs.Requests.{restart_request};
 ghost use Rattle.real_host.specs.Turns.{IsInterrupted, AnswersInTurns};
 
-use crate::listing::{listed_names, sorted_names};
-use crate::opening::{made_anew, open_file, open_left};
+use crate::listing::sorted_names;
+use crate::opening::{made_anew, open_file};
 use crate::reading::{host_error, is_kind, read_input, read_whole};
-use host_core::{Failed, HostError, Input, Names, Txt};
+use host_core::{Failed, HostError, Input, Names};
 use std::alloc::Global;
 use std::fs::{File, OpenFile, OpenOptions, Permissions, ReadDir};
 use std::io::{ErrorKind, Write};
@@ -25,11 +24,8 @@ use std::{fs, io};
 /// Where the requests of restarts are appended.
 const RESTARTS_LOG: &str = "restarts.log";
 
-/// How the name of a file ends that may have been written and not synced.
-const SCRATCH_END: &str = "tmp.new";
-
 /// The folder itself.
-const FOLDER: &str = ".";
+pub(crate) const FOLDER: &str = ".";
 
 /// How often a call is made at most that a signal interrupts.
 const MOST_CALLS: u64 = u64::MAX;
@@ -127,38 +123,6 @@ pub(crate) fn remove_file<R: Files>(rt: &R, name: &str) -> Result<(), Failed>
     done(again(|| rt.remove_file(name)))
 }
 
-/// Syncs each file that an earlier command may have left unsynced, and then the folder.
-pub(crate) fn settle_files<R: Files + AllocGlobal + Clone + Drop>(rt: &R) -> Result<(), Failed> {
-    let Ok(entries) = open_folder(rt) else {
-        return Err(Failed);
-    };
-    let Ok(names) = listed_names(rt.alloc(), entries) else {
-        return Err(Failed);
-    };
-    each_scratch(&names, |name| sync_left(rt, name))?;
-    match File::open(rt, FOLDER) {
-        Ok(folder) => done(folder.sync_all()),
-        Err(_) => Err(Failed),
-    }
-}
-
-/// Makes a call for each file of the names that may have been written and not synced, until one fails.
-fn each_scratch<F: FnMut(&str) -> Result<(), Failed>>(
-    names: &[Txt],
-    mut call: F,
-) -> Result<(), Failed>
-    requires { F.IsAlwaysCallable call }
-    ensures done { OnOk result (AreDone F.FnMut call (filter is_scratch_name names.now)) }
-    ensures failed { OnErr result (AnyFails F.FnMut call (filter is_scratch_name names.now)) }
-{
-    for name in names {
-        if is_scratch(name.as_str()) {
-            call(name.as_str())?;
-        }
-    }
-    Ok(())
-}
-
 /// Appends the request of a restart to the log.
 pub(crate) fn log_restart<R: Files + AllocGlobal>(rt: &R, service: &str) -> Result<(), Failed> {
     let Ok(line) = restart_line(rt.alloc(), service) else {
@@ -216,15 +180,6 @@ fn new_file<R: Files>(rt: &R, name: &str) -> io::Result<R::File> {
         .open(rt, name)
 }
 
-/// Syncs a file that an earlier command may have left unsynced, where it is one.
-fn sync_left<R: Files>(rt: &R, name: &str) -> Result<(), Failed> {
-    let about = again(|| rt.symlink_metadata(name));
-    match open_left(&about, || File::open(rt, name))? {
-        Some(file) => done(file.sync_all()),
-        None => Ok(()),
-    }
-}
-
 /// Gives a file the mode of the one whose name it is to take, where that is one of another mode and the
 /// system lets it. It is synced with that mode.
 fn keep_mode<R: Files>(rt: &R, from: &str, to: &str) -> Result<(), Failed> {
@@ -268,7 +223,7 @@ fn there<T>(opened: io::Result<T>) -> Result<Option<T>, HostError>
 }
 
 /// The listing of the folder.
-fn open_folder<R: Files + AllocGlobal + Clone + Drop>(rt: &R) -> io::Result<ReadDir<R>> {
+pub(crate) fn open_folder<R: Files + AllocGlobal + Clone + Drop>(rt: &R) -> io::Result<ReadDir<R>> {
     for _turn in 1..MOST_CALLS {
         let listing = fs::read_dir(rt, FOLDER);
         if !is_interrupted(&listing) {
@@ -279,7 +234,7 @@ fn open_folder<R: Files + AllocGlobal + Clone + Drop>(rt: &R) -> io::Result<Read
 }
 
 /// The answer of a call, made again as long as a signal interrupts it.
-fn again<T: Drop, F: FnMut() -> io::Result<T>>(mut call: F) -> io::Result<T>
+pub(crate) fn again<T: Drop, F: FnMut() -> io::Result<T>>(mut call: F) -> io::Result<T>
     requires { F.IsAlwaysCallable call }
     ensures { AnswersInTurns F.step MOST_CALLS call result }
 {
@@ -303,7 +258,7 @@ fn is_interrupted<T>(answer: &io::Result<T>) -> bool
 }
 
 /// Whether a call was done.
-fn done(answer: io::Result<()>) -> Result<(), Failed>
+pub(crate) fn done(answer: io::Result<()>) -> Result<(), Failed>
     ensures { is_ok result ≡ is_ok answer }
 {
     match answer {
@@ -324,13 +279,6 @@ fn are_dots(name: &str) -> bool
     ensures { IsTrue result ↔ AreDots name.now }
 {
     name == "." || name == ".."
-}
-
-/// Whether the file of a name may have been written and not synced.
-fn is_scratch(name: &str) -> bool
-    ensures { result ≡ is_scratch_name name.now }
-{
-    name.as_bytes().ends_with(SCRATCH_END.as_bytes())
 }
 
 /// Whether an error says that there is no file at the path.

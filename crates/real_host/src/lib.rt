@@ -7,6 +7,8 @@ mod folder;
 mod listing;
 mod opening;
 mod reading;
+mod settling;
+mod unsynced;
 #[cfg(test)]
 mod tests;
 
