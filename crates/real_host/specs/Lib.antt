@@ -1,6 +1,7 @@
 -- what public clauses cite
 pub mod Names
 pub mod Inputs
+pub mod Unsynced
 -- what only private clauses cite
 pub mod Calls
 pub mod Errors
@@ -8,4 +9,3 @@ pub mod Listings
 pub mod Openings
 pub mod Requests
 pub mod Turns
-pub mod Unsynced

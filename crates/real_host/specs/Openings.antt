@@ -18,7 +18,8 @@ abbrev pub IsForeign : ErrorKind → Type 0
 IsForeign kind = IsMissing kind ⊎ (kind ≡ PermissionDenied)
 
 -- what is opened of a file that an earlier command may have left, where it is one
-pub record IsLeftFile {T : Type 0} (opened : Result T Error) (left : Result (Option T) Failed) : Type 0 where
+pub record IsLeftFile
+    {T : Type 0} (opened : Result T Error) (left : Result (Option T) Failed) : Type 0 where
   pub found : IfOk opened (λ file. left ≡ Ok (Some file))
   pub foreign : IfErr opened (λ e. IsForeign (error_kind e) → left ≡ Ok None)
   pub failed : IfErr opened (λ e. ¬ IsForeign (error_kind e) → left ≡ Err (record {}))

@@ -8,9 +8,9 @@ mod listing;
 mod opening;
 mod reading;
 mod settling;
-mod unsynced;
 #[cfg(test)]
 mod tests;
+mod unsynced;
 
 pub use as_host::RealHost;
 pub use command_line::words;

@@ -29,11 +29,10 @@ pub(crate) fn settle_files<R: Files + AllocGlobal + Clone + Drop>(
 
 /// Makes a call for each file that may have been written and not synced, until one fails. The folder is
 /// listed only where these are not known.
-fn each_unsynced<L: FnOnce() -> Result<Names, Failed> + Drop, F: FnMut(&str) -> Result<(), Failed> + Drop>(
-    unsynced: &Unsynced,
-    list: L,
-    mut call: F,
-) -> Result<(), Failed>
+fn each_unsynced<
+    L: FnOnce() -> Result<Names, Failed> + Drop,
+    F: FnMut(&str) -> Result<(), Failed> + Drop,
+>(unsynced: &Unsynced, list: L, mut call: F) -> Result<(), Failed>
     requires list { L.IsAlwaysCallable list }
     requires call { F.IsAlwaysCallable call }
     ensures done { OnOk result (AreSynced F.FnMut L.post unsynced.now list call) }

@@ -1,4 +1,4 @@
-use Rattle.std.proofs.Common.{◌≡◌, ℕ, List, [], ◌∷◌, refl, subst, Bor}
+use Rattle.std.proofs.Common.{ℕ, List, [], ◌∷◌, refl, subst, Bor}
 use Rattle.std.proofs.lemmas.Fn.{called_at}
 use Rattle.std.specs.Fn.{CalledAt}
 use Rattle.std.specs.Prelude.{Result, Ok, Err, OnErr}
