@@ -20,7 +20,8 @@ use std::rt::Files;
 
 /// The working folder and standard output of the process. Inputs are paths, from the working folder
 /// on where they do not begin with a slash. It tells nothing of what they hold, nor of what a crash
-/// leaves. Every call that fails counts one fault of its kind.
+/// leaves. Every call that fails counts one fault of its kind. Nobody else writes the folder meanwhile: it
+/// looks once for what an earlier command left unsynced, and then knows what it wrote itself.
 #[derive(Drop)]
 pub struct RealHost<R> {
     rt: R,
@@ -82,8 +83,8 @@ impl<R: Files + Print + AllocGlobal + Clone + Drop> Host for RealHost<R> {
 
     ghost continues = { λ _ _ _ _ _. tt };
 
-    /// Fails where the system does so for another reason than that there is no such file, as at a
-    /// folder.
+    /// Fails where the system does so for another reason than that there is no such file, and where a
+    /// path that does not begin with a slash leads to something that is no file, as a folder or a pipe.
     fn input(&mut self, alloc: Global, path: &str, limit: u64) -> Result<Input, HostError>
         ensures counts { InputMayRise self.old.counts self.new.counts }
         ensures cause { IsErrOf result call_failed
@@ -116,8 +117,8 @@ impl<R: Files + Print + AllocGlobal + Clone + Drop> Host for RealHost<R> {
         answer
     }
 
-    /// Fails where the system does so for another reason than that there is no such file, as at a
-    /// folder.
+    /// Fails where the system does so for another reason than that there is no such file, and at what is
+    /// no file, as a folder or a pipe.
     fn read(&mut self, alloc: Global, name: &str) -> Result<Option<Vec<u8>>, HostError>
         requires { length name.now ≤ longest_file_name }
         ensures counts { DiskMayRise self.old.counts self.new.counts }
@@ -134,7 +135,7 @@ impl<R: Files + Print + AllocGlobal + Clone + Drop> Host for RealHost<R> {
         answer
     }
 
-    /// Fails where the system does so.
+    /// What stood at the name is removed, and no link is followed. Fails where the system does so.
     fn write(&mut self, name: &str, bytes: &[u8]) -> Result<(), Failed>
         requires { length name.now ≤ longest_file_name }
         ensures counts { DiskMayRise self.old.counts self.new.counts }
@@ -173,7 +174,8 @@ impl<R: Files + Print + AllocGlobal + Clone + Drop> Host for RealHost<R> {
         self.count_disk(done)
     }
 
-    /// Fails where the system does so.
+    /// The file takes the mode of the one that had the name, where the system lets it. Fails where the
+    /// system does so.
     fn rename(&mut self, from: &str, to: &str) -> Result<(), Failed>
         requires from { length from.now ≤ longest_file_name }
         requires to { length to.now ≤ longest_file_name }
@@ -201,7 +203,8 @@ impl<R: Files + Print + AllocGlobal + Clone + Drop> Host for RealHost<R> {
         self.count_disk(done)
     }
 
-    /// Fails where the system does so, and where there is no memory for the folder's names.
+    /// Fails where the system does so. The first one lists the folder, and fails where there is no memory
+    /// for its names.
     fn settle(&mut self) -> Result<(), Failed>
         ensures counts { DiskMayRise self.old.counts self.new.counts }
         ensures cause { OnErr result (Rose self.old.counts.disk self.new.counts.disk) }
