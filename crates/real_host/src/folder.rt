@@ -12,7 +12,7 @@ ghost use Rattle.real_host.specs.Requests.{restart_request};
 ghost use Rattle.real_host.specs.Turns.{IsInterrupted, AnswersInTurns};
 
 use crate::listing::sorted_names;
-use crate::opening::{made_anew, open_file};
+use crate::opening::{make_anew, open_file};
 use crate::reading::{host_error, is_kind, read_input, read_whole};
 use host_core::{Failed, HostError, Input, Names};
 use std::alloc::Global;
@@ -82,7 +82,7 @@ pub(crate) fn write_file<R: Files>(rt: &R, name: &str, bytes: &[u8]) -> Result<(
     if !is_plain(name) {
         return Err(Failed);
     }
-    match made_anew(|| new_file(rt, name), || again(|| rt.remove_file(name))) {
+    match make_anew(|| new_file(rt, name), || again(|| rt.remove_file(name))) {
         Ok(mut file) => done(file.write_all(bytes)),
         Err(_) => Err(Failed),
     }

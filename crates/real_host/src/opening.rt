@@ -47,7 +47,7 @@ pub(crate) fn open_left<T, O: FnOnce() -> io::Result<T> + Drop>(
 }
 
 /// What making a file gives. Where something stands in its way, that is removed, and the file is made then.
-pub(crate) fn made_anew<T, M: FnMut() -> io::Result<T>, D: FnOnce() -> io::Result<()> + Drop>(
+pub(crate) fn make_anew<T, M: FnMut() -> io::Result<T>, D: FnOnce() -> io::Result<()> + Drop>(
     mut make: M,
     remove: D,
 ) -> io::Result<T>
