@@ -1,27 +1,32 @@
 //! The host that the program works on: the working folder, standard output and `restarts.log`.
-ghost use Rattle.std.specs.Prelude.{◌≡◌, ◌≤◌, length, None, IfOk, IsErr, OnOk, OnErr, IsErrOf, IsSorted};
+ghost use Rattle.std.specs.Prelude.{◌≡◌, ◌≢◌, ◌≤◌, length, None, IfOk, IsErr, OnOk, OnErr, IsErrOf, IsSorted};
 ghost use Rattle.host_core.specs.Counts.{Rose, Counts, InputMayRise, DiskMayRise, PrintMayRise, ServiceMayRise};
 ghost use Rattle.host_core.specs.Faults.{no_faults, input_fault, disk_fault, print_fault, service_fault};
 ghost use Rattle.host_core.specs.Names.{longest_file_name, name_cmp};
 ghost use Rattle.host_core.specs.declared.errors.HostError.TheVariants.{Failed as call_failed};
 ghost use Rattle.real_host.specs.Inputs.{IsWithin};
 ghost use Rattle.real_host.specs.Names.{IsPlainName};
+ghost use Rattle.real_host.specs.Unsynced.{IsOnly};
 
 use crate::folder::{
-    file_bytes, file_names, input_bytes, log_restart, remove_file, rename_file, settle_files,
-    sync_file, write_file,
+    file_bytes, file_names, input_bytes, log_restart, remove_file, rename_file, sync_file,
+    write_file,
 };
+use crate::settling::settle_files;
+use crate::unsynced::Unsynced;
 use host_core::{Failed, FaultCounts, Host, HostError, Input, Names};
 use std::alloc::Global;
 use std::rt::Files;
 
 /// The working folder and standard output of the process. Inputs are paths, from the working folder
 /// on where they do not begin with a slash. It tells nothing of what they hold, nor of what a crash
-/// leaves. Every call that fails counts one fault of its kind.
+/// leaves. Every call that fails counts one fault of its kind. Nobody else writes the folder meanwhile: it
+/// looks once for what an earlier command left unsynced, and then knows what it wrote itself.
 #[derive(Drop)]
 pub struct RealHost<R> {
     rt: R,
     counts: FaultCounts,
+    unsynced: Unsynced,
 }
 
 impl<R: Files + Print + AllocGlobal + Clone + Drop> RealHost<R> {
@@ -29,10 +34,12 @@ impl<R: Files + Print + AllocGlobal + Clone + Drop> RealHost<R> {
     pub fn new(rt: R) -> Self
         ensures counts { result.counts ≡ no_faults }
         ensures runtime { result.rt ≡ rt }
+        ensures unsynced { result.unsynced ≡ Unsynced.Unlisted }
     {
         RealHost {
             rt,
             counts: FaultCounts::new(),
+            unsynced: Unsynced::Unlisted,
         }
     }
 
@@ -43,6 +50,7 @@ impl<R: Files + Print + AllocGlobal + Clone + Drop> RealHost<R> {
         ensures err { OnErr result (self.new.counts ≡ disk_fault self.old.counts) }
         ensures counts { DiskMayRise self.old.counts self.new.counts }
         ensures cause { OnErr result (Rose self.old.counts.disk self.new.counts.disk) }
+        ensures unsynced { self.new.unsynced ≡ self.old.unsynced }
     {
         if done.is_err() {
             self.counts.add_disk();
@@ -75,8 +83,8 @@ impl<R: Files + Print + AllocGlobal + Clone + Drop> Host for RealHost<R> {
 
     ghost continues = { λ _ _ _ _ _. tt };
 
-    /// Fails where the system does so for another reason than that there is no such file, as at a
-    /// folder.
+    /// Fails where the system does so for another reason than that there is no such file, and where a
+    /// path that does not begin with a slash leads to something that is no file, as a folder or a pipe.
     fn input(&mut self, alloc: Global, path: &str, limit: u64) -> Result<Input, HostError>
         ensures counts { InputMayRise self.old.counts self.new.counts }
         ensures cause { IsErrOf result call_failed
@@ -109,8 +117,8 @@ impl<R: Files + Print + AllocGlobal + Clone + Drop> Host for RealHost<R> {
         answer
     }
 
-    /// Fails where the system does so for another reason than that there is no such file, as at a
-    /// folder.
+    /// Fails where the system does so for another reason than that there is no such file, and at what is
+    /// no file, as a folder or a pipe.
     fn read(&mut self, alloc: Global, name: &str) -> Result<Option<Vec<u8>>, HostError>
         requires { length name.now ≤ longest_file_name }
         ensures counts { DiskMayRise self.old.counts self.new.counts }
@@ -127,7 +135,7 @@ impl<R: Files + Print + AllocGlobal + Clone + Drop> Host for RealHost<R> {
         answer
     }
 
-    /// Fails where the system does so.
+    /// What stood at the name is removed, and no link is followed. Fails where the system does so.
     fn write(&mut self, name: &str, bytes: &[u8]) -> Result<(), Failed>
         requires { length name.now ≤ longest_file_name }
         ensures counts { DiskMayRise self.old.counts self.new.counts }
@@ -135,7 +143,12 @@ impl<R: Files + Print + AllocGlobal + Clone + Drop> Host for RealHost<R> {
         ensures not_failed { OnOk result (self.new.counts ≡ self.old.counts) }
         ensures failed { OnErr result (self.new.counts ≡ disk_fault self.old.counts) }
         ensures refused { ¬ IsPlainName name.now → IsErr result }
+        ensures unsynced { self.old.unsynced ≡ Unsynced.Nothing
+            → IsOnly name.now self.new.unsynced }
+        ensures unsynced_too { self.old.unsynced ≢ Unsynced.Nothing
+            → self.new.unsynced ≡ Unsynced.Unlisted }
     {
+        self.unsynced.add(name);
         let done = write_file(&self.rt, name, bytes);
         self.count_disk(done)
     }
@@ -148,12 +161,21 @@ impl<R: Files + Print + AllocGlobal + Clone + Drop> Host for RealHost<R> {
         ensures not_failed { OnOk result (self.new.counts ≡ self.old.counts) }
         ensures failed { OnErr result (self.new.counts ≡ disk_fault self.old.counts) }
         ensures refused { ¬ IsPlainName name.now → IsErr result }
+        ensures synced { OnOk result (IsOnly name.now self.old.unsynced
+            → self.new.unsynced ≡ Unsynced.Nothing) }
+        ensures others { ¬ IsOnly name.now self.old.unsynced
+            → self.new.unsynced ≡ self.old.unsynced }
+        ensures unsynced { OnErr result (self.new.unsynced ≡ self.old.unsynced) }
     {
         let done = sync_file(&self.rt, name);
+        if done.is_ok() {
+            self.unsynced.remove(name);
+        }
         self.count_disk(done)
     }
 
-    /// Fails where the system does so.
+    /// The file takes the mode of the one that had the name, where the system lets it. Fails where the
+    /// system does so.
     fn rename(&mut self, from: &str, to: &str) -> Result<(), Failed>
         requires from { length from.now ≤ longest_file_name }
         requires to { length to.now ≤ longest_file_name }
@@ -181,14 +203,20 @@ impl<R: Files + Print + AllocGlobal + Clone + Drop> Host for RealHost<R> {
         self.count_disk(done)
     }
 
-    /// Fails where the system does so, and where there is no memory for the folder's names.
+    /// Fails where the system does so. The first one lists the folder, and fails where there is no memory
+    /// for its names.
     fn settle(&mut self) -> Result<(), Failed>
         ensures counts { DiskMayRise self.old.counts self.new.counts }
         ensures cause { OnErr result (Rose self.old.counts.disk self.new.counts.disk) }
         ensures not_failed { OnOk result (self.new.counts ≡ self.old.counts) }
         ensures failed { OnErr result (self.new.counts ≡ disk_fault self.old.counts) }
+        ensures synced { OnOk result (self.new.unsynced ≡ Unsynced.Nothing) }
+        ensures unsynced { OnErr result (self.new.unsynced ≡ self.old.unsynced) }
     {
-        let done = settle_files(&self.rt);
+        let done = settle_files(&self.rt, &self.unsynced);
+        if done.is_ok() {
+            self.unsynced = Unsynced::Nothing;
+        }
         self.count_disk(done)
     }
 

@@ -1,22 +1,22 @@
 //! The files of the working folder. A call that a signal interrupts is tried again: here where std does
 //! not do so itself, which opens, writes and syncs again, and `reading.rt`, which reads again.
 
-ghost use Rattle.std.specs.Prelude.{◌≡◌, ◌↔◌, IsTrue, IsErr, IfOk, IfErr, OnOk, OnErr, Ok, Err, Some, None, is_ok, string_bytes, filter, IsSorted};
+ghost use Rattle.std.specs.Prelude.{◌≡◌, ◌↔◌, IsTrue, IsErr, IfOk, IfErr, Ok, Err, Some, None, is_ok, string_bytes, IsSorted};
 ghost use Rattle.std.specs.IoError.{error_kind};
 ghost use Rattle.host_core.specs.Names.{name_cmp};
 ghost use Rattle.host_core.specs.declared.errors.HostError.TheVariants.{Failed as call_failed, Memory as no_memory};
-ghost use Rattle.real_host.specs.Calls.{AreDone, AnyFails};
 ghost use Rattle.real_host.specs.Errors.{IsMissing};
 ghost use Rattle.real_host.specs.Inputs.{IsWithin};
-ghost use Rattle.real_host.specs.Names.{AreDots, IsPlainName, is_scratch_name};
+ghost use Rattle.real_host.specs.Names.{AreDots, IsPlainName};
 ghost use Rattle.real_host.specs.Requests.{restart_request};
 ghost use Rattle.real_host.specs.Turns.{IsInterrupted, AnswersInTurns};
 
-use crate::listing::{listed_names, sorted_names};
+use crate::listing::sorted_names;
+use crate::opening::{make_anew, open_file};
 use crate::reading::{host_error, is_kind, read_input, read_whole};
-use host_core::{Failed, HostError, Input, Names, Txt};
+use host_core::{Failed, HostError, Input, Names};
 use std::alloc::Global;
-use std::fs::{File, OpenFile, OpenOptions, ReadDir};
+use std::fs::{File, OpenFile, OpenOptions, Permissions, ReadDir};
 use std::io::{ErrorKind, Write};
 use std::rt::Files;
 use std::{fs, io};
@@ -24,16 +24,13 @@ use std::{fs, io};
 /// Where the requests of restarts are appended.
 const RESTARTS_LOG: &str = "restarts.log";
 
-/// How the name of a file ends that may have been written and not synced.
-const SCRATCH_END: &str = "tmp.new";
-
 /// The folder itself.
-const FOLDER: &str = ".";
+pub(crate) const FOLDER: &str = ".";
 
 /// How often a call is made at most that a signal interrupts.
 const MOST_CALLS: u64 = u64::MAX;
 
-/// What the input at a path holds.
+/// What the input at a path holds. From the working folder on, what is no file is a fault.
 pub(crate) fn input_bytes<R: Files>(
     rt: &R,
     alloc: Global,
@@ -42,13 +39,13 @@ pub(crate) fn input_bytes<R: Files>(
 ) -> Result<Input, HostError>
     ensures { IfOk result (IsWithin limit) }
 {
-    match open_there(rt, path)? {
+    match open_input(rt, path)? {
         None => Ok(Input::Absent),
         Some(mut file) => read_input(alloc, &mut file, limit),
     }
 }
 
-/// The bytes of the file of a name, where there is one.
+/// The bytes of the file of a name, where there is one. What is no file is a fault.
 pub(crate) fn file_bytes<R: Files>(
     rt: &R,
     alloc: Global,
@@ -59,7 +56,7 @@ pub(crate) fn file_bytes<R: Files>(
     if !is_plain(name) {
         return Err(HostError::Failed);
     }
-    match open_there(rt, name)? {
+    match there(open_to_read(rt, name))? {
         None => Ok(None),
         Some(mut file) => Ok(Some(read_whole(alloc, &mut file)?)),
     }
@@ -78,14 +75,17 @@ pub(crate) fn file_names<R: Files + AllocGlobal + Clone + Drop>(
     }
 }
 
-/// Writes a file whole.
+/// Writes a file whole. It is made anew: what stood at its name is removed, and no link is followed.
 pub(crate) fn write_file<R: Files>(rt: &R, name: &str, bytes: &[u8]) -> Result<(), Failed>
     ensures { ¬ IsPlainName name.now → IsErr result }
 {
     if !is_plain(name) {
         return Err(Failed);
     }
-    done(fs::write(rt, name, bytes))
+    match make_anew(|| new_file(rt, name), || again(|| rt.remove_file(name))) {
+        Ok(mut file) => done(file.write_all(bytes)),
+        Err(_) => Err(Failed),
+    }
 }
 
 /// Syncs the bytes of a file.
@@ -95,13 +95,13 @@ pub(crate) fn sync_file<R: Files>(rt: &R, name: &str) -> Result<(), Failed>
     if !is_plain(name) {
         return Err(Failed);
     }
-    match OpenOptions::new().write(true).open(rt, name) {
+    match open_to_read(rt, name) {
         Ok(file) => done(file.sync_all()),
         Err(_) => Err(Failed),
     }
 }
 
-/// Gives a file another name.
+/// Gives a file another name, and the mode of the file that stood there, where the system lets it.
 pub(crate) fn rename_file<R: Files>(rt: &R, from: &str, to: &str) -> Result<(), Failed>
     ensures from { ¬ IsPlainName from.now → IsErr result }
     ensures to { ¬ IsPlainName to.now → IsErr result }
@@ -109,6 +109,7 @@ pub(crate) fn rename_file<R: Files>(rt: &R, from: &str, to: &str) -> Result<(), 
     if !is_plain(from) || !is_plain(to) {
         return Err(Failed);
     }
+    keep_mode(rt, from, to)?;
     done(again(|| rt.rename(from, to)))
 }
 
@@ -122,48 +123,12 @@ pub(crate) fn remove_file<R: Files>(rt: &R, name: &str) -> Result<(), Failed>
     done(again(|| rt.remove_file(name)))
 }
 
-/// Syncs each file that may have been written and not synced, and then the folder.
-pub(crate) fn settle_files<R: Files + AllocGlobal + Clone + Drop>(rt: &R) -> Result<(), Failed> {
-    let Ok(entries) = open_folder(rt) else {
-        return Err(Failed);
-    };
-    let Ok(names) = listed_names(rt.alloc(), entries) else {
-        return Err(Failed);
-    };
-    each_scratch(&names, |name| sync_file(rt, name))?;
-    match File::open(rt, FOLDER) {
-        Ok(folder) => done(folder.sync_all()),
-        Err(_) => Err(Failed),
-    }
-}
-
-/// Makes a call for each file of the names that may have been written and not synced, until one fails.
-fn each_scratch<F: FnMut(&str) -> Result<(), Failed>>(
-    names: &[Txt],
-    mut call: F,
-) -> Result<(), Failed>
-    requires { F.IsAlwaysCallable call }
-    ensures done { OnOk result (AreDone F.FnMut call (filter is_scratch_name names.now)) }
-    ensures failed { OnErr result (AnyFails F.FnMut call (filter is_scratch_name names.now)) }
-{
-    for name in names {
-        if is_scratch(name.as_str()) {
-            call(name.as_str())?;
-        }
-    }
-    Ok(())
-}
-
 /// Appends the request of a restart to the log.
 pub(crate) fn log_restart<R: Files + AllocGlobal>(rt: &R, service: &str) -> Result<(), Failed> {
     let Ok(line) = restart_line(rt.alloc(), service) else {
         return Err(Failed);
     };
-    match OpenOptions::new()
-        .append(true)
-        .create(true)
-        .open(rt, RESTARTS_LOG)
-    {
+    match open_log(rt) {
         Ok(mut log) => done(log.write_all(line.as_bytes())),
         Err(_) => Err(Failed),
     }
@@ -180,12 +145,67 @@ fn restart_line(alloc: Global, service: &str) -> Result<String, HostError>
     Ok(line)
 }
 
-/// The file at a path, or None where there is none: where the path names nothing, or leads through
-/// something that is no folder.
-fn open_there<R: Files>(rt: &R, path: &str) -> Result<Option<R::File>, HostError>
+/// The input at a path, or None where there is none. One from the root on is opened as it is given, so
+/// that standard input and the pipe of a shell are read too.
+fn open_input<R: Files>(rt: &R, path: &str) -> Result<Option<R::File>, HostError>
     ensures { IfErr result (λ e. e ≡ call_failed) }
 {
-    there(File::open(rt, path))
+    if path.starts_with('/') {
+        return there(File::open(rt, path));
+    }
+    there(open_to_read(rt, path))
+}
+
+/// The file at a path. What is no file is not opened.
+fn open_to_read<R: Files>(rt: &R, path: &str) -> io::Result<R::File> {
+    open_file(&again(|| rt.metadata(path)), || File::open(rt, path))
+}
+
+/// The log of restarts, made where it is not there. What is no file is not opened.
+fn open_log<R: Files>(rt: &R) -> io::Result<R::File> {
+    let about = again(|| rt.metadata(RESTARTS_LOG));
+    open_file(&about, || {
+        OpenOptions::new()
+            .append(true)
+            .create(true)
+            .open(rt, RESTARTS_LOG)
+    })
+}
+
+/// A new file of a name at which nothing stands.
+fn new_file<R: Files>(rt: &R, name: &str) -> io::Result<R::File> {
+    OpenOptions::new()
+        .write(true)
+        .create_new(true)
+        .open(rt, name)
+}
+
+/// Gives a file the mode of the one whose name it is to take, where that is one of another mode and the
+/// system lets it. It is synced with that mode.
+fn keep_mode<R: Files>(rt: &R, from: &str, to: &str) -> Result<(), Failed> {
+    match (file_mode(rt, to), file_mode(rt, from)) {
+        (Some(mode), Some(own)) if mode != own => set_mode(rt, from, mode),
+        _ => Ok(()),
+    }
+}
+
+/// The mode of the file of a name, where there is one.
+fn file_mode<R: Files>(rt: &R, name: &str) -> Option<Permissions> {
+    match again(|| rt.symlink_metadata(name)) {
+        Ok(about) if about.is_file() => Some(about.permissions()),
+        _ => None,
+    }
+}
+
+/// Gives a file a mode, where the system lets it, and syncs it then.
+fn set_mode<R: Files>(rt: &R, name: &str, mode: Permissions) -> Result<(), Failed> {
+    let Ok(file) = File::open(rt, name) else {
+        return Ok(());
+    };
+    match file.set_permissions(mode) {
+        Ok(()) => done(file.sync_all()),
+        Err(_) => Ok(()),
+    }
 }
 
 /// What was opened, or None where there is none.
@@ -203,7 +223,7 @@ fn there<T>(opened: io::Result<T>) -> Result<Option<T>, HostError>
 }
 
 /// The listing of the folder.
-fn open_folder<R: Files + AllocGlobal + Clone + Drop>(rt: &R) -> io::Result<ReadDir<R>> {
+pub(crate) fn open_folder<R: Files + AllocGlobal + Clone + Drop>(rt: &R) -> io::Result<ReadDir<R>> {
     for _turn in 1..MOST_CALLS {
         let listing = fs::read_dir(rt, FOLDER);
         if !is_interrupted(&listing) {
@@ -214,7 +234,7 @@ fn open_folder<R: Files + AllocGlobal + Clone + Drop>(rt: &R) -> io::Result<Read
 }
 
 /// The answer of a call, made again as long as a signal interrupts it.
-fn again<T: Drop, F: FnMut() -> io::Result<T>>(mut call: F) -> io::Result<T>
+pub(crate) fn again<T: Drop, F: FnMut() -> io::Result<T>>(mut call: F) -> io::Result<T>
     requires { F.IsAlwaysCallable call }
     ensures { AnswersInTurns F.step MOST_CALLS call result }
 {
@@ -238,7 +258,7 @@ fn is_interrupted<T>(answer: &io::Result<T>) -> bool
 }
 
 /// Whether a call was done.
-fn done(answer: io::Result<()>) -> Result<(), Failed>
+pub(crate) fn done(answer: io::Result<()>) -> Result<(), Failed>
     ensures { is_ok result ≡ is_ok answer }
 {
     match answer {
@@ -261,15 +281,8 @@ fn are_dots(name: &str) -> bool
     name == "." || name == ".."
 }
 
-/// Whether the file of a name may have been written and not synced.
-fn is_scratch(name: &str) -> bool
-    ensures { result ≡ is_scratch_name name.now }
-{
-    name.as_bytes().ends_with(SCRATCH_END.as_bytes())
-}
-
 /// Whether an error says that there is no file at the path.
-fn is_missing(error: &io::Error) -> bool
+pub(crate) fn is_missing(error: &io::Error) -> bool
     ensures { IsTrue result ↔ IsMissing (error_kind error.now) }
 {
     is_kind(error, ErrorKind::NotFound) || is_kind(error, ErrorKind::NotADirectory)

@@ -5,9 +5,12 @@ mod as_host;
 mod command_line;
 mod folder;
 mod listing;
+mod opening;
 mod reading;
+mod settling;
 #[cfg(test)]
 mod tests;
+mod unsynced;
 
 pub use as_host::RealHost;
 pub use command_line::words;

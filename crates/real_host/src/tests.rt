@@ -250,14 +250,18 @@ fn without_memory_for_the_words_there_are_none(rt: HostRuntime) {
     assert!(rt; answer.is_err());
 }
 
-// A system whose calls all fail with an error, some of them with an interruption before.
+// A system whose calls all fail with an error, some of them with an interruption before. Or only those fail
+// that open one file, and the folder is a real one.
 #[derive(Clone, Copy)]
-struct Broken<'a> {
+struct Broken<'a, R> {
+    rt: R,
+    only: Option<&'a str>,
     kind: ErrorKind,
     interruptions: &'a Cell<u8>,
+    listings: &'a Cell<u8>,
 }
 
-impl Broken<'_> {
+impl<R> Broken<'_, R> {
     fn error(&self) -> io::Error {
         let left = self.interruptions.get();
         if left == 0 {
@@ -266,55 +270,77 @@ impl Broken<'_> {
         self.interruptions.set(left - 1);
         io::Error::from(ErrorKind::Interrupted)
     }
-}
 
-impl Files for Broken<'_> {
-    type File = File;
-
-    type Dir = &'static [u8];
-
-    fn open_file(&self, _how: &OpenOptions, _path: &str) -> io::Result<File> {
-        Err(self.error())
-    }
-
-    fn open_dir(&self, _path: &str) -> io::Result<&'static [u8]> {
-        Err(self.error())
-    }
-
-    fn metadata(&self, _path: &str) -> io::Result<Metadata> {
-        Err(self.error())
-    }
-
-    fn symlink_metadata(&self, _path: &str) -> io::Result<Metadata> {
-        Err(self.error())
-    }
-
-    fn copy(&self, _from: &str, _to: &str) -> io::Result<u64> {
-        Err(self.error())
-    }
-
-    fn rename(&self, _from: &str, _to: &str) -> io::Result<()> {
-        Err(self.error())
-    }
-
-    fn remove_file(&self, _path: &str) -> io::Result<()> {
-        Err(self.error())
-    }
-
-    fn create_dir(&self, _path: &str) -> io::Result<()> {
-        Err(self.error())
-    }
-
-    fn remove_dir(&self, _path: &str) -> io::Result<()> {
-        Err(self.error())
-    }
-
-    fn remove_dir_all<B: Allocator>(&self, _alloc: B, _path: &str) -> io::Result<()> {
-        Err(self.error())
+    // Fails where every call does.
+    fn every(&self) -> io::Result<()> {
+        match self.only {
+            Some(_) => Ok(()),
+            None => Err(self.error()),
+        }
     }
 }
 
-impl Print for Broken<'_> {
+impl<R: Files> Files for Broken<'_, R> {
+    type File = R::File;
+
+    type Dir = R::Dir;
+
+    fn open_file(&self, how: &OpenOptions, path: &str) -> io::Result<R::File> {
+        self.every()?;
+        if self.only == Some(path) {
+            return Err(self.error());
+        }
+        self.rt.open_file(how, path)
+    }
+
+    fn open_dir(&self, path: &str) -> io::Result<R::Dir> {
+        self.every()?;
+        self.listings.set(self.listings.get().saturating_add(1));
+        self.rt.open_dir(path)
+    }
+
+    fn metadata(&self, path: &str) -> io::Result<Metadata> {
+        self.every()?;
+        self.rt.metadata(path)
+    }
+
+    fn symlink_metadata(&self, path: &str) -> io::Result<Metadata> {
+        self.every()?;
+        self.rt.symlink_metadata(path)
+    }
+
+    fn copy(&self, from: &str, to: &str) -> io::Result<u64> {
+        self.every()?;
+        self.rt.copy(from, to)
+    }
+
+    fn rename(&self, from: &str, to: &str) -> io::Result<()> {
+        self.every()?;
+        self.rt.rename(from, to)
+    }
+
+    fn remove_file(&self, path: &str) -> io::Result<()> {
+        self.every()?;
+        self.rt.remove_file(path)
+    }
+
+    fn create_dir(&self, path: &str) -> io::Result<()> {
+        self.every()?;
+        self.rt.create_dir(path)
+    }
+
+    fn remove_dir(&self, path: &str) -> io::Result<()> {
+        self.every()?;
+        self.rt.remove_dir(path)
+    }
+
+    fn remove_dir_all<B: Allocator>(&self, alloc: B, path: &str) -> io::Result<()> {
+        self.every()?;
+        self.rt.remove_dir_all(alloc, path)
+    }
+}
+
+impl<R> Print for Broken<'_, R> {
     fn print<D: Display + Drop>(&self, _value: D) -> io::Result<()> {
         Err(self.error())
     }
@@ -434,7 +460,7 @@ fn an_error_of_the_system_is_a_missing_file_or_a_failed_call(rt: HostRuntime) {
 
 // Makes calls of a system that fails with an error after some interruptions, and compares what they
 // answer. At the end there were all the interruptions.
-fn expect_broken<R: AllocGlobal + Abort>(
+fn expect_broken<R: Files + AllocGlobal + Abort>(
     rt: &R,
     kind: ErrorKind,
     interruptions: u8,
@@ -442,8 +468,11 @@ fn expect_broken<R: AllocGlobal + Abort>(
 ) {
     let count = Cell::new(interruptions);
     let system = Broken {
+        rt,
+        only: None,
         kind,
         interruptions: &count,
+        listings: &Cell::new(0),
     };
     let mut host = RealHost::new((system, rt.alloc()));
     expect(rt, rt.alloc(), &mut host, table);
@@ -554,11 +583,74 @@ fn what_is_no_file_is_a_failed_call(rt: HostRuntime) -> Result<(), Fail> {
     rt.create_dir("edge_folder")?;
     let table = [
         (Call::Input("edge_folder", 4), "failed"),
+        (Call::Input("/dev/null", 4), "other bytes"),
+        (
+            Call::Input("../../../../../../../../../dev/null", 4),
+            "failed",
+        ),
         (Call::Read("edge_folder"), "failed"),
         (Call::Write("edge_folder"), "failed"),
+        (Call::Sync("edge_folder"), "failed"),
         (Call::Remove("edge_folder"), "failed"),
     ];
     expect_really(&rt, &table);
     rt.remove_dir("edge_folder")?;
+    Ok(())
+}
+
+// Makes a folder with what may lie in the way of files, and a checkpoint that only this user reads.
+fn enter_odd(rt: &(impl Files + Env)) -> io::Result<()> {
+    rt.create_dir("odd")?;
+    env::set_current_dir(rt, "odd")?;
+    rt.create_dir("folder.tmp.new")?;
+    rt.symlink("nowhere", "link.tmp.new")?;
+    fs::write(rt, "foreign.tmp.new", b"ef")?;
+    fs::write(rt, "a.cp.json", b"ef")?;
+    fs::set_permissions(rt, "a.cp.json", Permissions::from_mode(0o600))?;
+    rt.symlink("a.cp.json", "tmp.new")
+}
+
+// Goes back, and removes that folder. Says which mode the checkpoint had.
+fn leave_odd(rt: &(impl Files + Env + AllocGlobal)) -> io::Result<u32> {
+    let mode = fs::metadata(rt, "a.cp.json")?.permissions().mode();
+    env::set_current_dir(rt, "..")?;
+    fs::remove_dir_all(rt, "odd")?;
+    Ok(mode & 0o777)
+}
+
+// Makes calls of a system that opens all files but the foreign one, which fails with an error, and compares
+// what they answer. At the end the folder was listed once.
+fn expect_odd<R: Files + AllocGlobal + Abort>(rt: &R, kind: ErrorKind, table: &[(Call<'_>, &str)]) {
+    let count = Cell::new(0);
+    let system = Broken {
+        rt,
+        only: Some("foreign.tmp.new"),
+        kind,
+        interruptions: &Cell::new(0),
+        listings: &count,
+    };
+    let mut host = RealHost::new((system, rt.alloc()));
+    expect(rt, rt.alloc(), &mut host, table);
+    assert_eq!(*rt; count.get(), 1);
+}
+
+#[test]
+fn what_lies_in_the_way_is_no_file_of_ours(rt: HostRuntime) -> Result<(), Fail> {
+    let table = [
+        (Call::Settle, "done"),
+        (Call::Write("tmp.new"), "done"),
+        (Call::Read("a.cp.json"), "other bytes"),
+        (Call::Sync("tmp.new"), "done"),
+        (Call::Rename("tmp.new", "a.cp.json"), "done"),
+        (Call::Settle, "done"),
+        (Call::Read("a.cp.json"), "abcd"),
+        (Call::Write("foreign.tmp.new"), "failed"),
+        (Call::Settle, "done"),
+    ];
+    enter_odd(&rt)?;
+    expect_odd(&rt, ErrorKind::StorageFull, &[(Call::Settle, "failed")]);
+    expect_odd(&rt, ErrorKind::PermissionDenied, &table);
+    let mode = leave_odd(&rt)?;
+    assert_eq!(rt; mode, 0o600);
     Ok(())
 }

@@ -6,8 +6,8 @@ use Rattle.std.specs.Prelude.{Result, Ok, Err, OnErr, filter}
 use Rattle.real_host.specs.Calls.{Leads}
 use Rattle.real_host.specs.Names.{is_scratch_name}
 use Rattle.real_host.proofs.Picking.{next_picked, next_passed, picked_between}
-use Rattle.real_host.proofs.folder.each_scratch.Goals as goal
-use Rattle.real_host.proofs.folder.each_scratch.Goals.{then-is_scratch+in_ok-call, else-is_scratch}
+use Rattle.real_host.proofs.settling.each_scratch.Goals as goal
+use Rattle.real_host.proofs.settling.each_scratch.Goals.{then-is_scratch+in_ok-call, else-is_scratch}
 
 pub loop-name-preserved : goal.loop-name-preserved
 loop-name-preserved g c =
