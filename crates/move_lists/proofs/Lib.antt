@@ -11,6 +11,7 @@ pub mod Known
 pub mod Leaving
 pub mod Members
 pub mod Noted
+pub mod OneList
 pub mod Ordered
 pub mod PartOrder
 pub mod Parts

@@ -12,5 +12,5 @@ mod ranking;
 mod reaches;
 
 pub use firsts::{Firsts, first_moves};
-pub use laws::{lists_exist, moves_are_finite, parts_make_the_list};
+pub use laws::{lists_are_one, lists_exist, moves_are_finite, parts_make_the_list};
 pub use listing::{listed, listed_in_part};
