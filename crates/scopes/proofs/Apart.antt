@@ -1,16 +1,15 @@
 -- The files of different scopes are different.
-use Rattle.std.proofs.Common.{◌≡◌, ◌≢◌, ℕ, ◌<◌, Bool, true, false, ◌&&◌, ◌||◌, not, cond, List, [], ◌∷◌, ◌++◌, Option, Some, None, length, get_or, refl, sym, ap, ◌∙◌, subst, arith, append_assoc, codes, decimal, nat_eq}
+use Rattle.std.proofs.Common.{◌≡◌, ◌≢◌, ℕ, ◌<◌, Bool, true, false, ◌&&◌, ◌||◌, cond, List, [], ◌∷◌, ◌++◌, Option, Some, None, length, get_or, refl, sym, ap, ◌∙◌, subst, arith, append_assoc, codes, decimal, nat_eq}
 use Rattle.std.proofs.lemmas.Fmt.{decimal_injective, decimal_is_IsNumeral}
 use Rattle.std.proofs.lemmas.Bool.{eqb-true}
 use Rattle.std.proofs.lemmas.List.{append_cancel_right}
 use Rattle.std.specs.Char.{digit_value}
-use Rattle.std.specs.List.{starts_with}
 use Rattle.std.specs.Str.{bytes_eq}
-use Rattle.std.specs.Str.Parse.{AllDigits, IsNumeral}
+use Rattle.std.specs.Str.Parse.{AllDigits}
 use Rattle.scopes.specs.Files.{asic_begin, asic_config, config_name, file_name, is_of_host, plain_name}
 use Rattle.scopes.specs.Renaming.{named}
 use Rattle.scopes.specs.Scopes.{most_asics}
-use Rattle.scopes.specs.declared.scope.Scope.TheVariants.{Localhost, Asic}
+use Rattle.scopes.specs.declared.scope.Scope.TheVariants.{Asic}
 
 -- the character behind the digits of a name
 abbrev dot : ℕ

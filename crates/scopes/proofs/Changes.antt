@@ -1,9 +1,9 @@
 -- What calls change, as a scope shows it.
-use Rattle.std.proofs.Common.{◌≡◌, ◌⊎◌, inl, inr, ℕ, List, Option, Some, None, option_map, Result, Ok, Err, Vec, Global, refl, sym, ap, ◌∙◌, subst}
+use Rattle.std.proofs.Common.{◌≡◌, inl, inr, ℕ, List, Option, Some, None, option_map, Result, Ok, Err, Vec, Global, refl, sym, ap, ◌∙◌, subst}
 use Rattle.std.specs.FinMap.{get}
 use Rattle.std.specs.Option.{option_map_or}
 use Rattle.std.specs.Prelude.{IfOk, IfSome, IsSome, OnOk, OnErr}
-use Rattle.host_core.specs.State.{Files, Pending, settled, dirty, listing, State, CanMove, CanWrite, ListsOrNot, PrintsPart, with_file, rename, after_write, with_pending, after_listing, printed}
+use Rattle.host_core.specs.State.{Files, Pending, settled, dirty, listing, State, CanMove, CanWrite, ListsOrNot, with_file, rename, after_write, with_pending, after_listing, printed}
 use Rattle.scopes.specs.Files.{file_name, plain_name}
 use Rattle.scopes.specs.Renaming.{known, named}
 use Rattle.scopes.specs.Seeing.{get-seen, seen-rename, seen-with_file}

@@ -1,8 +1,8 @@
 -- What calls leave of the files of others, and when.
-use Rattle.std.proofs.Common.{◌≡◌, ◌⊎◌, inl, inr, ⊎_elim, ℕ, ◌≤◌, ◌++◌, Bool, false, cond, List, Option, Some, None, option_map, refl, sym, ap, ◌∙◌, subst}
+use Rattle.std.proofs.Common.{◌≡◌, ◌⊎◌, inl, inr, ⊎_elim, ℕ, ◌≤◌, false, cond, List, Option, Some, None, option_map, refl, sym, ap, ◌∙◌, subst}
 use Rattle.std.specs.FinMap.{get}
 use Rattle.std.specs.Prelude.{IfSome, is_some}
-use Rattle.host_core.specs.Crashes.{Elapses, Image, Left, MayLeave, MayLeaveInPrint, MayLeaveNow}
+use Rattle.host_core.specs.Crashes.{Elapses, Left, MayLeave, MayLeaveInPrint, MayLeaveNow}
 use Rattle.host_core.specs.State.{Files, settled, dirty, State, with_file, rename, after_write, with_pending, after_listing, ListsOrNot, PrintsPart, printed, after_restart}
 use Rattle.host_core.proofs.EntriesOfFiles.{get-with_file}
 use Rattle.scopes.specs.Files.{file_name, plain_name}

@@ -10,10 +10,10 @@ use Rattle.std.specs.Prelude.{IfOk, IfSome, IsOkAnd}
 use Rattle.std.specs.declared.cmp.Ordering.{Ordering}
 use Rattle.std.specs.declared.cmp.Ordering.TheVariants.{Less, Equal, Greater}
 use Rattle.host_core.specs.Names.{name_cmp}
-use Rattle.host_core.specs.State.{Files, State, names}
+use Rattle.host_core.specs.State.{State, names}
 use Rattle.scopes.specs.Files.{plain_name}
 use Rattle.scopes.specs.Listings.{plain_names}
-use Rattle.scopes.specs.Views.{seen, seen_files, shown}
+use Rattle.scopes.specs.Views.{seen, shown}
 use Rattle.scopes.specs.declared.scope.Scope.{Scope}
 
 -- putting a pair puts its name

@@ -1,9 +1,9 @@
 -- The first operation without a scope, and what a patch is split into.
-use Rattle.std.proofs.Common.{◌≡◌, ℕ, ◌+◌, ◌<◌, Bool, cond, not, List, [], ◌∷◌, map, length, nat_lt, Option, Some, None, Ok, Err, refl, sym, ap, ◌∙◌}
+use Rattle.std.proofs.Common.{◌≡◌, ℕ, ◌+◌, Bool, cond, not, List, [], ◌∷◌, map, nat_lt, Option, Some, None, Ok, Err, refl, sym, ap, ◌∙◌}
 use Rattle.conf_doc.proofs.Lists.{length-map}
 use Rattle.std.specs.List.{position, prefix_len}
 use Rattle.std.specs.Option.{option_map_or}
-use Rattle.patch_core.specs.Operation.{Operation, operation_of}
+use Rattle.patch_core.specs.Operation.{operation_of}
 use Rattle.patch_core.specs.declared.operations.Op.{Op}
 use Rattle.scopes.specs.Splitting.{Part, has_scope, parts, split}
 use Rattle.scopes.specs.declared.errors.SplitError.TheVariants.{BadScope}

@@ -1,5 +1,5 @@
 -- The moments of a host as a scope shows them.
-use Rattle.std.proofs.Common.{◌≡◌, ◌⊎◌, inl, inr, ⊎_elim, ℕ, ◌≤◌, List, Option, option_map, sym, subst}
+use Rattle.std.proofs.Common.{◌⊎◌, inl, inr, ⊎_elim, ℕ, ◌≤◌, List, Option, option_map, sym, subst}
 use Rattle.host_core.specs.Crashes.{Elapses, Left, MayLeaveInPrint, MayLeaveNow, Passes}
 use Rattle.host_core.specs.State.{State}
 use Rattle.scopes.specs.Images.{may_seen, print_seen, seen_print}

@@ -1,14 +1,13 @@
 -- The scope `localhost` shows the folder as it is, and what a scope shows of images are images of it.
-use Rattle.std.proofs.Common.{◌≡◌, ℕ, List, Some, refl, sym, subst}
+use Rattle.std.proofs.Common.{◌≡◌, Some, refl, sym, subst}
 use Rattle.host_core.specs.Crashes.{Left, MayLeave}
 use Rattle.host_core.specs.State.{Files, Pending, settled, dirty, listing, State}
 use Rattle.host_core.proofs.EntriesOfFiles.{same_files}
 use Rattle.std.specs.Option.{option_map_or}
-use Rattle.scopes.specs.Files.{plain_name}
 use Rattle.scopes.specs.Images.{may_seen, seen_may}
 use Rattle.scopes.specs.Renaming.{known}
 use Rattle.scopes.specs.Seeing.{get-seen}
-use Rattle.scopes.specs.Views.{IsSeen, seen, seen_files, seen_left, seen_pending}
+use Rattle.scopes.specs.Views.{IsSeen, seen, seen_files, seen_pending}
 use Rattle.scopes.specs.declared.scope.Scope.{Scope}
 use Rattle.scopes.specs.declared.scope.Scope.TheVariants.{Localhost}
 

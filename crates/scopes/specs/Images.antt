@@ -1,11 +1,11 @@
 -- What a scope shows of what a crash may leave is what a crash may leave of what it shows.
-use Rattle.std.proofs.Common.{◌≡◌, ◌⊎◌, inl, inr, ℕ, List, ◌++◌, Option, Some, None, option_map, refl, sym, ap, ◌∙◌, subst}
+use Rattle.std.proofs.Common.{◌≡◌, inl, inr, ℕ, List, Option, Some, None, option_map, refl, sym, ap, ◌∙◌, subst}
 use Rattle.std.specs.FinMap.{get}
 use Rattle.std.specs.Option.{option_map_or}
-use Rattle.host_core.specs.Crashes.{Left, Image, MayLeave, MayLeaveNow, MayLeaveInPrint}
+use Rattle.host_core.specs.Crashes.{Left, Image, MayLeaveNow, MayLeaveInPrint}
 use Rattle.host_core.specs.State.{Files, Pending, settled, dirty, listing, State, with_file, printed}
 use Rattle.host_core.proofs.EntriesOfFiles.{content_there}
-use Rattle.scopes.specs.Files.{file_name, plain_name}
+use Rattle.scopes.specs.Files.{plain_name}
 use Rattle.scopes.specs.Views.{IsSeen, seen, seen_files, seen_left, seen_pending}
 use Rattle.scopes.specs.declared.scope.Scope.{Scope}
 use Rattle.scopes.specs.Renaming.{named}

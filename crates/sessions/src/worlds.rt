@@ -3,7 +3,7 @@ ghost use Rattle.std.specs.Prelude.{◌≡◌, ◌↔◌, drop, length, IfOk, If
 ghost use Rattle.move_core.specs.Contexts.{IsValidIn, rulebook};
 ghost use Rattle.move_core.specs.Plans.{IsPlan};
 ghost use Rattle.sessions.specs.Named.{IsNextOf};
-ghost use Rattle.sessions.specs.Turns.{Begin, End, IsTurn, Retarget, Step, Towards, with_aim, with_commit};
+ghost use Rattle.sessions.specs.Turns.{Begin, End, IsTurn, Retarget, Step, Towards, with_aim, with_commit, without_session};
 ghost use Rattle.sessions.specs.Worlds.{IsKept, opened, session_of};
 
 use crate::named_sessions::NamedSessions;
@@ -180,9 +180,19 @@ impl World {
         ensures ctx { self.new.ctx ≡ self.old.ctx }
         ensures kept { IsKept self.new }
     {
-        let session = self.sessions.take(name);
+        let session = self.sessions.at(name);
         let done = session.goal().same(&self.config);
+        self.leave(name);
         Reply::Ended { done }
+    }
+
+    /// Takes the session of a name out.
+    fn leave(&mut self, name: &str)
+        requires { IsSome (session_of name.now self.old) }
+        ensures after { self.new ≡ without_session self.old name.now }
+        ensures kept { IsKept self.new }
+    {
+        drop(self.sessions.take(name));
     }
 
     /// Has the session of a name aim at a goal by a plan, with all commits seen.
