@@ -1,27 +1,35 @@
 -- The promise of the whole program follows from what it answers and what a crash leaves.
-use Rattle.std.proofs.Common.{◌≡◌, ◌≢◌, ◌≤◌, ◌<◌, ◌⊎◌, inl, inr, ℕ, zero, suc, ◌+◌, List, [], ◌∷◌, ◌++◌, length, append-nil, append_assoc, length-append, refl, sym, ap, ◌∙◌, subst, arith, Option, Some, None, Ok, IfSome, ⊎_elim}
+use Rattle.std.proofs.Common.{◌≡◌, ◌≢◌, ◌≤◌, ◌<◌, ◌⊎◌, inl, inr, ℕ, zero, suc, ◌+◌, List, [], ◌∷◌, ◌++◌, length, append-nil, append_assoc, length-append, refl, sym, ap, ◌∙◌, subst, arith, Bool, true, false, if◌then◌else◌, Option, Some, None, Result, Ok, Err, IfSome, ⊎_elim}
+use Rattle.std.specs.FinMap.{get, keys}
+use Rattle.host_core.specs.Answers.{map_ok}
 use Rattle.host_core.specs.Counts.{Counts}
 use Rattle.host_core.specs.Crashes.{Image, Left, LeavesOnly, MayLeave}
 use Rattle.host_core.specs.State.{State, printed}
 use Rattle.conf_doc.specs.declared.configuration.Config.{Config}
 use Rattle.conf_store.specs.Changes.{IsSettled}
 use Rattle.conf_store.specs.Stored.{stored}
-use Rattle.checkpoints.specs.Points.{points}
+use Rattle.checkpoints.specs.Names.{is_good_name}
+use Rattle.checkpoints.specs.Points.{Held, points}
 use Rattle.move_core.specs.Operations.{plan_text}
 use Rattle.move_core.specs.Plans.{conf}
+use Rattle.move_core.specs.declared.contexts.Ctx.{Ctx}
 use Rattle.move_core.specs.declared.moves.Move.{Move}
 use Rattle.change_apply.specs.Acknowledgements.{HasAcknowledged, ack, acks}
 use Rattle.change_apply.specs.Change.{Change, steps}
 use Rattle.change_apply.specs.Crashes.{StandAt}
 use Rattle.change_apply.specs.Ends.{IsStopped}
 use Rattle.change_apply.specs.declared.ready.Restart.{Restart}
+use Rattle.gcu_demo.specs.Demo as generated
+use Rattle.plan_options.specs.Options.{default_budget}
 use Rattle.plan_options.specs.Targets.{Target}
 use Rattle.gcu_output.specs.Lines.{last_line}
 use Rattle.gcu_output.specs.declared.outcomes.Outcome.{Outcome}
-use Rattle.gcu_output.specs.declared.outcomes.Outcome.TheVariants.{Done, Memory, InputFault, DiskFault, PrintFault, ServiceFault, Unorderable, Budget}
-use Rattle.gcu_requests.specs.Asked.{asked, form_asked}
+use Rattle.gcu_output.specs.declared.outcomes.Outcome.TheVariants.{Done, Memory, InputFault, DiskFault, PrintFault, ServiceFault, Unorderable, Budget, BadName}
+use Rattle.gcu_requests.specs.Asked.{absent_answer, delete_asked, form_asked, preview_asked, save_asked, there_answer}
 use Rattle.gcu_requests.specs.Asking.{Asking}
 use Rattle.gcu_requests.specs.ChangeAsked.{change_asked}
+use Rattle.gcu_requests.specs.Checking.{check_asked}
+use Rattle.gcu_requests.specs.DemoAsked.{demo_asked, generated_asked}
 use Rattle.gcu_requests.specs.Form.{Form, form}
 use Rattle.gcu_requests.specs.Form as forms
 use Rattle.gcu_requests.specs.PlanAsked.{dry_run_asked}
@@ -29,11 +37,14 @@ use Rattle.gcu_requests.specs.Request as request
 use Rattle.gcu_requests.specs.Request.{Planning, Request}
 use Rattle.gcu_engine.specs.Answers.{Answers, IsDoneOutput, IsUntouched, Leaves, LeavesDone, LeavesStopped, LeftByForm, LeftDoing, LeftMeanwhile, LeftOf, Prints, Says}
 use Rattle.gcu_engine.specs.Changing.{IsChangeFor, IsFirstText, IsLastLine, LeftChanged, LeftEarly, LeftOfChange, begun}
-use Rattle.gcu_engine.specs.Headline.{HasNoOrder, IsBefore, IsHeadline, IsLastOrNext, IsOneChange, IsPlanOutput, IsRightPlan, PrintsPlan, StandsAfter, StoresTarget, target_in}
+use Rattle.gcu_engine.specs.Contents.{IsContextIn}
+use Rattle.gcu_engine.specs.Headline.{HasNoOrder, HasWholePoints, IsBefore, IsHeadline, IsLastOrNext, IsOneChange, IsPlanOutput, IsRightPlan, PrintsPlan, StandsAfter, StoresTarget, target_in}
 use Rattle.gcu_engine.specs.Plannings.{IsUnsolved}
 use Rattle.gcu_engine.proofs.Changes.{some_is}
 use Rattle.gcu_engine.proofs.Naming.{named_is}
-use Rattle.gcu_engine.proofs.RightPlans.{IsAsked, asked_is, right_plan, way_last}
+use Rattle.gcu_engine.proofs.Contents.{context_in}
+use Rattle.gcu_engine.proofs.Requests.{IsRequestOf, change_given, plan_given, requested}
+use Rattle.gcu_engine.proofs.RightPlans.{IsAsked, right_plan, way_last}
 
 -- ---- how many steps are acknowledged
 
@@ -88,23 +99,6 @@ acked_is d k base h = by (three_ways d k)
     by (inr (inr gt)) = absurd (let more = more_length k d gt in let some = ack_length (suc k) in let l = long in omega (arith, more, some, l))
 
 -- ---- what is planned
-
--- a plan is requested where one is to be printed
-plan_given : (from : Target) (budget : ℕ) (s : State) (r : Request) → (dry_run_asked from budget s).Gives (Ok r)
-    → (p : Planning) × IsAsked from s p × (request.plan p ≡ r)
-plan_given from budget s r (inl never) = absurd never
-plan_given from budget s r (inr (x, named, inl never)) = absurd never
-plan_given from budget s r (inr (x, named, inr (p, given, e))) =
-    let same : request.plan p ≡ r = cc in (p, subst (λ (t : Target). IsAsked t s p) (named_is from x named) (asked_is x budget s p given), same)
-
--- a change is requested where one is to be done
-change_given : (from : Target) (budget : ℕ) (s : State) (r : Request) → (change_asked from budget s).Gives (Ok r)
-    → (p : Planning) × IsAsked from s p × (request.change p ≡ r)
-change_given from budget s r (inl never) = absurd never
-change_given from budget s r (inr (x, named, inl never)) = absurd never
-change_given from budget s r (inr (x, named, inr (u, settles, inl never))) = absurd never
-change_given from budget s r (inr (x, named, inr (u, settles, inr (p, given, e)))) =
-    let same : request.change p ≡ r = cc in (p, subst (λ (t : Target). IsAsked t s p) (named_is from x named) (asked_is x budget s p given), same)
 
 same_change : (p q : Planning) → request.change p ≡ request.change q → p ≡ q
 same_change p q e = let same : p ≡ q = cc in same
@@ -260,21 +254,46 @@ plans_print (Some (forms.demo seed ports)) from s after old new result is h = ab
 
 -- ---- no order
 
-none_of : (words : List (List ℕ)) (s : State) (r : Request) → (asked words s).Gives (Ok r) → IsUnsolved r Unorderable → HasNoOrder words s
-none_of words s (request.plan p) given h = (p, inl given, h.0)
-none_of words s (request.change p) given h = (p, inr (inl given), h.0)
-none_of words s (request.demo p ports) given h = (p, inr (inr (ports, given)), h.0)
-none_of words s (request.preview c) given never = absurd never
-none_of words s (request.list_checkpoints names) given never = absurd never
-none_of words s request.check given never = absurd never
-none_of words s (request.save_checkpoint name config) given never = absurd never
-none_of words s (request.delete_checkpoint name) given never = absurd never
+unsolved : (q r : Request) → q ≡ r → IsUnsolved r Unorderable → IsUnsolved q Unorderable
+unsolved q r same h = subst (λ (x : Request). IsUnsolved x Unorderable) (sym same) h
 
-no_order_is : (words : List (List ℕ)) (s : State) (after : Option State) (old new : Counts) (result : Outcome) → Leaves (asked words s) s after old new result
-    → result ≡ Unorderable → HasNoOrder words s
-no_order_is words s after old new result h is =
-    let says = subst (λ (e : Outcome). Prints (asked words s) s h.0 old new e h.1) is h.3 in
-    none_of words s says.0.0 says.0.1 says.0.2
+none_of : (f : Option Form) (s : State) (r : Request) → IsRequestOf f s r → IsUnsolved r Unorderable → HasNoOrder f s
+none_of (Some (forms.plan from budget)) s r (p, is, same) h = record {
+  ctx = p.ctx;
+  read = is.read;
+  start = p.start;
+  goal = p.goal;
+  planned = (is.start.stands, is.made);
+  none = (unsolved (request.plan p) r same h).0;
+}
+none_of (Some (forms.change from budget)) s r (p, is, same) h = record {
+  ctx = p.ctx;
+  read = is.read;
+  start = p.start;
+  goal = p.goal;
+  planned = (is.start.stands, is.made);
+  none = (unsolved (request.change p) r same h).0;
+}
+none_of (Some (forms.demo seed ports)) s r (p, read, start, goal, same) h = record {
+  ctx = p.ctx;
+  read = read;
+  start = p.start;
+  goal = p.goal;
+  planned = (start, goal);
+  none = (unsolved (request.demo p ports) r same h).0;
+}
+none_of (Some (forms.save_checkpoint name)) s r (c, there, same) h = absurd (unsolved (request.save_checkpoint name c) r same h)
+none_of (Some (forms.delete_checkpoint name)) s r same h = absurd (unsolved (request.delete_checkpoint name) r same h)
+none_of (Some (forms.preview path)) s r (c, same) h = absurd (unsolved (request.preview c) r same h)
+none_of (Some forms.check) s r same h = absurd (unsolved request.check r same h)
+none_of (Some forms.list_checkpoints) s r (names, same) h = absurd (unsolved (request.list_checkpoints names) r same h)
+none_of None s r never h = absurd never
+
+no_order_is : (f : Option Form) (s : State) (after : Option State) (old new : Counts) (result : Outcome) → Leaves (form_asked f s) s after old new result
+    → result ≡ Unorderable → HasNoOrder f s
+no_order_is f s after old new result h is =
+    let says = subst (λ (e : Outcome). Prints (form_asked f s) s h.0 old new e h.1) is h.3 in
+    none_of f s says.0.0 (requested f s says.0.0 says.0.1) says.0.2
 
 -- ---- a finished change
 
@@ -364,28 +383,35 @@ other_stands : (asking : Asking Request) (s : State) (left : Left) → IsSettled
 other_stands asking s left clean (inl h) = ap stored (settled_files s h.0 left clean h.1)
 other_stands asking s left clean (inr (r, given, h)) = doing_stands r s left h
 
-doing_points : (asking : Asking Request) (r : Request) (s : State) (left : Left) → asking.Gives (Ok r) → LeftDoing r s left
-    → (points left.files ≡ points s.files) ⊎ ((q : Request) × asking.Gives (Ok q) × IsOneChange q (points s.files) (points left.files))
-doing_points asking (request.delete_checkpoint name) s left given h =
-    ⊎_elim (λ same. inl same) (λ one. inr (request.delete_checkpoint name, given, one)) h.files.points
-doing_points asking (request.save_checkpoint name config) s left given h =
-    ⊎_elim (λ same. inl same) (λ one. inr (request.save_checkpoint name config, given, one)) h.files.points
-doing_points asking other s left given never = absurd never
+-- the change of a request is that of its form
+one_change : (f : Option Form) (s : State) (r : Request) (left : Left) → IsRequestOf f s r → LeftDoing r s left
+    → (points left.files ≡ points s.files) ⊎ IsOneChange f s left.files
+one_change (Some (forms.save_checkpoint name)) s r left (c, there, same) h =
+    let doing = subst (λ (q : Request). LeftDoing q s left) (sym same) h in
+    ⊎_elim (λ kept. inl kept) (λ one. inr (c, there, one)) doing.files.points
+one_change (Some (forms.delete_checkpoint name)) s r left same h =
+    let doing = subst (λ (q : Request). LeftDoing q s left) (sym same) h in doing.files.points
+one_change (Some (forms.plan from budget)) s r left (p, is, same) h = absurd (subst (λ (q : Request). LeftDoing q s left) (sym same) h)
+one_change (Some (forms.change from budget)) s r left (p, is, same) h = absurd (subst (λ (q : Request). LeftDoing q s left) (sym same) h)
+one_change (Some (forms.demo seed ports)) s r left (p, read, start, goal, same) h = absurd (subst (λ (q : Request). LeftDoing q s left) (sym same) h)
+one_change (Some (forms.preview path)) s r left (c, same) h = absurd (subst (λ (q : Request). LeftDoing q s left) (sym same) h)
+one_change (Some forms.check) s r left same h = absurd (subst (λ (q : Request). LeftDoing q s left) (sym same) h)
+one_change (Some forms.list_checkpoints) s r left (names, same) h = absurd (subst (λ (q : Request). LeftDoing q s left) (sym same) h)
+one_change None s r left never h = absurd never
 
-other_points : (asking : Asking Request) (s : State) (left : Left) → IsSettled s → LeftOf asking s left
-    → (points left.files ≡ points s.files) ⊎ ((q : Request) × asking.Gives (Ok q) × IsOneChange q (points s.files) (points left.files))
-other_points asking s left clean (inl h) = inl (ap points (settled_files s h.0 left clean h.1))
-other_points asking s left clean (inr (r, given, h)) = doing_points asking r s left given h
+other_points : (f : Option Form) (s : State) (left : Left) → IsSettled s → LeftOf (form_asked f s) s left
+    → (points left.files ≡ points s.files) ⊎ IsOneChange f s left.files
+other_points f s left clean (inl h) = inl (ap points (settled_files s h.0 left clean h.1))
+other_points f s left clean (inr (r, given, h)) = one_change f s r left (requested f s r given) h
 
 -- what the command that words are leaves
 form_stands : (f : Option Form) (s : State) (left : Left) → IsSettled s → LeftByForm f s left → StandsAfter f s left
 form_stands (Some (forms.change from budget)) s left clean h = change_stands from budget s left clean h
 form_stands other s left clean h = other_stands (form_asked other s) s left clean h
 
-form_points : (f : Option Form) (s : State) (left : Left) → IsSettled s → LeftByForm f s left
-    → (points left.files ≡ points s.files) ⊎ ((q : Request) × (form_asked f s).Gives (Ok q) × IsOneChange q (points s.files) (points left.files))
+form_points : (f : Option Form) (s : State) (left : Left) → IsSettled s → LeftByForm f s left → HasWholePoints f s left.files
 form_points (Some (forms.change from budget)) s left clean h = inl (change_points (change_asked from budget s) s left clean h)
-form_points other s left clean h = other_points (form_asked other s) s left clean h
+form_points other s left clean h = other_points other s left clean h
 
 -- ---- all of it
 
@@ -395,7 +421,7 @@ module _ {H : Type 0} (moment : H → ℕ) (left_since : H → ℕ → Left → 
       → IsHeadline words s after result (left_since new (moment old))
   headline_of words s after old new before later result answers crash = record {
     printed = λ from is. plans_print (form words) from s after before later result is answers;
-    no_order = no_order_is words s after before later result answers;
+    no_order = no_order_is (form words) s after before later result answers;
     crash = λ clean left since.
         record {
           stands = form_stands (form words) s left clean (crash.each left since);
