@@ -15,7 +15,9 @@ pub struct CreateOnlyRule {}
 
 impl CreateOnlyRule {
     /// The rule, which keeps nothing.
-    pub fn new() -> CreateOnlyRule {
+    pub fn new() -> CreateOnlyRule
+        ensures { ⟦<CreateOnlyRule as MoveRule>⟧.rule_kind result ≡ 4 }
+    {
         CreateOnlyRule {}
     }
 }

@@ -1,5 +1,5 @@
 //! The rule that each step leads to a valid configuration.
-ghost use Rattle.std.specs.Prelude.{◌↔◌, IsTrue};
+ghost use Rattle.std.specs.Prelude.{◌≡◌, ◌↔◌, IsTrue};
 ghost use Rattle.conf_check.specs.Validity.{IsValid};
 
 use conf_check::check;
@@ -14,7 +14,9 @@ pub struct FullRule {}
 
 impl FullRule {
     /// The rule, which keeps nothing.
-    pub fn new() -> FullRule {
+    pub fn new() -> FullRule
+        ensures { ⟦<FullRule as MoveRule>⟧.rule_kind result ≡ 1 }
+    {
         FullRule {}
     }
 }

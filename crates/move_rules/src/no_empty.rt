@@ -14,7 +14,9 @@ pub struct NoEmptyRule {}
 
 impl NoEmptyRule {
     /// The rule, which keeps nothing.
-    pub fn new() -> NoEmptyRule {
+    pub fn new() -> NoEmptyRule
+        ensures { ⟦<NoEmptyRule as MoveRule>⟧.rule_kind result ≡ 3 }
+    {
         NoEmptyRule {}
     }
 }

@@ -19,7 +19,9 @@ pub struct RequiredRule {}
 
 impl RequiredRule {
     /// The rule, which keeps nothing.
-    pub fn new() -> RequiredRule {
+    pub fn new() -> RequiredRule
+        ensures { ⟦<RequiredRule as MoveRule>⟧.rule_kind result ≡ 5 }
+    {
         RequiredRule {}
     }
 }

@@ -25,10 +25,11 @@ AreModelsOf files models =
     (readers : Readers) → AreTrue readers
     → (faults readers files ≡ []) × (models ≡ models_of (modules_of files) readers)
 
--- nothing is wrong with some files, and these are their models as some readers read them
+-- nothing is wrong with some files, and these are their models as readers read them that are true
 pub record HaveFiles (models : ModelSet) : Type 0 where
   pub files : List (List Declaration)
   pub readers : Readers
+  pub reads : AreTrue readers
   pub none : faults readers files ≡ []
   pub are : models ≡ models_of (modules_of files) readers
 

@@ -31,6 +31,7 @@ models_of-requires-clause-files c = λ models gives.
     record {
       files = ds;
       readers = readers;
+      reads = are;
       none = no_faults (faults readers ds) (sym c.in-None.is ∙ c.in_ok-fault.ensures readers are);
       are = gives readers are ∙ ap (λ (ms : List Module). models_of ms readers) c.requires.named;
     }
