@@ -1,5 +1,6 @@
 -- What is asked holds in the inputs: the models, the settings, and what the target makes of the stored configuration.
 use Rattle.std.proofs.Common.{◌≡◌, inl, inr, ℕ, List, [], ◌∷◌, ◌++◌, map, length, append_assoc, append-nil, nat_lt, Bool, true, false, if◌then◌else◌, refl, sym, ap, ◌∙◌, subst, Option, Some, None, Result, Ok, Err}
+use Rattle.std.specs.Prelude.{⊤}
 use Rattle.std.specs.FinMap.{get}
 use Rattle.host_core.specs.Answers.{◌>>=◌}
 use Rattle.host_core.specs.Inputs.{within}
@@ -67,7 +68,7 @@ listed_are s paths (inl never) = absurd never
 listed_are s paths (inr (bytes, found, e)) = (bytes, bytes_found list_path list_limit s bytes found, read_text list_path (paths_of bytes) paths e)
 
 -- the files at some paths have these bytes
-AreFilesAt : State → List (List ℕ) → List File → Type 0
+abbrev AreFilesAt : State → List (List ℕ) → List File → Type 0
 AreFilesAt s [] [] = ⊤
 AreFilesAt s (path ∷ paths) (file ∷ files) = (get s.inputs path ≡ Some file.1) × AreFilesAt s paths files
 AreFilesAt s paths files = ⊥
@@ -78,27 +79,26 @@ files_are found [] s files e = let same : found ≡ files = cc in ([], sym same 
 files_are found (path ∷ paths) s files (inl never) = absurd never
 files_are found (path ∷ paths) s files (inr (bytes, at, rest)) =
     let (more, e, are) = files_are (found ++ (path, bytes) ∷ []) paths s files rest in
-    ((path, bytes) ∷ more, e ∙ append_assoc found ((path, bytes) ∷ []) more, bytes_found path model_limit s bytes at, are)
+    ((path, bytes) ∷ more, e ∙ append_assoc found ((path, bytes) ∷ []) more, (bytes_found path model_limit s bytes at, are))
 
 -- the bytes of some files are read as the statements of some texts
-AreReadAs : List File → List Text → Type 0
+abbrev AreReadAs : List File → List Text → Type 0
 AreReadAs [] [] = ⊤
 AreReadAs (file ∷ files) (text ∷ texts) = (reading file.1 ≡ Ok text.1) × AreReadAs files texts
 AreReadAs files texts = ⊥
 
-mutual
-  texts_are : (before : List Text) (files : List File) (texts : List Text) → texts_in before files ≡ Ok texts
-      → (more : List Text) × (texts ≡ before ++ more) × AreReadAs files more
-  texts_are before [] texts e = let same : before ≡ texts = cc in ([], sym same ∙ sym (append-nil before), tt)
-  texts_are before (file ∷ files) texts e = next_text before file files texts (reading file.1) refl e
+read_next : {X Y : Type 0} (path : List ℕ) (r : Result X Fault) (next : X → Result Y Outcome) (y : Y) → (text_answer path r >>= next) ≡ Ok y
+    → (x : X) × (r ≡ Ok x) × (next x ≡ Ok y)
+read_next path (Ok x) next y e = (x, refl, e)
+read_next path (Err fault) next y e = absurd cc
 
-  next_text : (before : List Text) (file : File) (files : List File) (texts : List Text) (r : Result (List Declaration) Fault) → reading file.1 ≡ r
-      → (text_answer file.0 r >>= λ ds. texts_in (before ++ (file.0, ds) ∷ []) files) ≡ Ok texts
-      → (more : List Text) × (texts ≡ before ++ more) × AreReadAs (file ∷ files) more
-  next_text before file files texts (Ok ds) is e =
-      let (more, same, are) = texts_are (before ++ (file.0, ds) ∷ []) files texts e in
-      ((file.0, ds) ∷ more, same ∙ append_assoc before ((file.0, ds) ∷ []) more, is, are)
-  next_text before file files texts (Err fault) is e = absurd cc
+texts_are : (before : List Text) (files : List File) (texts : List Text) → texts_in before files ≡ Ok texts
+    → (more : List Text) × (texts ≡ before ++ more) × AreReadAs files more
+texts_are before [] texts e = let same : before ≡ texts = cc in ([], sym same ∙ sym (append-nil before), tt)
+texts_are before (file ∷ files) texts e =
+    let (ds, is, rest) = read_next file.0 (reading file.1) (λ ds. texts_in (before ++ (file.0, ds) ∷ []) files) texts e in
+    let (more, same, are) = texts_are (before ++ (file.0, ds) ∷ []) files texts rest in
+    ((file.0, ds) ∷ more, same ∙ append_assoc before ((file.0, ds) ∷ []) more, (is, are))
 
 hold_files : (s : State) (paths : List (List ℕ)) (files : List File) (texts : List Text) → AreFilesAt s paths files → AreReadAs files texts → HoldFiles s paths (statements_of texts)
 hold_files s [] [] [] at are = tt
@@ -115,12 +115,12 @@ models_in s models (inr (texts, inl never, are)) = absurd never
 models_in s models (inr (texts, inr (paths, listed, inl never), are)) = absurd never
 models_in s models (inr (texts, inr (paths, listed, inr (files, found, read)), are)) =
     let (at, same, there) = files_are [] paths s files found in
-    let (of, equal, as) = texts_are [] files texts read in
+    let (those, equal, alike) = texts_are [] files texts read in
     record {
       paths = paths;
       listed = listed_are s paths listed;
       files = statements_of texts;
-      hold = subst (λ ts. HoldFiles s paths (statements_of ts)) (sym equal) (hold_files s paths files of (subst (AreFilesAt s paths) (sym same) there) as);
+      hold = subst (λ ts. HoldFiles s paths (statements_of ts)) (sym equal) (hold_files s paths files those (subst (AreFilesAt s paths) (sym same) there) alike);
       are = λ readers true. (are readers true).1;
     }
 

@@ -50,24 +50,24 @@ use Rattle.gcu_engine.proofs.RightPlans.{IsAsked, asked_is, planning_is, right_p
 -- a plan is requested where one is to be printed
 pub plan_given : (from : Target) (budget : ℕ) (s : State) (r : Request) → (dry_run_asked from budget s).Gives (Ok r)
     → (p : Planning) × IsAsked from s p × (request.plan p ≡ r)
-pub plan_given from budget s r (inl never) = absurd never
-pub plan_given from budget s r (inr (x, named, inl never)) = absurd never
-pub plan_given from budget s r (inr (x, named, inr (p, given, e))) =
+plan_given from budget s r (inl never) = absurd never
+plan_given from budget s r (inr (x, named, inl never)) = absurd never
+plan_given from budget s r (inr (x, named, inr (p, given, e))) =
     let same : request.plan p ≡ r = cc in (p, subst (λ (t : Target). IsAsked t s p) (named_is from x named) (asked_is x budget s p given), same)
 
 -- a change is requested where one is to be done
 pub change_given : (from : Target) (budget : ℕ) (s : State) (r : Request) → (change_asked from budget s).Gives (Ok r)
     → (p : Planning) × IsAsked from s p × (request.change p ≡ r)
-pub change_given from budget s r (inl never) = absurd never
-pub change_given from budget s r (inr (x, named, inl never)) = absurd never
-pub change_given from budget s r (inr (x, named, inr (u, settles, inl never))) = absurd never
-pub change_given from budget s r (inr (x, named, inr (u, settles, inr (p, given, e)))) =
+change_given from budget s r (inl never) = absurd never
+change_given from budget s r (inr (x, named, inl never)) = absurd never
+change_given from budget s r (inr (x, named, inr (u, settles, inl never))) = absurd never
+change_given from budget s r (inr (x, named, inr (u, settles, inr (p, given, e)))) =
     let same : request.change p ≡ r = cc in (p, subst (λ (t : Target). IsAsked t s p) (named_is from x named) (asked_is x budget s p given), same)
 
 -- ---- each form
 
 -- what a form requests, where nothing stands against it
-pub IsRequestOf : Option Form → State → Request → Type 0
+abbrev pub IsRequestOf : Option Form → State → Request → Type 0
 IsRequestOf (Some (forms.plan from budget)) s r = (p : Planning) × IsAsked from s p × (request.plan p ≡ r)
 IsRequestOf (Some (forms.change from budget)) s r = (p : Planning) × IsAsked from s p × (request.change p ≡ r)
 IsRequestOf (Some (forms.demo seed ports)) s r =
@@ -118,9 +118,11 @@ save_given word s r (inr (name, named, inl never)) = absurd never
 save_given word s r (inr (name, named, inr (u, settles, inl never))) = absurd never
 save_given word s r (inr (name, named, inr (u, settles, inr (q, checks, inl never)))) = absurd never
 save_given word s r (inr (name, named, inr (u, settles, inr (q, checks, inr (start, there, e))))) =
-    let same = name_of (is_good_name word) word name named in
-    (start, stored_from (stored s.files) start there,
-    subst (λ (n : List ℕ). request.save_checkpoint n start ≡ r) (sym same) (saved_is name start (get (points s.files) name) r e))
+    let same = name_of (is_good_name word) word name named in (
+      start,
+      stored_from (stored s.files) start there,
+      subst (λ (n : List ℕ). request.save_checkpoint n start ≡ r) (sym same) (saved_is name start (get (points s.files) name) r e),
+    )
 
 delete_given : (word : List ℕ) (s : State) (r : Request) → (delete_asked word s).Gives (Ok r) → IsRequestOf (Some (forms.delete_checkpoint word)) s r
 delete_given word s r (inl never) = absurd never
