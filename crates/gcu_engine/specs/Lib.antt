@@ -1,6 +1,7 @@
 -- what public clauses cite
 pub mod Answers
 pub mod Changing
+pub mod Crashes
 pub mod Headline
 pub mod Plannings
 pub mod Summary
