@@ -9,8 +9,8 @@ ghost use Rattle.gcu_engine.specs.Answers.{HasCause};
 ghost use Rattle.gcu_engine.specs.Commands.{AnswersTo, CompleteTo, LeftTo};
 
 use crate::Outcome;
-use gcu_requests::judge_stored;
 use gcu_output::say;
+use gcu_requests::judge_stored;
 use host_core::Host;
 use std::alloc::Global;
 

@@ -14,8 +14,8 @@ ghost use Rattle.gcu_engine.specs.Summary.{counted, summary};
 
 use crate::Outcome;
 use crate::solving::find_plan;
-use gcu_requests::prepare_demo;
 use gcu_output::{print, say, say_memory};
+use gcu_requests::prepare_demo;
 use host_core::Host;
 use move_core::{Boxes, Kit, Plan};
 use plan_options::Demo;

@@ -20,8 +20,8 @@ ghost use Rattle.gcu_engine.specs.Commands.{AnswersTo, CompleteTo, IsReady, Leav
 use crate::Outcome;
 use checkpoints::{PointError, is_good_name, save};
 use conf_doc::Config;
-use gcu_requests::judge_stored;
 use gcu_output::tell;
+use gcu_requests::judge_stored;
 use host_core::{Host, Txt};
 use std::alloc::Global;
 

@@ -20,10 +20,10 @@ use crate::patch_goal::patch_goal;
 use checkpoints::is_good_name;
 use conf_doc::Config;
 use gcu_output::Outcome;
+use goal_checks::{difference_elsewhere, empty_table};
 use host_core::{Host, Txt};
 use move_core::Ctx;
 use plan_options::{Source, Target};
-use goal_checks::{difference_elsewhere, empty_table};
 use std::alloc::Global;
 
 /// Refuses a name that no checkpoint has, where the target is a checkpoint.
