@@ -20,8 +20,6 @@ use crate::list_checkpoints::list_checkpoints;
 use crate::save_checkpoint::save_checkpoint;
 use gcu_output::{say, show};
 use gcu_requests::{Form, asked_has_one_answer, preview, read_form};
-use gcu_output::{say, show};
-use gcu_requests::{Form, preview, read_form};
 use host_core::{Host, Txt};
 use move_core::{Boxes, Kit};
 use std::alloc::Global;
