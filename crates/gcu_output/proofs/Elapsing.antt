@@ -1,10 +1,7 @@
 -- How time goes on through one call of a host after another, and what a crash leaves meanwhile.
-use Rattle.std.proofs.Common.{◌≡◌, inl, inr, ⊎_elim, ℕ, List, Option, ◌∙◌, subst, arith}
-use Rattle.host_core.specs.Crashes.{Elapses, Left, MayLeaveInPrint, MayLeaveNow}
+use Rattle.std.proofs.Common.{◌≡◌, inl, inr, ⊎_elim, ℕ, Option, ◌∙◌, subst, arith}
+use Rattle.host_core.specs.Crashes.{Elapses, Left, MayLeaveNow}
 use Rattle.host_core.specs.State.{State}
-use Rattle.gcu_output.specs.Lines.{last_line}
-use Rattle.gcu_output.specs.Printing.{LeftInText}
-use Rattle.gcu_output.specs.declared.outcomes.Outcome.TheVariants.{Memory}
 
 module _ {H : Type 0} (moment : H → ℕ) (left_since : H → ℕ → Left → Type 0) where
   -- what may be left of these may be left of those
@@ -34,14 +31,3 @@ module _ {H : Type 0} (moment : H → ℕ) (left_since : H → ℕ → Left → 
       elapses_both old mid new (MayLeaveNow before)
       (subst (λ x. Elapses moment left_since old mid (MayLeaveNow x)) same first)
       (subst (λ x. Elapses moment left_since mid new (MayLeaveNow x)) (again ∙ same) second)
-
-  -- a text is printed
-  pub elapses_said : (old new : H) (text said : List ℕ) (before : Option State) → text ≡ said → Elapses moment left_since old new (MayLeaveInPrint text before)
-      → Elapses moment left_since old new (LeftInText said before)
-  elapses_said old new text said before same =
-      elapses_weaker old new _ _ (λ left h. inl (subst (λ (t : List ℕ). MayLeaveInPrint t before left) same h))
-
-  -- the last line of Memory is printed in its place
-  pub elapses_memory : (old new : H) (said : List ℕ) (before : Option State) → Elapses moment left_since old new (MayLeaveInPrint (last_line Memory) before)
-      → Elapses moment left_since old new (LeftInText said before)
-  elapses_memory old new said before = elapses_weaker old new _ _ (λ left h. inr h)
