@@ -7,7 +7,7 @@ use Rattle.conf_doc.proofs.Edits.{same_name, turned}
 use Rattle.yang_text.specs.Declarations.{Declaration}
 use Rattle.yang_scope.specs.Faults.{least_of}
 use Rattle.yang_scope.specs.declared.faults.Fault.{Fault}
-use Rattle.yang_model.specs.Answers.{AreModelsOf, IsLeastFaultOf, faults}
+use Rattle.yang_model.specs.Answers.{AreModelsOf, IsLeastFaultOf}
 use Rattle.yang_model.specs.ModelSets.{ModelSet}
 use Rattle.yang_model.specs.Readers.{AreTrue, Readers}
 use Rattle.conf_check.specs.declared.violations.Rule.{Rule}
@@ -16,20 +16,20 @@ use Rattle.goal_checks.specs.Targets.{AgreeAt, DifferAt, HasKeysAt, IsEmptyAt, I
 use Rattle.plan_options.specs.Targets.{Target, patched, replaced, rolled_back}
 use Rattle.gcu_output.specs.declared.outcomes.Outcome.{Outcome}
 use Rattle.gcu_output.specs.declared.outcomes.Outcome.TheVariants.{BadModels, CurrentInvalid, TargetInvalid, NoModel, EmptyTable}
-use Rattle.gcu_requests.specs.Asked.{asked, delete_asked, form_asked, list_asked, preview_asked, save_asked, target_asked}
+use Rattle.gcu_requests.specs.Asked.{delete_asked, form_asked, preview_asked, save_asked, target_asked}
 use Rattle.gcu_requests.specs.Asking.{Asking, IsRefused, Source, asks, follows, follows_by, settles_first, ◌>>>◌}
-use Rattle.gcu_requests.specs.ChangeAsked.{change_asked, settled_asked}
-use Rattle.gcu_requests.specs.Checking.{IsInvalidAs, IsJudged, check_asked}
+use Rattle.gcu_requests.specs.ChangeAsked.{change_asked}
+use Rattle.gcu_requests.specs.Checking.{IsJudged, check_asked}
 use Rattle.gcu_requests.specs.DemoAsked.{demo_asked, demo_planning_asked, generated_asked}
-use Rattle.gcu_requests.specs.FileAsked.{file_asked, file_limit}
+use Rattle.gcu_requests.specs.FileAsked.{file_limit}
 use Rattle.gcu_requests.specs.Form.{Form, form}
 use Rattle.gcu_requests.specs.Form as forms
 use Rattle.gcu_requests.specs.ModelFiles.{AreModels, File, IsModelRefusal, Text, bytes_asked, files_asked, list_limit, list_path, model_limit, models_asked, paths_asked, statements_of, texts_asked}
 use Rattle.gcu_requests.specs.OneAnswer.{AskedIsOne, HasOneAnswer}
 use Rattle.gcu_requests.specs.PatchAsked.{patch_asked}
-use Rattle.gcu_requests.specs.PlanAsked.{HasKeys, IsElsewhereAs, IsValidOr, dry_run_asked, goal_asked, judged_asked, made_asked, plan_asked, planning_asked, start_asked, target_answer}
-use Rattle.gcu_requests.specs.PointAsked.{held_asked, name_answer}
-use Rattle.gcu_requests.specs.Request.{Request, check}
+use Rattle.gcu_requests.specs.PlanAsked.{HasKeys, IsElsewhereAs, IsValidOr, dry_run_asked, goal_asked, judged_asked, made_asked, planning_asked, start_asked, target_answer}
+use Rattle.gcu_requests.specs.PointAsked.{name_answer}
+use Rattle.gcu_requests.specs.Request.{Request}
 use Rattle.gcu_requests.specs.RulesAsked.{ctx_asked, rules_limit, rules_path, settings_asked}
 use Rattle.gcu_requests.specs.StoredAsked.{stored_asked}
 use Rattle.gcu_requests.proofs.FirstBreaches.{invalid_one}
