@@ -1,1 +1,2 @@
+-- what only private clauses cite
 pub mod Obeying

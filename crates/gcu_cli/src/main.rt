@@ -1,5 +1,6 @@
 //! The program `gcu`: works on the configuration of a switch that stands in the working folder.
 #![tactic(auto)]
+
 ghost use Rattle.std.specs.Prelude.{◌≡◌, [], IfOk, OnErr, map, drop, string_bytes};
 ghost use Rattle.std.specs.Process.{exit_status};
 ghost use Rattle.std.specs.Vec.Iter.{into_iter_items};

@@ -1,6 +1,6 @@
 -- What a crash leaves at the moments of a command.
 use Rattle.std.proofs.Common.{◌≡◌, ◌≤◌, inl, inr, Bool, true, false, ℕ, List, [], ◌++◌, refl, ap, Option, Some, None, IfSome, sym, ◌∙◌, subst, append-nil}
-use Rattle.host_core.specs.Crashes.{Elapses, LeavesOnly, Left, MayLeave, MayLeaveInPrint, MayLeaveNow}
+use Rattle.host_core.specs.Crashes.{Elapses, LeavesOnly, Left, MayLeave, MayLeaveNow}
 use Rattle.host_core.specs.State.{State, printed}
 use Rattle.host_core.proofs.Runs.{begins, goes_on, weaker}
 use Rattle.plan_options.specs.Targets.{Target}

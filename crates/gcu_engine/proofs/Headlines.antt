@@ -10,7 +10,6 @@ use Rattle.conf_store.specs.Stored.{stored}
 use Rattle.checkpoints.specs.Points.{Held, points}
 use Rattle.move_core.specs.Operations.{plan_text}
 use Rattle.move_core.specs.Plans.{conf}
-use Rattle.move_core.specs.declared.moves.Move.{Move}
 use Rattle.change_apply.specs.Acknowledgements.{HasAcknowledged, ack, acks}
 use Rattle.change_apply.specs.Change.{Change, name_at, steps}
 use Rattle.change_apply.specs.Crashes.{StandAt}

@@ -83,8 +83,9 @@ LeftOfChange asking before left =
     ⊎ ((p : Planning) × (c : Change) × asking.Gives (Ok (change p)) × IsChangeFor p before c
     × LeftChanged c (begun c before) left × (points left.files ≡ points before.files))
 
--- ---- the command that words are
+-- ---- of words
 
+-- what a crash leaves of the command that words are
 abbrev pub LeftByForm : Option Form → State → Left → Type 0
 LeftByForm (Some (forms.change target budget)) before left =
     LeftOfChange (change_asked target budget before) before left

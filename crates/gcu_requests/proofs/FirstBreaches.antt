@@ -113,7 +113,7 @@ places_one models config b x y broken p q =
     let breaks : Breaks models config b.table b.key q.row b.rule b.field = subst (λ (r : Row). Breaks models config b.table b.key r b.rule b.field) own broken.breaks in
     let named : IsFieldOf models q.row b.rule b.field p.field = subst (λ (r : Row). IsFieldOf models r b.rule b.field p.field) rows p.named in
     let fields : p.field ≡ q.field =
-        fields_one models q.row b.rule b.field p.field q.field (λ missing. the_shape models config b.table b.key q.row b.rule b.field missing breaks) named q.named in
+    fields_one models q.row b.rule b.field p.field q.field (λ missing. the_shape models config b.table b.key q.row b.rule b.field missing breaks) named q.named in
     p.pointer ∙ (λ i. pointer ((rows i).table ∷ (rows i).key ∷ fields i)) ∙ sym q.pointer
 
 -- the first violation is told by one answer

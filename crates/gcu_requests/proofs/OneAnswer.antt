@@ -184,7 +184,7 @@ module _ (one : (files : List (List Declaration)) (a b : ModelSet) → AreModels
   refusal_one texts e f p q =
       let same : p.fault ≡ q.fault = same_some p.fault q.fault (sym (p.least some.0 some.1) ∙ q.least some.0 some.1) in
       let at : slice_get (map (λ (t : Text). t.0) texts) q.fault.file ≡ Some p.path =
-          subst (λ (x : Fault). slice_get (map (λ (t : Text). t.0) texts) x.file ≡ Some p.path) same p.at in
+      subst (λ (x : Fault). slice_get (map (λ (t : Text). t.0) texts) x.file ≡ Some p.path) same p.at in
       let paths : p.path ≡ q.path = same_some p.path q.path (sym at ∙ q.at) in
       p.told ∙ (λ i. BadModels (paths i) (same i).line (same i).why) ∙ sym q.told
 

@@ -1,4 +1,4 @@
-use Rattle.std.proofs.Common.{None, Some, inl, sym, ◌++◌}
+use Rattle.std.proofs.Common.{None, Some, sym, ◌++◌}
 use Rattle.conf_doc.specs.Trees.{document}
 use Rattle.gcu_output.specs.Lines.{last_line}
 use Rattle.gcu_output.specs.Printing.{text_in_lines}
