@@ -1,32 +1,19 @@
 -- What a form requests, where nothing stands against it.
-use Rattle.std.proofs.Common.{◌≡◌, ◌≢◌, ◌≤◌, ◌<◌, ◌⊎◌, inl, inr, ℕ, zero, suc, ◌+◌, List, [], ◌∷◌, ◌++◌, length, append-nil, append_assoc, length-append, refl, sym, ap, ◌∙◌, subst, arith, Bool, true, false, if◌then◌else◌, Option, Some, None, Result, Ok, Err, IfSome, ⊎_elim}
+use Rattle.std.proofs.Common.{◌≡◌, inl, inr, ℕ, List, refl, sym, subst, Bool, true, false, if◌then◌else◌, Option, Some, None, Result, Ok, Err}
 use Rattle.std.specs.FinMap.{get, keys}
 use Rattle.host_core.specs.Answers.{map_ok}
-use Rattle.host_core.specs.Counts.{Counts}
-use Rattle.host_core.specs.Crashes.{Image, Left, LeavesOnly, MayLeave}
 use Rattle.host_core.specs.State.{State, printed}
 use Rattle.conf_doc.specs.declared.configuration.Config.{Config}
-use Rattle.conf_store.specs.Changes.{IsSettled}
 use Rattle.conf_store.specs.Stored.{stored}
 use Rattle.checkpoints.specs.Names.{is_good_name}
 use Rattle.checkpoints.specs.Points.{Held, points}
-use Rattle.move_core.specs.Operations.{plan_text}
-use Rattle.move_core.specs.Plans.{conf}
 use Rattle.move_core.specs.declared.contexts.Ctx.{Ctx}
-use Rattle.move_core.specs.declared.moves.Move.{Move}
-use Rattle.change_apply.specs.Acknowledgements.{HasAcknowledged, ack, acks}
-use Rattle.change_apply.specs.Change.{Change, steps}
-use Rattle.change_apply.specs.Crashes.{StandAt}
-use Rattle.change_apply.specs.Ends.{IsStopped}
-use Rattle.change_apply.specs.declared.ready.Restart.{Restart}
 use Rattle.gcu_demo.specs.Demo as generated
 use Rattle.plan_options.specs.Options.{default_budget}
 use Rattle.plan_options.specs.Targets.{Target}
-use Rattle.gcu_output.specs.Lines.{last_line}
 use Rattle.gcu_output.specs.declared.outcomes.Outcome.{Outcome}
-use Rattle.gcu_output.specs.declared.outcomes.Outcome.TheVariants.{Done, Memory, InputFault, DiskFault, PrintFault, ServiceFault, Unorderable, Budget, BadName}
+use Rattle.gcu_output.specs.declared.outcomes.Outcome.TheVariants.{BadName}
 use Rattle.gcu_requests.specs.Asked.{absent_answer, delete_asked, form_asked, preview_asked, save_asked, there_answer}
-use Rattle.gcu_requests.specs.Asking.{Asking}
 use Rattle.gcu_requests.specs.ChangeAsked.{change_asked}
 use Rattle.gcu_requests.specs.Checking.{check_asked}
 use Rattle.gcu_requests.specs.DemoAsked.{demo_asked, generated_asked}
@@ -35,15 +22,10 @@ use Rattle.gcu_requests.specs.Form as forms
 use Rattle.gcu_requests.specs.PlanAsked.{dry_run_asked}
 use Rattle.gcu_requests.specs.Request as request
 use Rattle.gcu_requests.specs.Request.{Planning, Request}
-use Rattle.gcu_engine.specs.Answers.{Answers, IsDoneOutput, IsUntouched, Leaves, LeavesDone, LeavesStopped, LeftByForm, LeftDoing, LeftMeanwhile, LeftOf, Prints, Says}
-use Rattle.gcu_engine.specs.Changing.{IsChangeFor, IsFirstText, IsLastLine, LeftChanged, LeftEarly, LeftOfChange, begun}
 use Rattle.gcu_engine.specs.Contents.{IsContextIn}
-use Rattle.gcu_engine.specs.Headline.{HasNoOrder, HasWholePoints, IsBefore, IsHeadline, IsLastOrNext, IsOneChange, IsPlanOutput, IsRightPlan, PrintsPlan, StandsAfter, StoresTarget, target_in}
-use Rattle.gcu_engine.specs.Plannings.{IsUnsolved}
-use Rattle.gcu_engine.proofs.Changes.{some_is}
 use Rattle.gcu_engine.proofs.Naming.{named_is}
 use Rattle.gcu_engine.proofs.Contents.{context_in}
-use Rattle.gcu_engine.proofs.RightPlans.{IsAsked, asked_is, planning_is, right_plan, stored_from, way_last}
+use Rattle.gcu_engine.proofs.RightPlans.{IsAsked, asked_is, planning_is, stored_from}
 
 -- ---- a plan
 

@@ -2,6 +2,7 @@
 pub mod Answers
 pub mod Changing
 pub mod Contents
+pub mod Crashes
 pub mod Headline
 pub mod Plannings
 pub mod Summary
