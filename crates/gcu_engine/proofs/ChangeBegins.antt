@@ -7,7 +7,7 @@ use Rattle.host_core.proofs.Runs as runs
 use Rattle.move_core.specs.Operations.{plan_text}
 use Rattle.change_apply.specs.Change.{Change}
 use Rattle.gcu_output.specs.declared.outcomes.Outcome.{Outcome}
-use Rattle.gcu_engine.specs.Changing.{LeftChanged}
+use Rattle.gcu_engine.specs.Crashes.{LeftChanged}
 use Rattle.gcu_engine.specs.Doing.{EndsChange, EndsWork, LeftDoing}
 use Rattle.gcu_engine.proofs.Changes.{work_since}
 

@@ -15,8 +15,9 @@ use Rattle.gcu_output.specs.declared.outcomes.Outcome.{Outcome}
 use Rattle.gcu_output.specs.declared.outcomes.Outcome.TheVariants.{Done, DiskFault, PrintFault, ServiceFault}
 use Rattle.gcu_engine.specs.FaultLines.{found, line_at, service_lines_at}
 use Rattle.gcu_engine.specs.Answers.{HasCause}
-use Rattle.gcu_engine.specs.Changing.{IsLastLine, LeftChanged}
-use Rattle.gcu_engine.specs.Doing.{EndsWork, HasBytes, IsEnded, IsLast, acknowledged}
+use Rattle.gcu_engine.specs.Changing.{IsLast, IsLastLine, acknowledged}
+use Rattle.gcu_engine.specs.Crashes.{LeftChanged}
+use Rattle.gcu_engine.specs.Doing.{EndsWork, HasBytes, IsEnded}
 use Rattle.gcu_engine.specs.declared.change.ReadyChange.{ReadyChange}
 use Rattle.gcu_engine.proofs.FaultTexts.{disk_there, service_there}
 use Rattle.gcu_engine.proofs.Changes.{last_output}
@@ -102,7 +103,7 @@ service_printed old mid new rises h = subst (λ (n : ℕ). Rose old.service n) (
 -- ---- what a crash leaves
 
 -- the last line of an answer
-is_last_line : (c : Change) (began now : State) (answer : Outcome) (text : List ℕ) → IsLast c began now answer text → IsLastLine text
+pub is_last_line : (c : Change) (began now : State) (answer : Outcome) (text : List ℕ) → IsLast c began now answer text → IsLastLine text
 is_last_line c began now Done text h = inl (Done, h.1)
 is_last_line c began now (DiskFault k) text h = inl (DiskFault k, h.1)
 is_last_line c began now (ServiceFault k service) text h = inr (k, service, h.0.refused.name, h.1)
@@ -120,10 +121,11 @@ module _ {H : Type 0} (moment : H → ℕ) (left_since : H → ℕ → Left → 
       let k = acknowledged c answer in
       let so_many : now.output ≡ began.output ++ acks k = last_output c began now answer text last in
       inr (record {
-        acked = k;
+        now = now;
+        answer = answer;
         part = h.0;
         rest = h.1;
-        line = subst IsLastLine h.2 (is_last_line c began now answer text last);
+        line = subst (λ (t : List ℕ). IsLast c began now answer t) h.2 last;
         output = h.3.output ∙ ap (λ (o : List ℕ). o ++ h.0) so_many;
         is = so_far.each (record left { output = began.output ++ acks k })
             (here (record left { output = began.output ++ acks k }) so_far.later

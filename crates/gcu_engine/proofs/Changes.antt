@@ -28,15 +28,17 @@ use Rattle.gcu_requests.specs.RulesAsked.{settings_asked}
 use Rattle.gcu_requests.specs.declared.planning.Planning as code
 use Rattle.gcu_engine.specs.FaultLines.{AreNamed}
 use Rattle.gcu_engine.specs.Answers.{HasCause, Leaves, Prints, Says}
-use Rattle.gcu_engine.specs.Changing.{AreAcknowledged, IsChangeFor, LeftChanged, LeftOfChange, begun}
+use Rattle.gcu_engine.specs.Changing.{AreAcknowledged, IsChangeFor, IsLast, acknowledged, begun}
 use Rattle.gcu_engine.specs.Commands.{AnswersTo}
-use Rattle.gcu_engine.specs.Doing.{EndsChange, EndsWork, IsCutInLast, IsCutInStep, IsLast, IsMissed, IsReadyIn, IsTold, LeftDoing, LeftToChange, acknowledged, change_by}
+use Rattle.gcu_engine.specs.Crashes.{LeftChanged, LeftOfChange}
+use Rattle.gcu_engine.specs.Doing.{EndsChange, EndsWork, IsCutInLast, IsCutInStep, IsMissed, IsReadyIn, IsTold, LeftDoing, LeftToChange, change_by}
 use Rattle.gcu_engine.specs.PlanCommands.{IsSolved, RefusesOrEnds}
 use Rattle.gcu_engine.specs.Plannings.{IsPlanFor}
 use Rattle.gcu_engine.specs.declared.change.ReadyChange.{ReadyChange}
 use Rattle.gcu_engine.proofs.FaultTexts.{all_named}
 use Rattle.gcu_engine.proofs.Answering.{says_prints}
 use Rattle.gcu_engine.proofs.Causes.{rose_from}
+use Rattle.gcu_engine.proofs.Elapsing.{no_front, with_none}
 use Rattle.gcu_engine.proofs.Savings.{models_settled}
 use Rattle.gcu_engine.proofs.Writing.{as_is}
 
@@ -238,14 +240,14 @@ doing_left from budget law (Some s) told ready in_it is left h = by (subst (λ t
 
     by : LeftDoing ready.ready (with_pending settled s) left → LeftOfChange (settled_asked from budget s) s left
     by (inl h) =
-        inl (h.0, h.1, inr (in_it.0, ready.ready, given, in_it.2, sym h.2), part_left s h.0 left h.3)
+        inl (h.0, inr (in_it.0, ready.ready, h.1, given, in_it.2, h.2), part_left s h.0 left h.3)
     by (inr h) = inr (in_it.0, ready.ready, given, in_it.2, h, kept_points ready.ready s left law h)
 
 -- nothing is printed yet
 pub early_left : (asking : State → Asking Request) (o : Option State) (left : Left) → MayLeaveNow o left → LeftToChange asking o left
 early_left asking None left may = tt
 early_left asking (Some s) left may =
-    inl ([], last_line Done, inl (Done, refl), record { files = may.files; output = may.output ∙ sym (append-nil s.output); restarts = may.restarts })
+    inl ([], inl (no_front (asking s) s), with_none s left may)
 
 -- nothing is printed yet, and all is settled
 pub settled_early : (asking : State → Asking Request) (o told : Option State) → told ≡ option_map (with_pending settled) o → (left : Left) → MayLeaveNow told left
@@ -253,4 +255,4 @@ pub settled_early : (asking : State → Asking Request) (o told : Option State) 
 settled_early asking None told is left may = tt
 settled_early asking (Some s) told is left may =
     let now : MayLeave (with_pending settled s) left = subst (λ t. MayLeaveNow t left) is may in
-    inl ([], last_line Done, inl (Done, refl), part_left s [] left (record { files = now.files; output = now.output ∙ sym (append-nil s.output); restarts = now.restarts }))
+    inl ([], inl (no_front (asking s) s), part_left s [] left (with_none (with_pending settled s) left now))

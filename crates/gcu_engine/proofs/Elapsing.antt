@@ -1,59 +1,91 @@
 -- What a crash leaves at the moments of a command.
-use Rattle.std.proofs.Common.{◌≡◌, ◌≤◌, inl, inr, ℕ, List, [], ◌++◌, ap, append_assoc, Option, Some, None, sym, ◌∙◌, subst, append-nil}
+use Rattle.std.proofs.Common.{◌≡◌, ◌≤◌, inl, inr, Bool, true, false, ℕ, List, [], ◌++◌, refl, ap, Option, Some, None, IfSome, sym, ◌∙◌, subst, append-nil}
 use Rattle.host_core.specs.Crashes.{Elapses, LeavesOnly, Left, MayLeave, MayLeaveNow}
 use Rattle.host_core.specs.State.{State, printed}
 use Rattle.host_core.proofs.Runs.{begins, goes_on, weaker}
 use Rattle.plan_options.specs.Targets.{Target}
-use Rattle.gcu_output.specs.Printing.{LeftWithOutput}
-use Rattle.gcu_requests.specs.Asked.{form_asked}
+use Rattle.gcu_output.specs.Lines.{last_line}
+use Rattle.gcu_output.specs.Printing.{LeftInText, LeftInTold, may_have_written}
+use Rattle.gcu_output.specs.declared.outcomes.Outcome.{Outcome}
+use Rattle.gcu_output.specs.declared.outcomes.Outcome.TheVariants.{Memory}
+use Rattle.gcu_requests.specs.Asked.{asked, form_asked}
 use Rattle.gcu_requests.specs.Asking.{Asking}
 use Rattle.gcu_requests.specs.ChangeAsked.{change_asked}
 use Rattle.gcu_requests.specs.Form.{Form, change, form}
 use Rattle.gcu_requests.specs.Request as request
 use Rattle.gcu_requests.specs.Request.{Request}
-use Rattle.gcu_engine.specs.Answers.{LeftByForm, LeftDoing, LeftMeanwhile, LeftOf}
-use Rattle.gcu_engine.specs.Commands.{LeftTo, TellsOn}
+use Rattle.gcu_engine.specs.Answers.{Says}
+use Rattle.gcu_engine.specs.Commands.{IsReady, LeftTo}
+use Rattle.gcu_engine.specs.Crashes.{IsOutputFront, LeftBy, LeftByForm, LeftMeanwhile, LeftOf, LeftWriting}
 use Rattle.gcu_engine.specs.Doing.{LeftToChange}
-use Rattle.gcu_output.proofs.Elapsing.{elapses_both, elapses_weaker}
 
--- with no output yet
-pub now_with_output : (before : Option State) (left : Left) → MayLeaveNow before left → LeftWithOutput before left
-now_with_output None left h = ([], tt)
-now_with_output (Some s) left h =
-    ([], record { files = h.files; output = h.output ∙ sym (append-nil s.output); restarts = h.restarts })
+-- ---- fronts of what is printed
+
+-- nothing, while want of memory may still be told
+pub no_front : (asking : Asking Request) (s : State) → IsOutputFront asking s []
+no_front asking s = (s, Memory, last_line Memory, (inl refl, refl), refl)
+
+-- a front of a text that is said
+pub said_front : (asking : Asking Request) (s now : State) (answer : Outcome) (text part rest : List ℕ) → Says asking s now answer text → now.output ≡ s.output → text ≡ part ++ rest
+    → IsOutputFront asking s part
+said_front asking s now answer text part rest says same is = (now, answer, rest, subst (λ (t : List ℕ). Says asking s now answer t) is says, same)
+
+-- a front of the line of Memory
+pub memory_front : (asking : Asking Request) (s : State) (part rest : List ℕ) → last_line Memory ≡ part ++ rest → IsOutputFront asking s part
+memory_front asking s part rest is = said_front asking s s Memory (last_line Memory) part rest (inl refl, refl) refl is
+
+-- ---- what is left with one
+
+-- what is there, with no output yet
+pub with_none : (s : State) (left : Left) → MayLeave s left → MayLeave (printed [] s) left
+with_none s left h = record { files = h.files; output = h.output ∙ sym (append-nil s.output); restarts = h.restarts }
 
 -- so may what a question may leave
-pub left_to : (asking : State → Asking Request) (before : Option State) (left : Left) → LeftWithOutput before left → LeftTo asking before left
-left_to asking None left h = tt
-left_to asking (Some s) left h = inl h
+pub left_here : (asking : State → Asking Request) (before : Option State) (left : Left) → MayLeaveNow before left → LeftTo asking before left
+left_here asking None left h = tt
+left_here asking (Some s) left h = ([], no_front (asking s) s, inl (with_none s left h))
 
--- a request that writes may leave it with more output too
-doing_on : (r : Request) (s : State) (left : Left) (base part : List ℕ) → LeftDoing r s (record left { output = base })
-    → left.output ≡ base ++ part → LeftDoing r s left
-doing_on (request.delete_checkpoint name) s left base part h e =
-    record { files = h.files; part = h.part ++ part; output = e ∙ ap (λ (o : List ℕ). o ++ part) h.output ∙ append_assoc s.output h.part part; restarts = h.restarts }
-doing_on (request.save_checkpoint name config) s left base part h e =
-    record { files = h.files; part = h.part ++ part; output = e ∙ ap (λ (o : List ℕ). o ++ part) h.output ∙ append_assoc s.output h.part part; restarts = h.restarts }
-doing_on other s left base part never e = absurd never
+-- what may be left while a text is printed that is said
+said_left : (asking : State → Asking Request) (before : Option State) (answer : Outcome) (text : List ℕ) → IfSome before (λ s. Says (asking s) s s answer text)
+    → (left : Left) → LeftInText text before left → LeftTo asking before left
+said_left asking None answer text says left h = tt
+said_left asking (Some s) answer text says left (inl (part, rest, is, may)) = (part, said_front (asking s) s s answer text part rest says refl is, inl may)
+said_left asking (Some s) answer text says left (inr (part, rest, is, may)) = (part, memory_front (asking s) s part rest is, inl may)
 
--- with more output it may be left too
-front_on : (asking : Asking Request) (s : State) (left : Left) (base part : List ℕ) → LeftOf asking s (record left { output = base })
-    → left.output ≡ base ++ part → LeftOf asking s left
-front_on asking s left base part (inl h) e =
-    inl (h.0 ++ part, record { files = h.1.files; output = e ∙ ap (λ (o : List ℕ). o ++ part) h.1.output ∙ append_assoc s.output h.0 part; restarts = h.1.restarts })
-front_on asking s left base part (inr (r, given, h)) e = inr (r, given, doing_on r s left base part h e)
+-- a request that writes may leave it with another output
+writing_on : (r : Request) (s : State) (left : Left) (base p q : List ℕ) → LeftWriting r (printed p s) (record left { output = base })
+    → left.output ≡ s.output ++ q → LeftWriting r (printed q s) left
+writing_on (request.delete_checkpoint name) s left base p q h e = record { files = h.files; output = e; restarts = h.restarts }
+writing_on (request.save_checkpoint name config) s left base p q h e = record { files = h.files; output = e; restarts = h.restarts }
+writing_on other s left base p q never e = absurd never
 
--- what a question may leave when some of its command is done, with a front of what is then printed
-printed_left : (asking : State → Asking Request) (before now : Option State) → TellsOn before now
-    → ((left : Left) → MayLeaveNow now left → LeftTo asking before left) → (left : Left) → LeftWithOutput now left → LeftTo asking before left
-printed_left asking None now tells may left h = tt
-printed_left asking (Some s) now tells may left h =
-    let t = tells.0 in
-    let part : (part : List ℕ) × MayLeave (printed part t) left = subst (λ o. LeftWithOutput o left) tells.1 h in
-    let so_far : LeftOf (asking s) s (record left { output = t.output }) =
-    may (record left { output = t.output }) (subst (λ o. MayLeaveNow o (record left { output = t.output })) (sym tells.1)
-    (record { files = part.1.files; output = λ i. t.output; restarts = part.1.restarts })) in
-    front_on (asking s) s left t.output part.0 so_far part.1.output
+left_on : (asking : Asking Request) (s : State) (left : Left) (base p q : List ℕ) → LeftBy asking (printed p s) (record left { output = base })
+    → left.output ≡ s.output ++ q → LeftBy asking (printed q s) left
+left_on asking s left base p q (inl h) e = inl (record { files = h.files; output = e; restarts = h.restarts })
+left_on asking s left base p q (inr (r, given, h)) e = inr (r, given, writing_on r s left base p q h e)
+
+-- what may be left while a text is printed once some of it is done, with a front of that text
+printed_on : (asking : Asking Request) (s now : State) (part : List ℕ) (left : Left) → now.output ≡ s.output → IsOutputFront asking s part
+    → ((left : Left) → MayLeave now left → LeftOf asking s left) → MayLeave (printed part now) left → LeftOf asking s left
+printed_on asking s now part left same front so_far may =
+    let before = so_far (record left { output = now.output }) (record { files = may.files; output = λ i. now.output; restarts = may.restarts }) in
+    (part, front, left_on asking s left now.output before.0 part before.2 (may.output ∙ ap (λ (o : List ℕ). o ++ part) same))
+
+told_left : (asking : State → Asking Request) (before now : Option State) (out : Outcome) (written : Bool) → IsReady asking before now out
+    → ((left : Left) → MayLeaveNow now left → LeftTo asking before left) → (left : Left) → LeftInTold written out now left → LeftTo asking before left
+told_left asking None now out written ready so_far left h = tt
+told_left asking (Some s) now out written (t, is, says, same) so_far left h =
+    by written (subst (λ (o : Option State). LeftInTold written out o left) is h)
+  where
+    here : (l : Left) → MayLeave t l → LeftOf (asking s) s l
+    here l may = so_far l (subst (λ (o : Option State). MayLeaveNow o l) (sym is) may)
+
+    by : (w : Bool) → LeftInTold w out (Some t) left → LeftOf (asking s) s left
+    by true (part, rest, e, may) = printed_on (asking s) s t part left same (said_front (asking s) s t out (last_line out) part rest says same e) here may
+    by false (inl (part, rest, e, may)) = printed_on (asking s) s t part left same (said_front (asking s) s t out (last_line out) part rest says same e) here may
+    by false (inr (part, rest, e, may)) = printed_on (asking s) s t part left same (memory_front (asking s) s part rest e) here may
+
+-- ---- of the words
 
 -- what a command may leave may be left by words that are that command
 left_by : (P : Option State → Left → Type 0) (words : List (List ℕ)) (f : Option Form) (before : Option State) (left : Left) → f ≡ form words
@@ -62,29 +94,41 @@ left_by P words f None left is gives h = tt
 left_by P words f (Some s) left is gives h = subst (λ g. LeftByForm g s left) is (gives s h)
 
 module _ {H : Type 0} (moment : H → ℕ) (left_since : H → ℕ → Left → Type 0) where
-  -- a question whose command prints alone, once it has read what it needs
-  pub asking_leaves_behind : (asking : State → Asking Request) (old mid new : H) (before told : Option State) → told ≡ before
-      → ((left : Left) → left_since old (moment old) left → MayLeaveNow before left)
-      → Elapses moment left_since old mid (MayLeaveNow before) → Elapses moment left_since mid new (LeftWithOutput told)
+  -- nothing is called yet
+  pub asking_begins : (asking : State → Asking Request) (o : Option State) (old : H) → ((left : Left) → left_since old (moment old) left → MayLeaveNow o left)
+      → LeavesOnly moment left_since old old (LeftTo asking o)
+  asking_begins asking o old now = begins moment left_since old (LeftTo asking o) (λ left since. left_here asking o left (now left since))
+
+  -- a question whose command prints alone
+  pub asking_says : (asking : State → Asking Request) (old mid new : H) (before told : Option State) (answer : Outcome) (text : List ℕ) → told ≡ before
+      → IfSome before (λ s. Says (asking s) s s answer text)
+      → LeavesOnly moment left_since old mid (LeftTo asking before) → Elapses moment left_since mid new (LeftInText text told)
       → LeavesOnly moment left_since old new (LeftTo asking before)
-  asking_leaves_behind asking old mid new before told same only first second =
-      goes_on moment left_since old old new (LeftTo asking before) (LeftWithOutput before)
-      (begins moment left_since old (LeftTo asking before)
-      (λ left since. left_to asking before left (now_with_output before left (only left since))))
-      (elapses_both moment left_since old mid new (LeftWithOutput before)
-      (elapses_weaker moment left_since old mid _ _ (now_with_output before) first)
-      (subst (λ x. Elapses moment left_since mid new (LeftWithOutput x)) same second))
-      (left_to asking before)
+  asking_says asking old mid new before told answer text same says so_far time =
+      goes_on moment left_since old mid new (LeftTo asking before) (LeftInText text before) so_far
+      (subst (λ (x : Option State). Elapses moment left_since mid new (LeftInText text x)) same time)
+      (said_left asking before answer text says)
+
+  -- a question whose command prints alone, once it has read what it needs
+  pub asking_leaves_behind : (asking : State → Asking Request) (old mid new : H) (before told : Option State) (answer : Outcome) (text : List ℕ) → told ≡ before
+      → IfSome before (λ s. Says (asking s) s s answer text)
+      → ((left : Left) → left_since old (moment old) left → MayLeaveNow before left)
+      → Elapses moment left_since old mid (MayLeaveNow before) → Elapses moment left_since mid new (LeftInText text told)
+      → LeavesOnly moment left_since old new (LeftTo asking before)
+  asking_leaves_behind asking old mid new before told answer text same says only first second =
+      asking_says asking old mid new before told answer text same says
+      (goes_on moment left_since old old mid (LeftTo asking before) (MayLeaveNow before) (asking_begins asking before old only) first (left_here asking before))
+      second
 
   -- a question whose command prints after some of it was done
-  pub asking_prints : (asking : State → Asking Request) (old mid new : H) (before now : Option State) → TellsOn before now
+  pub asking_prints : (asking : State → Asking Request) (old mid new : H) (before now : Option State) (out : Outcome) → IsReady asking before now out
       → LeavesOnly moment left_since old mid (LeftTo asking before)
       → ((left : Left) → moment old ≤ moment mid → MayLeaveNow now left → left_since mid (moment old) left)
-      → Elapses moment left_since mid new (LeftWithOutput now)
+      → Elapses moment left_since mid new (LeftInTold (may_have_written out) out now)
       → LeavesOnly moment left_since old new (LeftTo asking before)
-  asking_prints asking old mid new before now tells so_far here time =
-      goes_on moment left_since old mid new (LeftTo asking before) (LeftWithOutput now) so_far time
-      (printed_left asking before now tells (λ left may. so_far.each left (here left so_far.later may)))
+  asking_prints asking old mid new before now out ready so_far here time =
+      goes_on moment left_since old mid new (LeftTo asking before) (LeftInTold (may_have_written out) out now) so_far time
+      (told_left asking before now out (may_have_written out) ready (λ left may. so_far.each left (here left so_far.later may)))
 
   -- what may be left at a command's moments may be left at those of the words that it is
   pub leaves_by : (words : List (List ℕ)) (f : Option Form) (old new : H) (before : Option State) → f ≡ form words
@@ -101,25 +145,25 @@ module _ {H : Type 0} (moment : H → ℕ) (left_since : H → ℕ → Left → 
       weaker moment left_since old new (LeftToChange (change_asked from budget) before) (LeftMeanwhile words before)
       (λ left h. left_by (LeftToChange (change_asked from budget)) words (Some (change from budget)) before left is (λ s changed. changed) h) run
 
-  -- a command that prints alone
-  pub command_leaves : (words : List (List ℕ)) (f : Option Form) (old new : H) (before : Option State) → f ≡ form words
-      → ((s : State) (left : Left) → LeftWithOutput (Some s) left → LeftByForm f s left)
+  -- words whose command prints alone
+  pub command_leaves : (words : List (List ℕ)) (f : Option Form) (old new : H) (before : Option State) (answer : Outcome) (text : List ℕ) → f ≡ form words
+      → ((s : State) (left : Left) → LeftOf (form_asked f s) s left → LeftByForm f s left)
+      → IfSome before (λ s. Says (asked words s) s s answer text)
       → ((left : Left) → left_since old (moment old) left → MayLeaveNow before left)
-      → Elapses moment left_since old new (LeftWithOutput before) → LeavesOnly moment left_since old new (LeftMeanwhile words before)
-  command_leaves words f old new before is gives only time =
-      goes_on moment left_since old old new (LeftMeanwhile words before) (LeftWithOutput before)
-      (begins moment left_since old (LeftMeanwhile words before)
-      (λ left since. left_by LeftWithOutput words f before left is (λ s. gives s left) (now_with_output before left (only left since))))
-      time (λ left. left_by LeftWithOutput words f before left is (λ s. gives s left))
+      → Elapses moment left_since old new (LeftInText text before) → LeavesOnly moment left_since old new (LeftMeanwhile words before)
+  command_leaves words f old new before answer text is gives says only time =
+      leaves_by words f old new before is gives
+      (subst (λ (g : Option Form). LeavesOnly moment left_since old new (LeftTo (λ s. form_asked g s) before)) (sym is)
+      (asking_says (asked words) old old new before before answer text refl says (asking_begins (asked words) before old only) time))
 
-  -- a command that prints alone, once it has read what it needs
-  pub command_leaves_behind : (words : List (List ℕ)) (f : Option Form) (old mid new : H) (before told : Option State) → f ≡ form words
-      → ((s : State) (left : Left) → LeftWithOutput (Some s) left → LeftByForm f s left) → told ≡ before
+  -- once it has read what it needs
+  pub command_leaves_behind : (words : List (List ℕ)) (f : Option Form) (old mid new : H) (before told : Option State) (answer : Outcome) (text : List ℕ) → f ≡ form words
+      → ((s : State) (left : Left) → LeftOf (form_asked f s) s left → LeftByForm f s left)
+      → IfSome before (λ s. Says (asked words s) s s answer text) → told ≡ before
       → ((left : Left) → left_since old (moment old) left → MayLeaveNow before left)
-      → Elapses moment left_since old mid (MayLeaveNow before) → Elapses moment left_since mid new (LeftWithOutput told)
+      → Elapses moment left_since old mid (MayLeaveNow before) → Elapses moment left_since mid new (LeftInText text told)
       → LeavesOnly moment left_since old new (LeftMeanwhile words before)
-  command_leaves_behind words f old mid new before told is gives same only first second =
-      command_leaves words f old new before is gives only
-      (elapses_both moment left_since old mid new (LeftWithOutput before)
-      (elapses_weaker moment left_since old mid _ _ (now_with_output before) first)
-      (subst (λ x. Elapses moment left_since mid new (LeftWithOutput x)) same second))
+  command_leaves_behind words f old mid new before told answer text is gives says same only first second =
+      leaves_by words f old new before is gives
+      (subst (λ (g : Option Form). LeavesOnly moment left_since old new (LeftTo (λ s. form_asked g s) before)) (sym is)
+      (asking_leaves_behind (asked words) old mid new before told answer text same says only first second))

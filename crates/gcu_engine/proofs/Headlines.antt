@@ -1,21 +1,21 @@
 -- The promise of the whole program follows from what it answers and what a crash leaves.
-use Rattle.std.proofs.Common.{◌≡◌, ◌≢◌, ◌≤◌, ◌<◌, ◌⊎◌, inl, inr, ℕ, zero, suc, ◌+◌, List, [], ◌∷◌, ◌++◌, length, append-nil, append_assoc, length-append, refl, sym, ap, ◌∙◌, subst, arith, Option, Some, None, Ok, IfSome, ⊎_elim}
+use Rattle.std.proofs.Common.{◌≡◌, ◌≢◌, ◌≤◌, ◌<◌, ◌⊎◌, inl, inr, ℕ, zero, suc, ◌+◌, List, [], ◌∷◌, ◌++◌, length, append-nil, append_assoc, length-append, refl, sym, ap, ◌∙◌, subst, arith, Option, Some, None, Ok, Err, IfSome, ⊎_elim}
 use Rattle.host_core.specs.Counts.{Counts}
 use Rattle.host_core.specs.Crashes.{Image, Left, LeavesOnly, MayLeave}
 use Rattle.host_core.specs.State.{State, printed}
 use Rattle.conf_doc.specs.declared.configuration.Config.{Config}
 use Rattle.conf_store.specs.Changes.{IsSettled}
 use Rattle.conf_store.specs.Stored.{stored}
+use Rattle.checkpoints.specs.Changes.{with_point, without_point}
 use Rattle.checkpoints.specs.Points.{points}
 use Rattle.move_core.specs.Operations.{plan_text}
 use Rattle.move_core.specs.Plans.{conf}
-use Rattle.move_core.specs.declared.moves.Move.{Move}
 use Rattle.change_apply.specs.Acknowledgements.{HasAcknowledged, ack, acks}
-use Rattle.change_apply.specs.Change.{Change, steps}
+use Rattle.change_apply.specs.Change.{Change, name_at, steps}
 use Rattle.change_apply.specs.Crashes.{StandAt}
 use Rattle.change_apply.specs.Ends.{IsStopped}
 use Rattle.change_apply.specs.declared.ready.Restart.{Restart}
-use Rattle.plan_options.specs.Targets.{Target}
+use Rattle.plan_options.specs.Targets.{Target, rolled_back}
 use Rattle.gcu_output.specs.Lines.{last_line}
 use Rattle.gcu_output.specs.declared.outcomes.Outcome.{Outcome}
 use Rattle.gcu_output.specs.declared.outcomes.Outcome.TheVariants.{Done, Memory, InputFault, DiskFault, PrintFault, ServiceFault, Unorderable, Budget}
@@ -24,16 +24,19 @@ use Rattle.gcu_requests.specs.Asking.{Asking}
 use Rattle.gcu_requests.specs.ChangeAsked.{change_asked}
 use Rattle.gcu_requests.specs.Form.{Form, form}
 use Rattle.gcu_requests.specs.Form as forms
+use Rattle.gcu_requests.specs.OneAnswer.{AskedIsOne, HasOneAnswer}
 use Rattle.gcu_requests.specs.PlanAsked.{dry_run_asked}
 use Rattle.gcu_requests.specs.Request as request
 use Rattle.gcu_requests.specs.Request.{Planning, Request}
-use Rattle.gcu_engine.specs.Answers.{Answers, IsDoneOutput, IsUntouched, Leaves, LeavesDone, LeavesStopped, LeftByForm, LeftDoing, LeftMeanwhile, LeftOf, Prints, Says}
-use Rattle.gcu_engine.specs.Changing.{IsChangeFor, IsFirstText, IsLastLine, LeftChanged, LeftEarly, LeftOfChange, begun}
-use Rattle.gcu_engine.specs.Headline.{HasNoOrder, IsBefore, IsHeadline, IsLastOrNext, IsOneChange, IsPlanOutput, IsRightPlan, PrintsPlan, StandsAfter, StoresTarget, target_in}
+use Rattle.gcu_engine.specs.Answers.{Answers, IsDoneOutput, IsUntouched, Leaves, LeavesDone, LeavesStopped, Prints, Says}
+use Rattle.gcu_engine.specs.Changing.{IsChangeFor, IsLastLine, acknowledged, begun}
+use Rattle.gcu_engine.specs.Crashes.{LeftByForm, LeftChanged, LeftEarly, LeftMeanwhile, LeftOf, LeftOfChange, LeftWriting}
+use Rattle.gcu_engine.specs.Headline.{HasNoOrder, HasWholePoints, IsBefore, IsForeseen, IsHeadline, IsLastOrNext, IsOneChange, IsPlanOutput, IsQuiet, IsRefusal, PrintsPlan, StandsAfter, StoresPoint, StoresTarget, target_in}
 use Rattle.gcu_engine.specs.Plannings.{IsUnsolved}
+use Rattle.gcu_engine.proofs.ChangeEnds.{is_last_line}
 use Rattle.gcu_engine.proofs.Changes.{some_is}
-use Rattle.gcu_engine.proofs.Naming.{named_is}
-use Rattle.gcu_engine.proofs.RightPlans.{IsAsked, asked_is, right_plan, way_last}
+use Rattle.gcu_engine.proofs.Requests.{IsRequestOf, change_given, plan_given, requested}
+use Rattle.gcu_engine.proofs.RightPlans.{IsAsked, right_plan, way_last}
 
 -- ---- how many steps are acknowledged
 
@@ -88,23 +91,6 @@ acked_is d k base h = by (three_ways d k)
     by (inr (inr gt)) = absurd (let more = more_length k d gt in let some = ack_length (suc k) in let l = long in omega (arith, more, some, l))
 
 -- ---- what is planned
-
--- a plan is requested where one is to be printed
-plan_given : (from : Target) (budget : ℕ) (s : State) (r : Request) → (dry_run_asked from budget s).Gives (Ok r)
-    → (p : Planning) × IsAsked from s p × (request.plan p ≡ r)
-plan_given from budget s r (inl never) = absurd never
-plan_given from budget s r (inr (x, named, inl never)) = absurd never
-plan_given from budget s r (inr (x, named, inr (p, given, e))) =
-    let same : request.plan p ≡ r = cc in (p, subst (λ (t : Target). IsAsked t s p) (named_is from x named) (asked_is x budget s p given), same)
-
--- a change is requested where one is to be done
-change_given : (from : Target) (budget : ℕ) (s : State) (r : Request) → (change_asked from budget s).Gives (Ok r)
-    → (p : Planning) × IsAsked from s p × (request.change p ≡ r)
-change_given from budget s r (inl never) = absurd never
-change_given from budget s r (inr (x, named, inl never)) = absurd never
-change_given from budget s r (inr (x, named, inr (u, settles, inl never))) = absurd never
-change_given from budget s r (inr (x, named, inr (u, settles, inr (p, given, e)))) =
-    let same : request.change p ≡ r = cc in (p, subst (λ (t : Target). IsAsked t s p) (named_is from x named) (asked_is x budget s p given), same)
 
 same_change : (p q : Planning) → request.change p ≡ request.change q → p ≡ q
 same_change p q e = let same : p ≡ q = cc in same
@@ -260,21 +246,46 @@ plans_print (Some (forms.demo seed ports)) from s after old new result is h = ab
 
 -- ---- no order
 
-none_of : (words : List (List ℕ)) (s : State) (r : Request) → (asked words s).Gives (Ok r) → IsUnsolved r Unorderable → HasNoOrder words s
-none_of words s (request.plan p) given h = (p, inl given, h.0)
-none_of words s (request.change p) given h = (p, inr (inl given), h.0)
-none_of words s (request.demo p ports) given h = (p, inr (inr (ports, given)), h.0)
-none_of words s (request.preview c) given never = absurd never
-none_of words s (request.list_checkpoints names) given never = absurd never
-none_of words s request.check given never = absurd never
-none_of words s (request.save_checkpoint name config) given never = absurd never
-none_of words s (request.delete_checkpoint name) given never = absurd never
+unsolved : (q r : Request) → q ≡ r → IsUnsolved r Unorderable → IsUnsolved q Unorderable
+unsolved q r same h = subst (λ (x : Request). IsUnsolved x Unorderable) (sym same) h
 
-no_order_is : (words : List (List ℕ)) (s : State) (after : Option State) (old new : Counts) (result : Outcome) → Leaves (asked words s) s after old new result
-    → result ≡ Unorderable → HasNoOrder words s
-no_order_is words s after old new result h is =
-    let says = subst (λ (e : Outcome). Prints (asked words s) s h.0 old new e h.1) is h.3 in
-    none_of words s says.0.0 says.0.1 says.0.2
+none_of : (f : Option Form) (s : State) (r : Request) → IsRequestOf f s r → IsUnsolved r Unorderable → HasNoOrder f s
+none_of (Some (forms.plan from budget)) s r (p, is, same) h = record {
+  ctx = p.ctx;
+  read = is.read;
+  start = p.start;
+  goal = p.goal;
+  planned = (is.start.stands, is.made);
+  none = (unsolved (request.plan p) r same h).0;
+}
+none_of (Some (forms.change from budget)) s r (p, is, same) h = record {
+  ctx = p.ctx;
+  read = is.read;
+  start = p.start;
+  goal = p.goal;
+  planned = (is.start.stands, is.made);
+  none = (unsolved (request.change p) r same h).0;
+}
+none_of (Some (forms.demo seed ports)) s r (p, read, start, goal, same) h = record {
+  ctx = p.ctx;
+  read = read;
+  start = p.start;
+  goal = p.goal;
+  planned = tt;
+  none = (unsolved (request.demo p ports) r same h).0;
+}
+none_of (Some (forms.save_checkpoint name)) s r (c, there, same) h = absurd (unsolved (request.save_checkpoint name c) r same h)
+none_of (Some (forms.delete_checkpoint name)) s r same h = absurd (unsolved (request.delete_checkpoint name) r same h)
+none_of (Some (forms.preview path)) s r (c, same) h = absurd (unsolved (request.preview c) r same h)
+none_of (Some forms.check) s r same h = absurd (unsolved request.check r same h)
+none_of (Some forms.list_checkpoints) s r (names, same) h = absurd (unsolved (request.list_checkpoints names) r same h)
+none_of None s r never h = absurd never
+
+no_order_is : (f : Option Form) (s : State) (after : Option State) (old new : Counts) (result : Outcome) → Leaves (form_asked f s) s after old new result
+    → result ≡ Unorderable → HasNoOrder f s
+no_order_is f s after old new result h is =
+    let says = subst (λ (e : Outcome). Prints (form_asked f s) s h.0 old new e h.1) is h.3 in
+    none_of f s says.0.0 (requested f s says.0.0 says.0.1) says.0.2
 
 -- ---- a finished change
 
@@ -296,26 +307,90 @@ finishes from budget s after old new h =
           ∙ ap (λ (x : Config). Ok (conf x c.moves (length c.moves))) done.1.start ∙ ap (λ (x : Config). Ok x) last,
     )
 
+rolls_back : (name : List ℕ) (s : State) (after : Option State) → StoresTarget (rolled_back name) s after → StoresPoint name s after
+rolls_back name s after (t, start, goal, is, stands, made, stored_is) = (t, goal, is, made, stored_is)
+
+-- ---- a refusal
+
+module _ (asking : Asking Request) (s now : State) where
+  untouched_files : IsUntouched asking s now → now.files ≡ s.files
+  untouched_files (inl same) = ap (λ (t : State). t.files) same
+  untouched_files (inr (reads, same)) = ap (λ (t : State). t.files) same
+
+  untouched_restarts : IsUntouched asking s now → now.restarts ≡ s.restarts
+  untouched_restarts (inl same) = ap (λ (t : State). t.restarts) same
+  untouched_restarts (inr (reads, same)) = ap (λ (t : State). t.restarts) same
+
+  module _ (after : Option State) (output : List ℕ) (is : after ≡ Some (printed output now)) where
+    quiet_by : (e : Outcome) → IsUntouched asking s now → output ≡ last_line e → IsQuiet s after e
+    quiet_by e same said = record {
+      now = printed output now;
+      is = is;
+      files = untouched_files same;
+      output = (λ i. untouched_output (rolled_back []) s now asking same i ++ said i);
+      restarts = untouched_restarts same;
+    }
+
+    quiet_is : (old new : Counts) (e : Outcome) → Prints asking s now old new e output → IsRefusal e → IsQuiet s after e
+    quiet_is old new Done h never = absurd never
+    quiet_is old new (DiskFault step) h never = absurd never
+    quiet_is old new (PrintFault step) h never = absurd never
+    quiet_is old new (ServiceFault step service) h never = absurd never
+    quiet_is old new Memory h any = quiet_by Memory h.0 h.1
+    quiet_is old new InputFault h any = quiet_by InputFault h.1 h.2
+    quiet_is old new Unorderable h any = quiet_by Unorderable h.1 h.2
+    quiet_is old new (Budget n) h any = quiet_by (Budget n) h.1 h.2
+    quiet_is old new other h any = quiet_by other h.1 h.2
+
+-- what is foreseen is the refusal of what is asked
+foreseen : (asking : Asking Request) (s now : State) (old new : Counts) (e : Outcome) (output : List ℕ) → Prints asking s now old new e output → IsForeseen e → asking.Gives (Err e)
+foreseen asking s now old new Done output h never = absurd never
+foreseen asking s now old new (DiskFault step) output h never = absurd never
+foreseen asking s now old new (PrintFault step) output h never = absurd never
+foreseen asking s now old new (ServiceFault step service) output h never = absurd never
+foreseen asking s now old new Memory output h never = absurd never
+foreseen asking s now old new InputFault output h never = absurd never
+foreseen asking s now old new Unorderable output h never = absurd never
+foreseen asking s now old new (Budget n) output h never = absurd never
+foreseen asking s now old new other output h any = h.0
+
 -- ---- a crash
 
 settled_files : (s : State) (part : List ℕ) (left : Left) → IsSettled s → MayLeave (printed part s) left → left.files ≡ s.files
 settled_files s part left clean may = subst (λ p. Image p s.files left.files) clean may.files
 
+-- what is said of a change ends with the last line of an answer
+line_said : (from : Target) (budget : ℕ) (s now : State) (e : Outcome) (text : List ℕ) → Says (change_asked from budget s) s now e text → IsLastLine text
+line_said from budget s now Done text (r, given, leaves, out) =
+    let g = change_given from budget s r given in
+    inl (Done, subst (λ (q : Request). IsDoneOutput q text) (sym g.2) out)
+line_said from budget s now Memory text h = inl (Memory, h.1)
+line_said from budget s now InputFault text h = inl (InputFault, h.2)
+line_said from budget s now (DiskFault step) text h = inl (DiskFault step, h.2)
+line_said from budget s now (PrintFault step) text never = absurd never
+line_said from budget s now (ServiceFault step service) text (p, given, halted, is) = inr (step, service, name_at p.ctx.settings service, is)
+line_said from budget s now Unorderable text h = inl (Unorderable, h.2)
+line_said from budget s now (Budget n) text h = inl (Budget n, h.2)
+line_said from budget s now other text h = inl (other, h.2)
+
 early_before : (from : Target) (budget : ℕ) (s : State) (left : Left) → IsSettled s → LeftEarly (change_asked from budget s) s left → IsBefore from s left
-early_before from budget s left clean (part, rest, text, may) = record {
+early_before from budget s left clean (part, inl (now, answer, rest, says, same), may) = record {
   part = part;
   rest = rest;
-  text = by text;
+  text = inl (line_said from budget s now answer (part ++ rest) says);
   output = may.output;
   stored_is = ap stored (settled_files s part left clean may);
 }
-  where
-    by : IsFirstText (change_asked from budget s) s (part ++ rest) → IsLastLine (part ++ rest) ⊎ ((ms : List Move) × IsRightPlan from s ms × (part ++ rest ≡ plan_text ms))
-    by (inl (e, is)) = inl (inl (e, is))
-    by (inr (p, c, given, fits, is)) =
-        let g = change_given from budget s (request.change p) given in
-        let asks = subst (IsAsked from s) (same_change g.0 p g.2) g.1 in
-        inr (c.moves, right_plan from s p c.moves asks fits.plan, is)
+early_before from budget s left clean (part, inr (p, c, rest, given, fits, is), may) =
+    let g = change_given from budget s (request.change p) given in
+    let asks = subst (IsAsked from s) (same_change g.0 p g.2) g.1 in
+    record {
+      part = part;
+      rest = rest;
+      text = inr (c.moves, right_plan from s p c.moves asks fits.plan, sym is);
+      output = may.output;
+      stored_is = ap stored (settled_files s part left clean may);
+    }
 
 -- the folder stands for one of the plan's configurations
 at_start : (p : Planning) (s : State) (c : Change) → IsChangeFor p s c → (k : ℕ) (left : Left) → StandAt c k left.files
@@ -328,21 +403,23 @@ changed_next from s p c left asks fits (inl h) = record {
   ms = c.moves;
   right = right_plan from s p c.moves asks fits.plan;
   done = h.done;
+  within = h.within;
   part = h.output.part;
   cut = inl (h.output.rest, h.output.line, h.output.cut);
   output = h.output.printed;
   stands = at_start p s c fits h.done left h.stands;
 }
 changed_next from s p c left asks fits (inr h) =
-    let k : h.is.done ≡ h.acked = acked_is h.is.done h.acked (begun c s).output h.is.output in
+    let k : h.is.done ≡ acknowledged c h.answer = acked_is h.is.done (acknowledged c h.answer) (begun c s).output h.is.output in
     record {
       ms = c.moves;
       right = right_plan from s p c.moves asks fits.plan;
-      done = h.acked;
+      done = acknowledged c h.answer;
+      within = subst (λ (n : ℕ). n ≤ steps c) k h.is.within;
       part = h.part;
-      cut = inr (h.rest, h.line);
+      cut = inr (h.rest, is_last_line c (begun c s) h.now h.answer (h.part ++ h.rest) h.line);
       output = h.output;
-      stands = at_start p s c fits h.acked left (subst (λ (n : ℕ). StandAt c n left.files) k h.is.stands);
+      stands = at_start p s c fits (acknowledged c h.answer) left (subst (λ (n : ℕ). StandAt c n left.files) k h.is.stands);
     }
 
 change_stands : (from : Target) (budget : ℕ) (s : State) (left : Left) → IsSettled s → LeftOfChange (change_asked from budget s) s left → StandsAfter (Some (forms.change from budget)) s left
@@ -352,64 +429,99 @@ change_stands from budget s left clean (inr (p, c, given, fits, h, kept)) =
     inr (changed_next from s p c left (subst (IsAsked from s) (same_change g.0 p g.2) g.1) fits h)
 
 change_points : (asking : Asking Request) (s : State) (left : Left) → IsSettled s → LeftOfChange asking s left → points left.files ≡ points s.files
-change_points asking s left clean (inl (part, rest, text, may)) = ap points (settled_files s part left clean may)
+change_points asking s left clean (inl (part, front, may)) = ap points (settled_files s part left clean may)
 change_points asking s left clean (inr (p, c, given, fits, h, kept)) = kept
 
-doing_stands : (r : Request) (s : State) (left : Left) → LeftDoing r s left → stored left.files ≡ stored s.files
-doing_stands (request.delete_checkpoint name) s left h = h.files.kept
-doing_stands (request.save_checkpoint name config) s left h = h.files.kept
-doing_stands other s left never = absurd never
+writing_stands : (r : Request) (s : State) (left : Left) → LeftWriting r s left → stored left.files ≡ stored s.files
+writing_stands (request.delete_checkpoint name) s left h = h.files.kept
+writing_stands (request.save_checkpoint name config) s left h = h.files.kept
+writing_stands other s left never = absurd never
 
 other_stands : (asking : Asking Request) (s : State) (left : Left) → IsSettled s → LeftOf asking s left → stored left.files ≡ stored s.files
-other_stands asking s left clean (inl h) = ap stored (settled_files s h.0 left clean h.1)
-other_stands asking s left clean (inr (r, given, h)) = doing_stands r s left h
+other_stands asking s left clean (part, front, inl may) = ap stored (settled_files s part left clean may)
+other_stands asking s left clean (part, front, inr (r, given, h)) = writing_stands r (printed part s) left h
 
-doing_points : (asking : Asking Request) (r : Request) (s : State) (left : Left) → asking.Gives (Ok r) → LeftDoing r s left
-    → (points left.files ≡ points s.files) ⊎ ((q : Request) × asking.Gives (Ok q) × IsOneChange q (points s.files) (points left.files))
-doing_points asking (request.delete_checkpoint name) s left given h =
-    ⊎_elim (λ same. inl same) (λ one. inr (request.delete_checkpoint name, given, one)) h.files.points
-doing_points asking (request.save_checkpoint name config) s left given h =
-    ⊎_elim (λ same. inl same) (λ one. inr (request.save_checkpoint name config, given, one)) h.files.points
-doing_points asking other s left given never = absurd never
+-- the change of a request is that of its form
+one_change : (f : Option Form) (s now : State) (r : Request) (left : Left) → now.files ≡ s.files → IsRequestOf f s r → LeftWriting r now left
+    → (points left.files ≡ points s.files) ⊎ IsOneChange f s left.files
+one_change (Some (forms.save_checkpoint name)) s now r left files (c, there, same) h =
+    let writing = subst (λ (q : Request). LeftWriting q now left) (sym same) h in
+    ⊎_elim (λ kept. inl (kept ∙ ap points files)) (λ one. inr (c, there, one ∙ ap (λ f. with_point name c (points f)) files)) writing.files.points
+one_change (Some (forms.delete_checkpoint name)) s now r left files same h =
+    let writing = subst (λ (q : Request). LeftWriting q now left) (sym same) h in
+    ⊎_elim (λ kept. inl (kept ∙ ap points files)) (λ one. inr (one ∙ ap (λ f. without_point name (points f)) files)) writing.files.points
+one_change (Some (forms.plan from budget)) s now r left files (p, is, same) h = absurd (subst (λ (q : Request). LeftWriting q now left) (sym same) h)
+one_change (Some (forms.change from budget)) s now r left files (p, is, same) h = absurd (subst (λ (q : Request). LeftWriting q now left) (sym same) h)
+one_change (Some (forms.demo seed ports)) s now r left files (p, read, start, goal, same) h = absurd (subst (λ (q : Request). LeftWriting q now left) (sym same) h)
+one_change (Some (forms.preview path)) s now r left files (c, same) h = absurd (subst (λ (q : Request). LeftWriting q now left) (sym same) h)
+one_change (Some forms.check) s now r left files same h = absurd (subst (λ (q : Request). LeftWriting q now left) (sym same) h)
+one_change (Some forms.list_checkpoints) s now r left files (names, same) h = absurd (subst (λ (q : Request). LeftWriting q now left) (sym same) h)
+one_change None s now r left files never h = absurd never
 
-other_points : (asking : Asking Request) (s : State) (left : Left) → IsSettled s → LeftOf asking s left
-    → (points left.files ≡ points s.files) ⊎ ((q : Request) × asking.Gives (Ok q) × IsOneChange q (points s.files) (points left.files))
-other_points asking s left clean (inl h) = inl (ap points (settled_files s h.0 left clean h.1))
-other_points asking s left clean (inr (r, given, h)) = doing_points asking r s left given h
+other_points : (f : Option Form) (s : State) (left : Left) → IsSettled s → LeftOf (form_asked f s) s left
+    → (points left.files ≡ points s.files) ⊎ IsOneChange f s left.files
+other_points f s left clean (part, front, inl may) = inl (ap points (settled_files s part left clean may))
+other_points f s left clean (part, front, inr (r, given, h)) = one_change f s (printed part s) r left refl (requested f s r given) h
 
 -- what the command that words are leaves
 form_stands : (f : Option Form) (s : State) (left : Left) → IsSettled s → LeftByForm f s left → StandsAfter f s left
 form_stands (Some (forms.change from budget)) s left clean h = change_stands from budget s left clean h
 form_stands other s left clean h = other_stands (form_asked other s) s left clean h
 
-form_points : (f : Option Form) (s : State) (left : Left) → IsSettled s → LeftByForm f s left
-    → (points left.files ≡ points s.files) ⊎ ((q : Request) × (form_asked f s).Gives (Ok q) × IsOneChange q (points s.files) (points left.files))
+form_points : (f : Option Form) (s : State) (left : Left) → IsSettled s → LeftByForm f s left → HasWholePoints f s left.files
 form_points (Some (forms.change from budget)) s left clean h = inl (change_points (change_asked from budget s) s left clean h)
-form_points other s left clean h = other_points (form_asked other s) s left clean h
+form_points other s left clean h = other_points other s left clean h
+
+-- what is refused and asked for is not one thing
+not_both : (asking : Asking Request) → HasOneAnswer asking → (r : Request) (e : Outcome) → asking.Gives (Ok r) → asking.Gives (Err e) → ⊥
+not_both asking one r e given refused = let same : Ok r ≡ Err e = one.same (Ok r) (Err e) given refused in absurd cc
+
+-- a command that is refused leaves the files from before
+change_refused : (asking : Asking Request) → HasOneAnswer asking → (s : State) (left : Left) (e : Outcome) → asking.Gives (Err e) → IsSettled s → LeftOfChange asking s left
+    → left.files ≡ s.files
+change_refused asking one s left e refused clean (inl (part, front, may)) = settled_files s part left clean may
+change_refused asking one s left e refused clean (inr (p, c, given, fits, h, kept)) = absurd (not_both asking one (request.change p) e given refused)
+
+other_refused : (asking : Asking Request) → HasOneAnswer asking → (s : State) (left : Left) (e : Outcome) → asking.Gives (Err e) → IsSettled s → LeftOf asking s left
+    → left.files ≡ s.files
+other_refused asking one s left e refused clean (part, front, inl may) = settled_files s part left clean may
+other_refused asking one s left e refused clean (part, front, inr (r, given, h)) = absurd (not_both asking one r e given refused)
+
+form_refused : (f : Option Form) (s : State) (left : Left) (e : Outcome) → HasOneAnswer (form_asked f s) → (form_asked f s).Gives (Err e) → IsSettled s → LeftByForm f s left
+    → left.files ≡ s.files
+form_refused (Some (forms.change from budget)) s left e one refused clean h = change_refused (change_asked from budget s) one s left e refused clean h
+form_refused other s left e one refused clean h = other_refused (form_asked other s) one s left e refused clean h
 
 -- ---- all of it
 
 module _ {H : Type 0} (moment : H → ℕ) (left_since : H → ℕ → Left → Type 0) where
   headline_of : (words : List (List ℕ)) (s : State) (after : Option State) (old new : H) (before later : Counts) (result : Outcome)
-      → Answers words (Some s) after before later result → LeavesOnly moment left_since old new (LeftMeanwhile words (Some s))
+      → AskedIsOne → Answers words (Some s) after before later result → LeavesOnly moment left_since old new (LeftMeanwhile words (Some s))
       → IsHeadline words s after result (left_since new (moment old))
-  headline_of words s after old new before later result answers crash = record {
+  headline_of words s after old new before later result one answers crash = record {
     printed = λ from is. plans_print (form words) from s after before later result is answers;
-    no_order = no_order_is words s after before later result answers;
+    no_order = no_order_is (form words) s after before later result answers;
     crash = λ clean left since.
         record {
           stands = form_stands (form words) s left clean (crash.each left since);
           points_are = form_points (form words) s left clean (crash.each left since);
         };
-    finished = λ from budget is done.
-        finishes from budget s after before later
-        (subst (λ (e : Outcome). Leaves (change_asked from budget s) s after before later e) done
-        (subst (λ (f : Option Form). Leaves (form_asked f s) s after before later result) is answers));
+    refused = λ any clean left since.
+        form_refused (form words) s left result (one words s) (foreseen (asked words s) s answers.0 before later result answers.1 answers.3 any) clean (crash.each left since);
+    quiet = λ any. quiet_is (asked words s) s answers.0 after answers.1 answers.2 before later result answers.3 any;
+    finished = λ from budget is done. changes from budget is done;
+    rolled = λ name budget is done. rolls_back name s after (changes (rolled_back name) budget is done);
   }
+    where
+      changes : (from : Target) (budget : ℕ) → form words ≡ Some (forms.change from budget) → result ≡ Done → StoresTarget from s after
+      changes from budget is done =
+          finishes from budget s after before later
+          (subst (λ (e : Outcome). Leaves (change_asked from budget s) s after before later e) done
+          (subst (λ (f : Option Form). Leaves (form_asked f s) s after before later result) is answers))
 
   -- of a host that may not tell its state
   pub headline : (words : List (List ℕ)) (o after : Option State) (old new : H) (before later : Counts) (result : Outcome)
-      → Answers words o after before later result → LeavesOnly moment left_since old new (LeftMeanwhile words o)
+      → AskedIsOne → Answers words o after before later result → LeavesOnly moment left_since old new (LeftMeanwhile words o)
       → IfSome o (λ s. IsHeadline words s after result (left_since new (moment old)))
-  headline words None after old new before later result answers crash = tt
-  headline words (Some s) after old new before later result answers crash = headline_of words s after old new before later result answers crash
+  headline words None after old new before later result one answers crash = tt
+  headline words (Some s) after old new before later result one answers crash = headline_of words s after old new before later result one answers crash

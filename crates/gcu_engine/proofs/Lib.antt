@@ -5,6 +5,7 @@ mod ChangeEnds
 mod Changes
 mod CheckSaying
 mod Completing
+mod Contents
 mod Deletions
 mod DemoSaying
 mod Elapsing
@@ -15,6 +16,7 @@ mod Naming
 mod PlanSaying
 mod ReadyChanges
 mod ReadyOrNot
+mod Requests
 mod RightPlans
 mod Savings
 mod SummaryTexts

@@ -95,9 +95,11 @@ answers_wider word budget (Some s) after old new result named (now, output, is, 
 left_wider : (word : Target) (budget : ℕ) (o : Option State) (left : Left) → target_answer word ≡ Ok word
     → LeftToChange (settled_asked word budget) o left → LeftToChange (change_asked word budget) o left
 left_wider word budget None left named h = tt
-left_wider word budget (Some s) left named (inl (part, rest, inl line, may)) = inl (part, rest, inl line, may)
-left_wider word budget (Some s) left named (inl (part, rest, inr (p, c, given, fits, is), may)) =
-    inl (part, rest, inr (p, c, (widened word budget s named).gives _ given, fits, is), may)
+left_wider word budget (Some s) left named (inl (part, inl (now, answer, rest, says, same), may)) =
+    let wider = says_wider (settled_asked word budget s) (change_asked word budget s) (widened word budget s named) s now answer (part ++ rest) says in
+    inl (part, inl (now, answer, rest, wider, same), may)
+left_wider word budget (Some s) left named (inl (part, inr (p, c, rest, given, fits, is), may)) =
+    inl (part, inr (p, c, rest, (widened word budget s named).gives _ given, fits, is), may)
 left_wider word budget (Some s) left named (inr (p, c, given, fits, left_is, points_are)) =
     inr (p, c, (widened word budget s named).gives _ given, fits, left_is, points_are)
 

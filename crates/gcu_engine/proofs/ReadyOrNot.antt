@@ -9,7 +9,7 @@ use Rattle.conf_store.specs.Folds.{StandsFor}
 use Rattle.move_core.specs.declared.moves.Move.{Move}
 use Rattle.plan_options.specs.Targets.{Target}
 use Rattle.gcu_output.specs.Lines.{last_line}
-use Rattle.gcu_output.specs.Printing.{IsSaid, LeftInLine}
+use Rattle.gcu_output.specs.Printing.{IsSaid, LeftInText}
 use Rattle.gcu_output.specs.declared.outcomes.Outcome.{Outcome}
 use Rattle.gcu_output.specs.declared.outcomes.Outcome.TheVariants.{Memory, InputFault, DiskFault, Unorderable, Budget}
 use Rattle.gcu_requests.specs.Asking.{Asking}
@@ -19,8 +19,9 @@ use Rattle.gcu_requests.specs.ReadPlannings.{planning_of}
 use Rattle.gcu_requests.specs.Preparing.{Finds, Refuses}
 use Rattle.gcu_requests.specs.Request.{Planning, Request}
 use Rattle.gcu_requests.specs.declared.planning.Planning as code
-use Rattle.gcu_engine.specs.Answers.{HasCause}
+use Rattle.gcu_engine.specs.Answers.{HasCause, Says}
 use Rattle.gcu_engine.specs.Commands.{AnswersTo, IsReady}
+use Rattle.gcu_engine.specs.Crashes.{IsOutputFront}
 use Rattle.gcu_engine.specs.Doing.{IsKept, IsMissed, IsPrepared, IsReadyIn, LeftDoing, LeftToChange, change_by}
 use Rattle.gcu_engine.specs.PlanCommands.{IsSolved, RefusesOrEnds}
 use Rattle.gcu_engine.specs.Plannings.{IsPlanFor}
@@ -28,24 +29,35 @@ use Rattle.gcu_engine.specs.declared.change.ReadyChange.{ReadyChange}
 use Rattle.gcu_output.proofs.Elapsing.{elapses_both}
 use Rattle.gcu_engine.proofs.Causes.{rose_from}
 use Rattle.gcu_engine.proofs.Changes.{KeepsPoints, change_for, doing_left, early_left, missed_before, missed_says, part_left, ready_before, refused_missed, settled_early, solved_missed}
+use Rattle.gcu_engine.proofs.Elapsing.{memory_front, said_front}
 use Rattle.gcu_engine.proofs.Writing.{ready_printed}
 
 -- ---- while a line is printed
 
+-- a question that is refused of what is there
+pub says_ready : (asking : State → Asking Request) (o : Option State) (e : Outcome) → IfSome o (λ s. Says (asking s) s s e (last_line e)) → IsReady asking o o e
+says_ready asking None e says = refl
+says_ready asking (Some s) e says = (s, refl, says, refl)
+
 module _ (asking : State → Asking Request) where
+  -- with a front that is printed
+  kept_left : (s : State) (told : Option State) (part : List ℕ) (left : Left) → IsKept (Some s) told → IsOutputFront (asking s) s part → MayLeaveNow (option_map (printed part) told) left
+      → LeftToChange asking (Some s) left
+  kept_left s told part left (inl same) front may = inl (part, inl front, subst (λ t. MayLeaveNow (option_map (printed part) t) left) same may)
+  kept_left s told part left (inr is) front may = inl (part, inl front, part_left s part left (subst (λ t. MayLeaveNow (option_map (printed part) t) left) is may))
+
   -- what a crash leaves meanwhile
-  line_left : (o told : Option State) (left : Left) → IsKept o told → LeftInLine told left → LeftToChange asking o left
-  line_left None told left kept h = tt
-  line_left (Some s) told left (inl same) h =
-      inl (h.1.0, h.1.1, inl (h.0, sym h.1.2), subst (λ t. MayLeaveNow (option_map (printed h.1.0) t) left) same h.1.3)
-  line_left (Some s) told left (inr is) h =
-      inl (h.1.0, h.1.1, inl (h.0, sym h.1.2), part_left s h.1.0 left (subst (λ t. MayLeaveNow (option_map (printed h.1.0) t) left) is h.1.3))
+  line_left : (o told : Option State) (e : Outcome) (left : Left) → IsReady asking o told e → IsKept o told → LeftInText (last_line e) told left → LeftToChange asking o left
+  line_left None told e left ready kept h = tt
+  line_left (Some s) told e left (now, is, says, same) kept (inl (part, rest, line, may)) =
+      kept_left s told part left kept (said_front (asking s) s now e (last_line e) part rest says same line) may
+  line_left (Some s) told e left ready kept (inr (part, rest, line, may)) = kept_left s told part left kept (memory_front (asking s) s part rest line) may
 
   module _ {H : Type 0} (moment : H → ℕ) (left_since : H → ℕ → Left → Type 0) where
-    pub line_leaves : (o told : Option State) (old mid new : H) → IsKept o told → LeavesOnly moment left_since old mid (LeftToChange asking o)
-        → Elapses moment left_since mid new (LeftInLine told) → LeavesOnly moment left_since old new (LeftToChange asking o)
-    line_leaves o told old mid new kept so_far time =
-        runs.goes_on moment left_since old mid new (LeftToChange asking o) (LeftInLine told) so_far time (λ left h. line_left o told left kept h)
+    pub line_leaves : (o told : Option State) (e : Outcome) (old mid new : H) → IsReady asking o told e → IsKept o told → LeavesOnly moment left_since old mid (LeftToChange asking o)
+        → Elapses moment left_since mid new (LeftInText (last_line e) told) → LeavesOnly moment left_since old new (LeftToChange asking o)
+    line_leaves o told e old mid new ready kept so_far time =
+        runs.goes_on moment left_since old mid new (LeftToChange asking o) (LeftInText (last_line e) told) so_far time (λ left h. line_left o told e left ready kept h)
 
     -- nothing is left yet but what was there
     pub begins_early : (o : Option State) (old : H) → ((left : Left) → left_since old (moment old) left → MayLeaveNow o left)

@@ -12,16 +12,17 @@ use Rattle.move_core.specs.declared.contexts.Ctx.{Ctx}
 use Rattle.move_core.specs.declared.moves.Move.{Move}
 use Rattle.plan_options.specs.Targets.{Target}
 use Rattle.gcu_output.specs.declared.outcomes.Outcome.{Outcome}
-use Rattle.gcu_requests.specs.PlanAsked.{goal_asked, made_asked, planning_asked, start_asked}
+use Rattle.gcu_requests.specs.PlanAsked.{goal_asked, planning_asked, start_asked}
 use Rattle.gcu_requests.specs.Request.{Planning}
-use Rattle.gcu_requests.specs.RulesAsked.{ctx_asked}
 use Rattle.gcu_requests.specs.StoredAsked.{stored_answer}
+use Rattle.gcu_engine.specs.Contents.{IsContextIn, IsMade}
 use Rattle.gcu_engine.specs.Headline.{IsRightPlan}
 use Rattle.gcu_engine.specs.Plannings.{IsPlanFor}
+use Rattle.gcu_engine.proofs.Contents.{context_in, target_made}
 
 -- ---- what is asked
 
-stored_from : (r : Result Config StoredWhy) (c : Config) → stored_answer r ≡ Ok c → r ≡ Ok c
+pub stored_from : (r : Result Config StoredWhy) (c : Config) → stored_answer r ≡ Ok c → r ≡ Ok c
 stored_from (Ok x) c e = let same : x ≡ c = cc in ap (λ (y : Config). Ok y) same
 stored_from (Err why) c e = absurd cc
 
@@ -38,20 +39,20 @@ start_is ctx s start (inr (c, there, (valid, same))) = record {
 }
 
 -- the goal is what the target makes of it
-made_is : (from : Target) (ctx : Ctx) (start : Config) (s : State) (goal : Config) → (goal_asked from ctx start s).Gives (Ok goal) → (made_asked from start s).Gives (Ok goal)
+made_is : (from : Target) (ctx : Ctx) (start : Config) (s : State) (goal : Config) → (goal_asked from ctx start s).Gives (Ok goal) → IsMade from s start goal
 made_is from ctx start s goal (inl never) = absurd never
 made_is from ctx start s goal (inr (made, given, inl never)) = absurd never
 made_is from ctx start s goal (inr (made, given, inr (u, same, inl never))) = absurd never
 made_is from ctx start s goal (inr (made, given, inr (u, same, inr (v, keys, (valid, is))))) =
-    subst (λ (c : Config). (made_asked from start s).Gives (Ok c)) (sym is) given
+    subst (IsMade from s start) (sym is) (target_made from start s made given)
 
 -- what a plan needs is what is asked
 pub record IsAsked (from : Target) (s : State) (p : Planning) : Type 0 where
-  pub read : (ctx_asked s).Gives (Ok p.ctx)
+  pub read : IsContextIn s p.ctx
   pub start : IsStart p.ctx s p.start
-  pub made : (made_asked from p.start s).Gives (Ok p.goal)
+  pub made : IsMade from s p.start p.goal
 
-planning_is : (q p : Planning) (r : Result Planning Outcome) → r ≡ Ok q → r ≡ Ok p → q ≡ p
+pub planning_is : (q p : Planning) (r : Result Planning Outcome) → r ≡ Ok q → r ≡ Ok p → q ≡ p
 planning_is q p r a e = let same : q ≡ p = cc in same
 
 pub asked_is : (from : Target) (budget : ℕ) (s : State) (p : Planning) → (planning_asked from budget s).Gives (Ok p) → IsAsked from s p
@@ -59,7 +60,7 @@ asked_is from budget s p (inl never) = absurd never
 asked_is from budget s p (inr (ctx, read, inl never)) = absurd never
 asked_is from budget s p (inr (ctx, read, inr (start, st, inl never))) = absurd never
 asked_is from budget s p (inr (ctx, read, inr (start, st, inr (goal, go, e)))) =
-    subst (IsAsked from s) (planning_is (record { ctx = ctx; start = start; goal = goal; budget = budget }) p _ refl e) (record { read = read; start = start_is ctx s start st; made = made_is from ctx start s goal go })
+    subst (IsAsked from s) (planning_is (record { ctx = ctx; start = start; goal = goal; budget = budget }) p _ refl e) (record { read = context_in s ctx read; start = start_is ctx s start st; made = made_is from ctx start s goal go })
 
 -- ---- a way
 

@@ -13,17 +13,18 @@ use Rattle.host_core.specs.Names.{name_cmp}
 use Rattle.host_core.specs.State.{Files, Pending, State, dirty, listing, printed, settled, with_file, with_pending}
 use Rattle.host_core.proofs.Runs as runs
 use Rattle.conf_store.specs.Changes.{AreLeft, Changes, Leads, Settles}
-use Rattle.gcu_output.specs.Printing.{LeftWithOutput, IsFirst, IsTold, may_have_written, outcome_of, IsPrinted}
+use Rattle.gcu_output.specs.Printing.{IsFirst, IsTold, may_have_written, outcome_of, IsPrinted}
 use Rattle.gcu_output.specs.Lines.{last_line}
 use Rattle.gcu_output.specs.declared.outcomes.Outcome.{Outcome}
 use Rattle.gcu_output.specs.declared.outcomes.Outcome.TheVariants.{Done, Memory, Usage, InputFault, DiskFault, PrintFault, ServiceFault, Unorderable, Budget}
 use Rattle.gcu_requests.specs.Asking.{Asking, a_file, a_settling}
 use Rattle.gcu_requests.specs.Preparing.{FailsIn, Finds, Found, Refuses, StandsIn, refusal}
 use Rattle.gcu_requests.specs.Request.{Request}
-use Rattle.gcu_engine.specs.Answers.{HasCause, LeavesDone, LeavesStopped, LeftChanging, LeftDoing, LeftOf, Says, IsDoneOutput}
-use Rattle.gcu_engine.specs.Commands.{AnswersTo, IsReady, LeavesRefused, LeftTo, TellsOn}
+use Rattle.gcu_engine.specs.Answers.{HasCause, LeavesDone, LeavesStopped, Says, IsDoneOutput}
+use Rattle.gcu_engine.specs.Commands.{AnswersTo, IsReady, LeavesRefused, LeftTo}
+use Rattle.gcu_engine.specs.Crashes.{LeftOf, LeftWriting}
 use Rattle.gcu_engine.proofs.Answering.{printed_leaves, refused_cause, refused_says}
-use Rattle.gcu_engine.proofs.Elapsing.{left_to, now_with_output}
+use Rattle.gcu_engine.proofs.Elapsing.{asking_begins, left_here, no_front}
 
 -- ---- what is left before the output
 
@@ -31,7 +32,7 @@ use Rattle.gcu_engine.proofs.Elapsing.{left_to, now_with_output}
 pub record IsWriting (r : Request) (P Q : Files → Files → Type 0) : Type 0 where
   pub done : (before : State) (files : Files) → P before.files files → LeavesDone r before (record before { files = files; pending = settled })
   pub stopped : (before now : State) → Leads Q (with_pending settled before) now → LeavesStopped r 0 before now
-  pub doing : (before : State) (left : Left) → LeftChanging Q before left → LeftDoing r before left
+  pub doing : (before : State) (left : Left) → AreLeft Q before left → LeftWriting r before left
   pub says : IsDoneOutput r (last_line Done)
 
 -- at one state: what is there when the last line of an answer is to be printed
@@ -120,10 +121,6 @@ module _ (asking : State → Asking Request) where
       says_written (asking s) s reads r P Q w new (subst (λ m. (asking s).Gives (Ok r) ⊎ (new ≡ m)) is may) result c d
       (subst (λ m. OnOk result (Settles P m new)) is ok) (subst (λ m. IfErr result (LeavesRefused Q m new)) is err) cause found
 
-  pub ready_tells : (o new : Option State) (e : Outcome) → IsReady asking o new e → TellsOn o new
-  ready_tells None new e h = tt
-  ready_tells (Some s) new e h = (h.0, h.1)
-
 -- ---- what a crash leaves
 
 -- the same file again
@@ -147,38 +144,33 @@ as_is (dirty name) files = (get files name, sym (same_again name files))
 as_is (listing before) files = inr refl
 
 -- what is left once all is settled may be left before
-settled_left : (s : State) (left : Left) → MayLeave (with_pending settled s) left → LeftWithOutput (Some s) left
-settled_left s left may = now_with_output (Some s) left (record {
+settled_left : (s : State) (left : Left) → MayLeave (with_pending settled s) left → MayLeave s left
+settled_left s left may = record {
   files = subst (Image s.pending s.files) (sym may.files) (as_is s.pending s.files);
   output = may.output;
   restarts = may.restarts;
-})
+}
 
 module _ {H : Type 0} (moment : H → ℕ) (left_since : H → ℕ → Left → Type 0) where
-  -- nothing is called yet
-  pub asking_begins : (asking : State → Asking Request) (o : Option State) (old : H) → ((left : Left) → left_since old (moment old) left → MayLeaveNow o left)
-      → LeavesOnly moment left_since old old (LeftTo asking o)
-  asking_begins asking o old now = runs.begins moment left_since old (LeftTo asking o) (λ left since. left_to asking o left (now_with_output o left (now left since)))
-
   -- all is as before
   pub asking_goes_on : (asking : State → Asking Request) (o n : Option State) (old mid : H) → n ≡ o
       → ((left : Left) → left_since old (moment old) left → MayLeaveNow o left) → Elapses moment left_since old mid (MayLeaveNow n)
       → LeavesOnly moment left_since old mid (LeftTo asking o)
   asking_goes_on asking o n old mid same now time =
-      runs.goes_on moment left_since old old mid (LeftTo asking o) (MayLeaveNow n) (asking_begins asking o old now) time
-      (λ left may. left_to asking o left (now_with_output o left (subst (λ m. MayLeaveNow m left) same may)))
+      runs.goes_on moment left_since old old mid (LeftTo asking o) (MayLeaveNow n) (asking_begins moment left_since asking o old now) time
+      (λ left may. left_here asking o left (subst (λ m. MayLeaveNow m left) same may))
 
   settled_to : (asking : State → Asking Request) (o told : Option State) (left : Left) → told ≡ option_map (with_pending settled) o
       → MayLeaveNow told left → LeftTo asking o left
   settled_to asking None told left is may = tt
-  settled_to asking (Some s) told left is may = inl (settled_left s left (subst (λ m. MayLeaveNow m left) is may))
+  settled_to asking (Some s) told left is may = left_here asking (Some s) left (settled_left s left (subst (λ m. MayLeaveNow m left) is may))
 
   -- all is settled
   pub asking_settles : (asking : State → Asking Request) (o told : Option State) (old mid : H) → told ≡ option_map (with_pending settled) o
       → ((left : Left) → left_since old (moment old) left → MayLeaveNow o left) → Elapses moment left_since old mid (MayLeaveNow told)
       → LeavesOnly moment left_since old mid (LeftTo asking o)
   asking_settles asking o told old mid is now time =
-      runs.goes_on moment left_since old old mid (LeftTo asking o) (MayLeaveNow told) (asking_begins asking o old now) time
+      runs.goes_on moment left_since old old mid (LeftTo asking o) (MayLeaveNow told) (asking_begins moment left_since asking o old now) time
       (λ left may. settled_to asking o told left is may)
 
   -- it is written, or there is nothing to write
@@ -188,19 +180,14 @@ module _ {H : Type 0} (moment : H → ℕ) (left_since : H → ℕ → Left → 
       → LeavesOnly moment left_since old new (LeftOf asking s)
   within asking s r P Q w old mid new so_far writes (inr reads) =
       runs.goes_on moment left_since old mid new (LeftOf asking s) (MayLeave (with_pending settled s)) so_far reads
-      (λ left may. inl (settled_left s left may))
+      (λ left may. left_here (λ _. asking) (Some s) left (settled_left s left may))
   within asking s r P Q w old mid new so_far writes (inl given) =
       runs.joins moment left_since old mid new (LeftOf asking s) so_far
       (runs.weaker moment left_since mid new (AreLeft Q (with_pending settled s)) (LeftOf asking s)
-      (λ left h. inr (
-        r,
-        given,
-        w.doing s left (record {
-          files = h.files;
-          part = [];
-          output = h.output ∙ sym (append-nil s.output);
-          restarts = h.restarts;
-        }),
+      (λ left h. (
+        [],
+        no_front asking s,
+        inr (r, given, w.doing (printed [] s) left (record { files = h.files; output = h.output ∙ sym (append-nil s.output); restarts = h.restarts })),
       )) writes)
 
   -- all is settled, and then written

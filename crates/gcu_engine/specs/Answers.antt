@@ -2,7 +2,6 @@
 -- needs.
 use Rattle.std.specs.Prelude.{◌≡◌, ◌⊎◌, ℕ, List, ◌++◌, length, Option, Some, None, Ok, Err, ⊤}
 use Rattle.host_core.specs.Counts.{Counts, Rose}
-use Rattle.host_core.specs.Crashes.{Left}
 use Rattle.host_core.specs.State.{Files, State, printed, settled, with_pending}
 use Rattle.conf_doc.specs.Texts.{file_text}
 use Rattle.conf_store.specs.Changes.{Leads}
@@ -14,14 +13,10 @@ use Rattle.change_apply.specs.declared.errors.ApplyFault.TheVariants.{Disk, Serv
 use Rattle.gcu_output.specs.Lines.{last_line, lines, service_line}
 use Rattle.gcu_output.specs.declared.outcomes.Outcome.{Outcome}
 use Rattle.gcu_output.specs.declared.outcomes.Outcome.TheVariants.{Done, Memory, Usage, InputFault, DiskFault, PrintFault, ServiceFault, Unorderable, Budget}
-use Rattle.gcu_output.specs.Printing.{LeftWithOutput}
-use Rattle.gcu_requests.specs.Asked.{asked, form_asked}
+use Rattle.gcu_requests.specs.Asked.{asked}
 use Rattle.gcu_requests.specs.Asking.{Asking, an_input, a_file, a_settling}
-use Rattle.gcu_requests.specs.ChangeAsked.{change_asked}
-use Rattle.gcu_requests.specs.Form as forms
-use Rattle.gcu_requests.specs.Form.{Form, form}
 use Rattle.gcu_requests.specs.Request.{Planning, Request, change, delete_checkpoint, demo, list_checkpoints, plan, preview, check, save_checkpoint}
-use Rattle.gcu_engine.specs.Changing.{AreAcknowledged, IsChanged, IsCutShort, IsHalted, LeftOfChange}
+use Rattle.gcu_engine.specs.Changing.{AreAcknowledged, IsChanged, IsCutShort, IsHalted}
 use Rattle.gcu_engine.specs.Plannings.{IsPlanFor, IsUnsolved}
 use Rattle.gcu_engine.specs.Summary.{summary}
 
@@ -144,40 +139,6 @@ abbrev pub Answers : List (List ℕ)
 Answers words None after old new result = after ≡ None
 Answers words (Some before) after old new result =
     Leaves (asked words before) before after old new result
-
--- ---- what a crash leaves
-
--- what a crash leaves while the files are changed like this: all else is as before, with a front of some
--- output
-pub record LeftChanging (P : Files → Files → Type 0) (before : State) (left : Left) : Type 0 where
-  pub files : P before.files left.files
-  pub part : List ℕ
-  pub output : left.output ≡ before.output ++ part
-  pub restarts : left.restarts ≡ before.restarts
-
--- what a crash leaves while a request writes
-abbrev pub LeftDoing : Request → State → Left → Type 0
-LeftDoing (delete_checkpoint name) before left = LeftChanging (IsDeletedOrNot name) before left
-LeftDoing (save_checkpoint name config) before left =
-    LeftChanging (IsSavedOrNot name config) before left
-LeftDoing other before left = ⊥
-
--- what a crash leaves: what was there, or what a request leaves that is right and writes
-abbrev pub LeftOf : Asking Request → State → Left → Type 0
-LeftOf asking before left =
-    LeftWithOutput (Some before) left
-    ⊎ ((r : Request) × asking.Gives (Ok r) × LeftDoing r before left)
-
--- what a crash leaves of the command that words are
-abbrev pub LeftByForm : Option Form → State → Left → Type 0
-LeftByForm (Some (forms.change target budget)) before left =
-    LeftOfChange (change_asked target budget before) before left
-LeftByForm other before left = LeftOf (form_asked other before) before left
-
--- What a crash leaves at a moment of a command, of a host that tells its state.
-abbrev pub LeftMeanwhile : List (List ℕ) → Option State → Left → Type 0
-LeftMeanwhile words None left = ⊤
-LeftMeanwhile words (Some before) left = LeftByForm (form words) before left
 
 -- ---- which answers there are
 

@@ -9,7 +9,8 @@ use Rattle.gcu_output.specs.declared.outcomes.Outcome.{Outcome}
 use Rattle.gcu_output.specs.declared.outcomes.Outcome.TheVariants.{DiskFault}
 use Rattle.gcu_requests.specs.Asking.{Asking}
 use Rattle.gcu_requests.specs.Request.{Request}
-use Rattle.gcu_engine.specs.Answers.{Complete, Leaves, LeftOf, Says}
+use Rattle.gcu_engine.specs.Answers.{Complete, Leaves, Says}
+use Rattle.gcu_engine.specs.Crashes.{LeftOf}
 
 -- what is left, with that answer
 abbrev pub AnswersTo : (State → Asking Request)
@@ -28,11 +29,6 @@ abbrev pub CompleteTo : (State → Asking Request)
     → Option State → Counts → Counts → Outcome → Type 0
 CompleteTo asking told old new result =
     IfSome told (λ s. NoneRose old new → Complete (asking s) result)
-
--- a host that tells its state still does
-abbrev pub TellsOn : Option State → Option State → Type 0
-TellsOn None after = ⊤
-TellsOn (Some before) after = (now : State) × (after ≡ Some now)
 
 -- ---- a command that writes
 

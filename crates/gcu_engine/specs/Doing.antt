@@ -9,17 +9,17 @@ use Rattle.move_core.specs.Services.{services_of}
 use Rattle.move_core.specs.declared.moves.Move.{Move}
 use Rattle.move_core.specs.declared.settings.Settings.{Settings}
 use Rattle.change_apply.specs.Change.{Change, change_of, restarts_at, steps}
-use Rattle.change_apply.specs.Ends.{Finishes, IsStoppedBy, IsStoppedInRestarts}
-use Rattle.change_apply.specs.declared.errors.ApplyFault.TheVariants.{Disk, Print}
-use Rattle.gcu_output.specs.Lines.{last_line, service_line}
+use Rattle.change_apply.specs.Ends.{IsStoppedBy}
+use Rattle.change_apply.specs.declared.errors.ApplyFault.TheVariants.{Print}
 use Rattle.gcu_output.specs.declared.outcomes.Outcome.{Outcome}
-use Rattle.gcu_output.specs.declared.outcomes.Outcome.TheVariants.{Done, DiskFault, PrintFault, ServiceFault, Unorderable, Budget}
+use Rattle.gcu_output.specs.declared.outcomes.Outcome.TheVariants.{PrintFault, Unorderable, Budget}
 use Rattle.gcu_requests.specs.Asking.{Asking}
 use Rattle.gcu_requests.specs.Preparing.{FailsIn, StandsIn, refusal}
 use Rattle.gcu_requests.specs.Request.{Planning, Request}
 use Rattle.gcu_engine.specs.FaultLines.{AreFaultLines, AreNamed}
 use Rattle.gcu_engine.specs.Answers.{HasCause}
-use Rattle.gcu_engine.specs.Changing.{IsChangeFor, LeftChanged, LeftOfChange}
+use Rattle.gcu_engine.specs.Changing.{IsChangeFor, IsLast, acknowledged}
+use Rattle.gcu_engine.specs.Crashes.{LeftChanged, LeftOfChange}
 use Rattle.gcu_engine.specs.Plannings.{HasNone}
 use Rattle.gcu_engine.specs.declared.change.ReadyChange.{ReadyChange}
 
@@ -65,23 +65,6 @@ abbrev pub IsEnded : Outcome → List ℕ → ℕ
 IsEnded answer text step before after old new result =
     ((result ≡ answer) × (after ≡ option_map (printed text) before))
     ⊎ ((result ≡ PrintFault step) × PrintsPart text before after × Rose old.print new.print)
-
--- that text is the last line of the answer, in the state that the change then left
-abbrev pub IsLast : Change → State → State → Outcome → List ℕ → Type 0
-IsLast c began now Done text =
-    Finishes c (Some began) (Some now) × (text ≡ last_line Done)
-IsLast c began now (DiskFault step) text =
-    IsStoppedBy c (Disk step) began now × (text ≡ last_line (DiskFault step))
-IsLast c began now (ServiceFault step service) text =
-    (h : IsStoppedInRestarts c step service began now)
-    × (text ≡ service_line step service h.refused.name)
-IsLast c began now other text = ⊥
-
--- how many steps are acknowledged before that answer
-abbrev pub acknowledged : Change → Outcome → ℕ
-acknowledged c (DiskFault step) = step
-acknowledged c (ServiceFault step service) = step
-acknowledged c other = steps c
 
 -- the change was done or stopped, and the last line printed
 abbrev pub IsTold : Change → State → Option State → Outcome → Type 0

@@ -1,32 +1,34 @@
--- What the program promises, for all words, inputs and files: whatever models, folder and patch are given, each
--- configuration of a printed plan satisfies every model and move rule and the last is what the target makes of
--- the stored one; Unorderable comes only where no sequence of allowed moves arrives; after a crash at any
--- moment the stored configuration is the plan's last acknowledged or the next, and checkpoints are whole; a
--- finished change, and so a finished rollback, stores exactly its target.
-use Rattle.std.specs.Prelude.{◌≡◌, ◌≢◌, ◌⊎◌, ℕ, suc, List, [], ◌++◌, length, slice_get, Option, Some, None, Ok}
+-- What the program promises, for all words, inputs and files.
+--
+-- Whatever models, folder and patch are given, each configuration of a printed plan satisfies every model and
+-- move rule and the last is the RFC 6902 result; Unorderable comes only where no sequence of allowed moves
+-- arrives; after a crash at any moment the stored configuration is the plan's last acknowledged or the next, and
+-- checkpoints are whole; a finished rollback stores exactly its checkpoint.
+--
+-- Of `replace` and `rollback` the last configuration is that of the file and of the checkpoint. Where no plan is
+-- done, or the command is refused, the stored configuration after a crash is that of the beginning.
+use Rattle.std.specs.Prelude.{◌≡◌, ◌≢◌, ◌≤◌, ◌⊎◌, ℕ, suc, List, [], ◌++◌, length, slice_get, Option, Some, None, Ok, ⊤}
+use Rattle.std.specs.FinMap.{get}
 use Rattle.host_core.specs.Crashes.{Left}
 use Rattle.host_core.specs.State.{Files, State}
 use Rattle.conf_doc.specs.declared.configuration.Config.{Config}
 use Rattle.conf_store.specs.Changes.{IsSettled}
 use Rattle.conf_store.specs.Stored.{stored}
 use Rattle.checkpoints.specs.Changes.{with_point, without_point}
-use Rattle.checkpoints.specs.Points.{Points, points}
+use Rattle.checkpoints.specs.Points.{points}
 use Rattle.move_core.specs.Contexts.{IsValidIn, rulebook}
 use Rattle.move_core.specs.Operations.{plan_text}
 use Rattle.move_core.specs.Plans.{IsAllowed, IsReachable, conf}
 use Rattle.move_core.specs.declared.contexts.Ctx.{Ctx}
 use Rattle.move_core.specs.declared.moves.Move.{Move}
 use Rattle.change_apply.specs.Acknowledgements.{ack, acks}
-use Rattle.plan_options.specs.Targets.{Target}
+use Rattle.plan_options.specs.Targets.{Target, rolled_back}
+use Rattle.gcu_output.specs.Lines.{last_line}
 use Rattle.gcu_output.specs.declared.outcomes.Outcome.{Outcome}
-use Rattle.gcu_output.specs.declared.outcomes.Outcome.TheVariants.{Done, Unorderable}
-use Rattle.gcu_requests.specs.Asked.{asked}
-use Rattle.gcu_requests.specs.Form.{Form, form, plan, change}
-use Rattle.gcu_requests.specs.PlanAsked.{made_asked}
-use Rattle.gcu_requests.specs.Request as request
-use Rattle.gcu_requests.specs.Request.{Planning, Request, delete_checkpoint, save_checkpoint}
-use Rattle.gcu_requests.specs.RulesAsked.{ctx_asked}
+use Rattle.gcu_output.specs.declared.outcomes.Outcome.TheVariants.{Done, Memory, InputFault, DiskFault, PrintFault, ServiceFault, Unorderable, Budget}
+use Rattle.gcu_requests.specs.Form.{Form, form, plan, change, demo, save_checkpoint, delete_checkpoint}
 use Rattle.gcu_engine.specs.Changing.{IsLastLine}
+use Rattle.gcu_engine.specs.Contents.{IsContextIn, IsMade}
 
 -- ---- a plan
 
@@ -34,11 +36,11 @@ use Rattle.gcu_engine.specs.Changing.{IsLastLine}
 -- is what the target makes of the stored one: of a patch the result by RFC 6902
 pub record IsRightPlan (from : Target) (s : State) (ms : List Move) : Type 0 where
   pub ctx : Ctx
-  pub read : (ctx_asked s).Gives (Ok ctx)
+  pub read : IsContextIn s ctx
   pub start : Config
   pub stands : stored s.files ≡ Ok start
   pub goal : Config
-  pub made : (made_asked from start s).Gives (Ok goal)
+  pub made : IsMade from s start goal
   pub valid : (i : ℕ) → IsValidIn ctx (conf start ms i)
   pub allowed : (i : ℕ) (m : Move) → slice_get ms i ≡ Some m
       → IsAllowed (rulebook ctx) goal (conf start ms i) m
@@ -62,16 +64,24 @@ target_in (Some (plan from budget)) = Some from
 target_in (Some (change from budget)) = Some from
 target_in other = None
 
--- what is planned: only to be printed, to be done, or to be counted
-abbrev pub IsPlanned : List (List ℕ) → State → Planning → Type 0
-IsPlanned words s p =
-    (asked words s).Gives (Ok (request.plan p)) ⊎ ((asked words s).Gives (Ok (request.change p))
-    ⊎ ((ports : ℕ) × (asked words s).Gives (Ok (request.demo p ports))))
+-- where a plan begins and where it is to arrive: from the stored configuration at what the target makes of it;
+-- in a demonstration from a generated one at another
+abbrev pub IsPlanned : Option Form → State → (start goal : Config) → Type 0
+IsPlanned (Some (plan from budget)) s start goal =
+    (stored s.files ≡ Ok start) × IsMade from s start goal
+IsPlanned (Some (change from budget)) s start goal =
+    (stored s.files ≡ Ok start) × IsMade from s start goal
+IsPlanned (Some (demo seed ports)) s start goal = ⊤
+IsPlanned other s start goal = ⊥
 
 -- no sequence of allowed moves leads from the start to the goal
-abbrev pub HasNoOrder : List (List ℕ) → State → Type 0
-HasNoOrder words s =
-    (p : Planning) × IsPlanned words s p × ¬ IsReachable (rulebook p.ctx) p.goal p.start p.goal
+pub record HasNoOrder (f : Option Form) (s : State) : Type 0 where
+  pub ctx : Ctx
+  pub read : IsContextIn s ctx
+  pub start : Config
+  pub goal : Config
+  pub planned : IsPlanned f s start goal
+  pub none : ¬ IsReachable (rulebook ctx) goal start goal
 
 -- ---- a crash
 
@@ -96,6 +106,7 @@ pub record IsLastOrNext (from : Target) (s : State) (left : Left) : Type 0 where
   pub ms : List Move
   pub right : IsRightPlan from s ms
   pub done : ℕ
+  pub within : done ≤ length ms
   pub part : List ℕ
   pub cut : IsNoneWhole done part
   pub output : left.output ≡ s.output ++ plan_text ms ++ acks done ++ part
@@ -108,38 +119,79 @@ abbrev pub StandsAfter : Option Form → State → Left → Type 0
 StandsAfter (Some (change from budget)) s left = IsBefore from s left ⊎ IsLastOrNext from s left
 StandsAfter other s left = stored left.files ≡ stored s.files
 
--- the one checkpoint that a request adds or removes
-abbrev pub IsOneChange : Request → Points → Points → Type 0
-IsOneChange (save_checkpoint name config) before after = after ≡ with_point name config before
-IsOneChange (delete_checkpoint name) before after = after ≡ without_point name before
-IsOneChange other before after = ⊥
+-- the one checkpoint that a command adds, with the stored configuration, or removes
+abbrev pub IsOneChange : Option Form → State → Files → Type 0
+IsOneChange (Some (save_checkpoint name)) s files =
+    (config : Config) × (stored s.files ≡ Ok config)
+    × (points files ≡ with_point name config (points s.files))
+IsOneChange (Some (delete_checkpoint name)) s files =
+    points files ≡ without_point name (points s.files)
+IsOneChange other s files = ⊥
 
 -- the checkpoints are as before, or with the one change that the command makes
-abbrev pub HasWholePoints : List (List ℕ) → State → Files → Type 0
-HasWholePoints words s files =
-    (points files ≡ points s.files)
-    ⊎ ((r : Request) × (asked words s).Gives (Ok r) × IsOneChange r (points s.files) (points files))
+abbrev pub HasWholePoints : Option Form → State → Files → Type 0
+HasWholePoints f s files = (points files ≡ points s.files) ⊎ IsOneChange f s files
 
 -- what a crash leaves
 pub record IsWhole (words : List (List ℕ)) (s : State) (left : Left) : Type 0 where
   pub stands : StandsAfter (form words) s left
-  pub points_are : HasWholePoints words s left.files
+  pub points_are : HasWholePoints (form words) s left.files
 
--- ---- all of it
+-- ---- a finished change
 
 -- the folder stands for exactly what the target makes of the stored configuration
 abbrev pub StoresTarget : Target → State → Option State → Type 0
 StoresTarget from s after =
     (t : State) × (start : Config) × (goal : Config) × (after ≡ Some t)
-    × (stored s.files ≡ Ok start) × (made_asked from start s).Gives (Ok goal)
+    × (stored s.files ≡ Ok start) × IsMade from s start goal
     × (stored t.files ≡ Ok goal)
+
+-- the folder stands for exactly what the checkpoint of that name held
+abbrev pub StoresPoint : List ℕ → State → Option State → Type 0
+StoresPoint name s after =
+    (t : State) × (config : Config) × (after ≡ Some t)
+    × (get (points s.files) name ≡ Some (Some config)) × (stored t.files ≡ Ok config)
+
+-- ---- a refusal
+
+-- an answer that nothing may have been written before: another one than those of 0, 4, 5 and 6
+abbrev pub IsRefusal : Outcome → Type 0
+IsRefusal Done = ⊥
+IsRefusal (DiskFault step) = ⊥
+IsRefusal (PrintFault step) = ⊥
+IsRefusal (ServiceFault step service) = ⊥
+IsRefusal other = ⊤
+
+-- one that the words, the inputs and the files alone give, whatever the search and the host's calls do
+abbrev pub IsForeseen : Outcome → Type 0
+IsForeseen Memory = ⊥
+IsForeseen InputFault = ⊥
+IsForeseen Unorderable = ⊥
+IsForeseen (Budget n) = ⊥
+IsForeseen other = IsRefusal other
+
+-- the files are as before, the last line is all that was printed, and nothing was restarted
+pub record IsQuiet (s : State) (after : Option State) (result : Outcome) : Type 0 where
+  pub now : State
+  pub is : after ≡ Some now
+  pub files : now.files ≡ s.files
+  pub output : now.output ≡ s.output ++ last_line result
+  pub restarts : now.restarts ≡ s.restarts
+
+-- ---- all of it
 
 -- the promise, of a host in that state with nothing pending when the command begins, and of what a crash
 -- leaves since then
 pub record IsHeadline (words : List (List ℕ)) (s : State) (after : Option State) (result : Outcome)
     (IsLeftSince : Left → Type 0) : Type 0 where
   pub printed : (from : Target) → target_in (form words) ≡ Some from → PrintsPlan from s after
-  pub no_order : result ≡ Unorderable → HasNoOrder words s
+  pub no_order : result ≡ Unorderable → HasNoOrder (form words) s
   pub crash : IsSettled s → (left : Left) → IsLeftSince left → IsWhole words s left
+  -- a crash in a command that is refused leaves the files from before
+  pub refused : IsForeseen result → IsSettled s
+      → (left : Left) → IsLeftSince left → left.files ≡ s.files
+  pub quiet : IsRefusal result → IsQuiet s after result
   pub finished : (from : Target) (budget : ℕ) → form words ≡ Some (change from budget)
       → result ≡ Done → StoresTarget from s after
+  pub rolled : (name : List ℕ) (budget : ℕ) → form words ≡ Some (change (rolled_back name) budget)
+      → result ≡ Done → StoresPoint name s after

@@ -1,6 +1,8 @@
 -- what public clauses cite
 pub mod Answers
 pub mod Changing
+pub mod Contents
+pub mod Crashes
 pub mod Headline
 pub mod Plannings
 pub mod Summary

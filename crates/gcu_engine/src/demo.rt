@@ -3,7 +3,7 @@ ghost use Rattle.std.specs.Prelude.{◌≡◌, ◌≤◌, ◌++◌, IfErr, IfOk,
 ghost use Rattle.host_core.specs.Counts.{NoneFell, PrintMayRise};
 ghost use Rattle.host_core.specs.Crashes.{Elapses, LeavesOnly, MayLeaveNow};
 ghost use Rattle.gcu_demo.specs.Demo.{most_ports};
-ghost use Rattle.gcu_output.specs.Printing.{LeftWithOutput, IsSaid};
+ghost use Rattle.gcu_output.specs.Printing.{LeftInText, IsSaid};
 ghost use Rattle.gcu_output.specs.Lines.{last_line, line_feed};
 ghost use Rattle.gcu_output.specs.declared.outcomes.Outcome.TheVariants.{Done as done, Usage as usage};
 ghost use Rattle.gcu_requests.specs.DemoAsked.{demo_asked};
@@ -71,7 +71,7 @@ fn show_summary<H: Host>(alloc: Global, ports: u32, steps: usize, host: &mut H) 
         (H.told host.old) (H.told host.new) (H.counts host.old) (H.counts host.new) result }
     ensures counts { PrintMayRise (H.counts host.old) (H.counts host.new) }
     ensures time { Elapses H.moment H.left_since host.old host.new
-        (LeftWithOutput (H.told host.old)) }
+        (LeftInText (summary ports steps ++ last_line done) (H.told host.old)) }
     ensures goes { H.goes_on host.old host.new }
 {
     match summary_text(alloc, ports, steps) {

@@ -2,7 +2,7 @@
 ghost use Rattle.std.specs.Prelude.{◌≡◌, ◌++◌, IfErr, IfOk, OnOk, take};
 ghost use Rattle.host_core.specs.Counts.{DiskMayRise, NoneFell, PrintMayRise};
 ghost use Rattle.host_core.specs.Crashes.{Elapses, LeavesOnly, MayLeaveNow};
-ghost use Rattle.gcu_output.specs.Printing.{LeftWithOutput, IsSaid};
+ghost use Rattle.gcu_output.specs.Printing.{LeftInText, IsSaid};
 ghost use Rattle.gcu_output.specs.Lines.{last_line, line_feed, lines as in_lines};
 ghost use Rattle.gcu_output.specs.declared.outcomes.Outcome.TheVariants.{Done as done, Usage as usage};
 ghost use Rattle.gcu_requests.specs.Asked.{list_asked};
@@ -59,7 +59,7 @@ fn show_names<H: Host>(alloc: Global, names: &Names, host: &mut H) -> Outcome
         (H.told host.old) (H.told host.new) (H.counts host.old) (H.counts host.new) result }
     ensures counts { PrintMayRise (H.counts host.old) (H.counts host.new) }
     ensures time { Elapses H.moment H.left_since host.old host.new
-        (LeftWithOutput (H.told host.old)) }
+        (LeftInText (in_lines names.now ++ last_line done) (H.told host.old)) }
     ensures goes { H.goes_on host.old host.new }
 {
     match shown(alloc, names) {

@@ -6,7 +6,8 @@ ghost use Rattle.host_core.specs.Names.{longest_scoped_name};
 ghost use Rattle.gcu_output.specs.declared.outcomes.Outcome.TheVariants.{Usage as usage};
 ghost use Rattle.gcu_requests.specs.Asked.{asked};
 ghost use Rattle.gcu_requests.specs.Form.{form};
-ghost use Rattle.gcu_engine.specs.Answers.{Answers, Complete, HasCause, LeftMeanwhile, TellsUsage};
+ghost use Rattle.gcu_engine.specs.Answers.{Answers, Complete, HasCause, TellsUsage};
+ghost use Rattle.gcu_engine.specs.Crashes.{LeftMeanwhile};
 ghost use Rattle.gcu_engine.specs.Headline.{IsHeadline};
 
 use crate::Outcome;
@@ -18,7 +19,7 @@ use crate::dry_run::dry_run;
 use crate::list_checkpoints::list_checkpoints;
 use crate::save_checkpoint::save_checkpoint;
 use gcu_output::{say, show};
-use gcu_requests::{Form, preview, read_form};
+use gcu_requests::{Form, asked_has_one_answer, preview, read_form};
 use host_core::{Host, Txt};
 use move_core::{Boxes, Kit};
 use std::alloc::Global;
@@ -61,6 +62,7 @@ pub fn run<H: Host>(alloc: Global, words: &[Txt], kit: &mut Kit, host: &mut H) -
         (λ s. NoneRose (H.counts host.old) (H.counts host.new)
         → Complete (asked words.now s) result) }
 {
+    asked_has_one_answer();
     match read_form(words) {
         Form::Unknown => say(alloc, Outcome::Usage, host),
         Form::Preview { patch } => match preview(alloc, patch, host) {

@@ -1,8 +1,7 @@
 -- How time goes on through one call of a host after another, and what a crash leaves meanwhile.
-use Rattle.std.proofs.Common.{◌≡◌, inl, inr, ⊎_elim, ℕ, List, Option, ◌∙◌, subst, arith}
-use Rattle.host_core.specs.Crashes.{Elapses, Left, MayLeaveInPrint, MayLeaveNow}
+use Rattle.std.proofs.Common.{◌≡◌, inl, inr, ⊎_elim, ℕ, Option, ◌∙◌, subst, arith}
+use Rattle.host_core.specs.Crashes.{Elapses, Left, MayLeaveNow}
 use Rattle.host_core.specs.State.{State}
-use Rattle.gcu_output.specs.Printing.{LeftWithOutput}
 
 module _ {H : Type 0} (moment : H → ℕ) (left_since : H → ℕ → Left → Type 0) where
   -- what may be left of these may be left of those
@@ -32,8 +31,3 @@ module _ {H : Type 0} (moment : H → ℕ) (left_since : H → ℕ → Left → 
       elapses_both old mid new (MayLeaveNow before)
       (subst (λ x. Elapses moment left_since old mid (MayLeaveNow x)) same first)
       (subst (λ x. Elapses moment left_since mid new (MayLeaveNow x)) (again ∙ same) second)
-
-  -- a front of what is printed is a front of some output
-  pub elapses_in_print : (old new : H) (text : List ℕ) (before : Option State) → Elapses moment left_since old new (MayLeaveInPrint text before)
-      → Elapses moment left_since old new (LeftWithOutput before)
-  elapses_in_print old new text before = elapses_weaker old new _ _ (λ left h. (h.0, h.3))

@@ -1,7 +1,7 @@
 -- What printing the whole output of an answer leaves.
 use Rattle.std.specs.Prelude.{◌≡◌, ◌⊎◌, ◌++◌, ℕ, List, Option, option_map, Ok, Err, ⊤, Bool, true, false, Result}
 use Rattle.host_core.specs.Counts.{Counts, Rose}
-use Rattle.host_core.specs.Crashes.{Left, MayLeaveInPrint, MayLeaveNow}
+use Rattle.host_core.specs.Crashes.{Left, MayLeaveInPrint}
 use Rattle.host_core.specs.State.{State, printed, PrintsPart}
 use Rattle.conf_doc.specs.Document.{Document}
 use Rattle.conf_doc.specs.Texts.{line_feed, pretty_text}
@@ -27,14 +27,10 @@ IsSaid answer text before after old new result =
     IsPrinted answer text before after old new result
     ⊎ IsPrinted Memory (last_line Memory) before after old new result
 
--- what a crash leaves while the last line of some answer is printed
-abbrev pub LeftInLine : Option State → Left → Type 0
-LeftInLine told left = (answer : Outcome) × MayLeaveInPrint (last_line answer) told left
-
--- what a crash leaves where nothing but the output changes: what was there, with a front of some output
-abbrev pub LeftWithOutput : Option State → Left → Type 0
-LeftWithOutput before left =
-    (part : List ℕ) × MayLeaveNow (option_map (printed part) before) left
+-- what a crash leaves while a text is printed, or the last line of Memory in its place
+abbrev pub LeftInText : List ℕ → Option State → Left → Type 0
+LeftInText text told left =
+    MayLeaveInPrint text told left ⊎ MayLeaveInPrint (last_line Memory) told left
 
 -- ---- a command that writes
 
@@ -66,3 +62,8 @@ abbrev pub IsTold : Bool → Outcome
     → Option State → Option State → Counts → Counts → Outcome → Type 0
 IsTold true answer = IsPrinted answer (last_line answer)
 IsTold false answer = IsSaid answer (last_line answer)
+
+-- what a crash leaves while it is printed
+abbrev pub LeftInTold : Bool → Outcome → Option State → Left → Type 0
+LeftInTold true answer = MayLeaveInPrint (last_line answer)
+LeftInTold false answer = LeftInText (last_line answer)

@@ -4,7 +4,7 @@ ghost use Rattle.host_core.specs.Counts.{PrintMayRise};
 ghost use Rattle.host_core.specs.Crashes.{Elapses, MayLeaveInPrint};
 ghost use Rattle.conf_doc.specs.Trees.{document};
 ghost use Rattle.move_core.specs.Operations.{plan_text as text_of_plan};
-ghost use Rattle.gcu_output.specs.Printing.{LeftWithOutput, IsFirst, IsTold, is_disk_fault as is_fault, may_have_written, outcome_of, IsPrinted, IsSaid, LeftInLine, text_in_lines};
+ghost use Rattle.gcu_output.specs.Printing.{LeftInText, LeftInTold, IsFirst, IsTold, is_disk_fault as is_fault, may_have_written, outcome_of, IsPrinted, IsSaid, text_in_lines};
 ghost use Rattle.gcu_output.specs.Lines.{last_line};
 ghost use Rattle.gcu_output.specs.declared.outcomes.Outcome.TheVariants.{Done as done, Memory as no_memory};
 
@@ -22,9 +22,7 @@ pub fn say<H: Host>(alloc: Global, outcome: Outcome, host: &mut H) -> Outcome
         (H.told host.old) (H.told host.new) (H.counts host.old) (H.counts host.new) result }
     ensures counts { PrintMayRise (H.counts host.old) (H.counts host.new) }
     ensures time { Elapses H.moment H.left_since host.old host.new
-        (LeftWithOutput (H.told host.old)) }
-    ensures line { Elapses H.moment H.left_since host.old host.new
-        (LeftInLine (H.told host.old)) }
+        (LeftInText (last_line outcome) (H.told host.old)) }
     ensures goes { H.goes_on host.old host.new }
 {
     match line(alloc, &outcome) {
@@ -41,7 +39,7 @@ pub fn tell<H: Host>(alloc: Global, done: Result<(), Outcome>, host: &mut H) -> 
         (H.told host.old) (H.told host.new) (H.counts host.old) (H.counts host.new) result }
     ensures counts { PrintMayRise (H.counts host.old) (H.counts host.new) }
     ensures time { Elapses H.moment H.left_since host.old host.new
-        (LeftWithOutput (H.told host.old)) }
+        (LeftInTold (may_have_written (outcome_of done)) (outcome_of done) (H.told host.old)) }
     ensures goes { H.goes_on host.old host.new }
 {
     match done {
@@ -69,7 +67,7 @@ pub fn show<H: Host>(alloc: Global, tree: &Tree, host: &mut H) -> Outcome
         (H.told host.old) (H.told host.new) (H.counts host.old) (H.counts host.new) result }
     ensures counts { PrintMayRise (H.counts host.old) (H.counts host.new) }
     ensures time { Elapses H.moment H.left_since host.old host.new
-        (LeftWithOutput (H.told host.old)) }
+        (LeftInText (text_in_lines (document tree.now) ++ last_line done) (H.told host.old)) }
     ensures goes { H.goes_on host.old host.new }
 {
     match shown(alloc, tree) {
@@ -84,7 +82,7 @@ pub fn show_plan<H: Host>(alloc: Global, plan: &Plan, host: &mut H) -> Outcome
         (H.told host.old) (H.told host.new) (H.counts host.old) (H.counts host.new) result }
     ensures counts { PrintMayRise (H.counts host.old) (H.counts host.new) }
     ensures time { Elapses H.moment H.left_since host.old host.new
-        (LeftWithOutput (H.told host.old)) }
+        (LeftInText (text_of_plan plan.now ++ last_line done) (H.told host.old)) }
     ensures goes { H.goes_on host.old host.new }
 {
     match shown_plan(alloc, plan) {
@@ -99,9 +97,7 @@ pub fn say_memory<H: Host>(host: &mut H) -> Outcome
         (H.told host.old) (H.told host.new) (H.counts host.old) (H.counts host.new) result }
     ensures counts { PrintMayRise (H.counts host.old) (H.counts host.new) }
     ensures time { Elapses H.moment H.left_since host.old host.new
-        (LeftWithOutput (H.told host.old)) }
-    ensures line { Elapses H.moment H.left_since host.old host.new
-        (LeftInLine (H.told host.old)) }
+        (MayLeaveInPrint (last_line no_memory) (H.told host.old)) }
     ensures goes { H.goes_on host.old host.new }
 {
     print(Outcome::Memory, b"refused 1 memory\n", host)
@@ -135,8 +131,6 @@ pub fn print<H: Host>(outcome: Outcome, text: &[u8], host: &mut H) -> Outcome
         (H.told host.old) (H.told host.new) (H.counts host.old) (H.counts host.new) result }
     ensures counts { PrintMayRise (H.counts host.old) (H.counts host.new) }
     ensures time { Elapses H.moment H.left_since host.old host.new
-        (LeftWithOutput (H.told host.old)) }
-    ensures text { Elapses H.moment H.left_since host.old host.new
         (MayLeaveInPrint text.now (H.told host.old)) }
     ensures goes { H.goes_on host.old host.new }
 {

@@ -8,6 +8,7 @@ pub mod FileAsked
 pub mod Form
 pub mod FormView
 pub mod ModelFiles
+pub mod OneAnswer
 pub mod PatchAsked
 pub mod PlanAsked
 pub mod PointAsked

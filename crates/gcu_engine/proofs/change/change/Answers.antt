@@ -5,7 +5,7 @@ use Rattle.gcu_requests.specs.ChangeAsked.{change_asked}
 use Rattle.gcu_requests.proofs.Finding.{always_refuses}
 use Rattle.gcu_engine.proofs.Answering.{refused_cause, said_to}
 use Rattle.gcu_engine.proofs.Naming.{answers_wider, complete_wider, leaves_wider, misnamed_says}
-use Rattle.gcu_engine.proofs.ReadyOrNot.{begins_early, line_leaves}
+use Rattle.gcu_engine.proofs.ReadyOrNot.{begins_early, line_leaves, says_ready}
 use Rattle.gcu_engine.proofs.change.change.Goals as goal
 
 -- ---- a target that isn't refused
@@ -39,7 +39,11 @@ returns-in-Err-clause-answers g c =
 
 pub returns-in-Err-clause-crash : goal.returns-in-Err-clause-crash
 returns-in-Err-clause-crash g c =
-    line_leaves (change_asked (target_view c.args.target) c.args.budget) g.H.Host.moment g.H.Host.left_since (g.H.Host.told c.args.host.now) (g.H.Host.told c.args.host.now)
-    c.args.host.now c.args.host.now c.say.new.host (inl refl)
+    line_leaves (change_asked (target_view c.args.target) c.args.budget) g.H.Host.moment g.H.Host.left_since (g.H.Host.told c.args.host.now) (g.H.Host.told c.args.host.now) c.in-Err.outcome
+    c.args.host.now c.args.host.now c.say.new.host
+    (says_ready (change_asked (target_view c.args.target) c.args.budget) (g.H.Host.told c.args.host.now) c.in-Err.outcome
+    (misnamed_says (g.H.Host.told c.args.host.now) (target_view c.args.target) c.args.budget c.in-Err.outcome
+    (g.H.Host.counts c.args.host.now) (g.H.Host.counts c.args.host.now) c.in-Err.ensures.answer c.in-Err.ensures.cause
+    (always_refuses {X = Unit {0}} (Err c.in-Err.outcome) (g.H.Host.counts c.args.host.now) (g.H.Host.counts c.args.host.now) c.in-Err.ensures.cause))) (inl refl)
     (begins_early (change_asked (target_view c.args.target) c.args.budget) g.H.Host.moment g.H.Host.left_since (g.H.Host.told c.args.host.now)
-    c.args.host.now (λ left since. g.met.H.Host.only_now c.args.host.now left since)) c.say.ensures.line
+    c.args.host.now (λ left since. g.met.H.Host.only_now c.args.host.now left since)) c.say.ensures.time

@@ -51,8 +51,8 @@ returns-in-Ok-clause-crash g c =
 
 pub returns-in-Err-clause-crash : goal.returns-in-Err-clause-crash
 returns-in-Err-clause-crash g c =
-    line_leaves (settled_asked (target_view c.args.target) c.args.budget) g.H.Host.moment g.H.Host.left_since (g.H.Host.told c.args.host.now) (g.H.Host.told c.make_ready.new.host)
-    c.args.host.now c.make_ready.new.host c.say.new.host c.in-Err.ensures.kept c.make_ready.ensures.crash c.say.ensures.line
+    line_leaves (settled_asked (target_view c.args.target) c.args.budget) g.H.Host.moment g.H.Host.left_since (g.H.Host.told c.args.host.now) (g.H.Host.told c.make_ready.new.host) c.in-Err.outcome
+    c.args.host.now c.make_ready.new.host c.say.new.host c.in-Err.ensures.left c.in-Err.ensures.kept c.make_ready.ensures.crash c.say.ensures.time
 
 pub returns-in-Ok-clause-goes : goal.returns-in-Ok-clause-goes
 returns-in-Ok-clause-goes g c =

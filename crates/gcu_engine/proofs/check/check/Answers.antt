@@ -24,13 +24,15 @@ returns-clause-answers g c =
 pub returns-in-Ok-clause-crash : goal.returns-in-Ok-clause-crash
 returns-in-Ok-clause-crash g c =
     asking_leaves_behind g.H.Host.moment g.H.Host.left_since check_asked c.args.host.now c.judge_stored.new.host c.say.new.host
-    (g.H.Host.told c.args.host.now) (g.H.Host.told c.judge_stored.new.host) c.judge_stored.ensures.told
+    (g.H.Host.told c.args.host.now) (g.H.Host.told c.judge_stored.new.host) Done (last_line Done) c.judge_stored.ensures.told
+    (check_says (g.H.Host.told c.args.host.now) _ c.in-Ok.ensures.answer)
     (λ left since. g.met.H.Host.only_now c.args.host.now left since) c.judge_stored.ensures.time c.say.ensures.time
 
 pub returns-clause-crash : goal.returns-clause-crash
 returns-clause-crash g c =
     asking_leaves_behind g.H.Host.moment g.H.Host.left_since check_asked c.args.host.now c.judge_stored.new.host c.say-in-Err.new.host
-    (g.H.Host.told c.args.host.now) (g.H.Host.told c.judge_stored.new.host) c.judge_stored.ensures.told
+    (g.H.Host.told c.args.host.now) (g.H.Host.told c.judge_stored.new.host) c.in-Err.outcome (last_line c.in-Err.outcome) c.judge_stored.ensures.told
+    (check_refused (g.H.Host.told c.args.host.now) c.in-Err.outcome (g.H.Host.counts c.args.host.now) (g.H.Host.counts c.judge_stored.new.host) c.in-Err.ensures.cause c.in-Err.ensures.answer)
     (λ left since. g.met.H.Host.only_now c.args.host.now left since) c.judge_stored.ensures.time c.say-in-Err.ensures.time
 
 pub returns-in-Ok-clause-goes : goal.returns-in-Ok-clause-goes

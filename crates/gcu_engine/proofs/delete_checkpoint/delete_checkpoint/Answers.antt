@@ -3,7 +3,7 @@ use Rattle.gcu_requests.specs.Asked.{delete_asked}
 use Rattle.gcu_engine.proofs.Causes.{disk_fell, ended_cause}
 use Rattle.gcu_engine.proofs.Completing.{completes}
 use Rattle.gcu_engine.proofs.Elapsing.{asking_prints}
-use Rattle.gcu_engine.proofs.Writing.{comes_first, outcome_cause, ready_tells, told_answers}
+use Rattle.gcu_engine.proofs.Writing.{comes_first, outcome_cause, told_answers}
 use Rattle.gcu_engine.proofs.delete_checkpoint.delete_checkpoint.Goals as goal
 
 pub tell-requires : goal.tell-requires
@@ -25,7 +25,7 @@ pub returns-clause-crash : goal.returns-clause-crash
 returns-clause-crash g c =
     asking_prints g.H.Host.moment g.H.Host.left_since (delete_asked c.args.name.now) c.args.host.now c.remove_checkpoint-done.new.host c.tell.new.host
     (g.H.Host.told c.args.host.now) (g.H.Host.told c.remove_checkpoint-done.new.host)
-    (ready_tells (delete_asked c.args.name.now) (g.H.Host.told c.args.host.now) (g.H.Host.told c.remove_checkpoint-done.new.host) (outcome_of c.remove_checkpoint-done.result) c.remove_checkpoint-done.ensures.left)
+    (outcome_of c.remove_checkpoint-done.result) c.remove_checkpoint-done.ensures.left
     c.remove_checkpoint-done.ensures.crash
     (λ left later may. g.met.H.Host.counts_now c.remove_checkpoint-done.new.host (g.H.Host.moment c.args.host.now) left later may) c.tell.ensures.time
 

@@ -11,6 +11,7 @@ use Rattle.gcu_requests.specs.Asked.{delete_asked}
 use Rattle.gcu_requests.specs.Request.{delete_checkpoint}
 use Rattle.gcu_requests.proofs.Finding.{memory_found}
 use Rattle.gcu_engine.proofs.Deletions.{bad_name_found, deleting, may_delete, settled_found, settling_fault_found, settling_reads}
+use Rattle.gcu_engine.proofs.Elapsing.{asking_begins}
 use Rattle.gcu_engine.proofs.Writing.{FindsUnit, asking_goes_on, of_some, ready_before, ready_written, writes_within}
 use Rattle.gcu_engine.proofs.delete_checkpoint.remove_checkpoint.Goals as goal
 
@@ -24,6 +25,10 @@ returns-in_err-name-clause-left g c =
     (g.H.Host.counts c.args.host.now) (g.H.Host.counts c.args.host.now) (delete_checkpoint c.args.name.now) refl tt
     (memory_found (λ u. delete_checkpoint c.args.name.now) (g.H.Host.told c.args.host.now) (delete_asked c.args.name.now)))
 
+pub returns-in_err-name-clause-crash : goal.returns-in_err-name-clause-crash
+returns-in_err-name-clause-crash g c =
+    asking_begins g.H.Host.moment g.H.Host.left_since (delete_asked c.args.name.now) (g.H.Host.told c.args.host.now) c.args.host.now (λ left since. g.met.H.Host.only_now c.args.host.now left since)
+
 pub returns-then-not-is_good_name-clause-left : goal.returns-then-not-is_good_name-clause-left
 returns-then-not-is_good_name-clause-left g c =
     let bad : is_good_name c.args.name.now ≡ false = search rules in
@@ -31,6 +36,10 @@ returns-then-not-is_good_name-clause-left g c =
     (g.H.Host.counts c.args.host.now) (g.H.Host.counts c.args.host.now) (delete_checkpoint c.args.name.now) refl tt
     (subst (λ n. FindsUnit (g.H.Host.told c.args.host.now) (delete_checkpoint c.args.name.now) (Err (BadName n)) (delete_asked c.args.name.now)) (sym c.in_ok-name.ensures)
     (bad_name_found (g.H.Host.told c.args.host.now) c.args.name.now bad))
+
+pub returns-then-not-is_good_name-clause-crash : goal.returns-then-not-is_good_name-clause-crash
+returns-then-not-is_good_name-clause-crash g c =
+    asking_begins g.H.Host.moment g.H.Host.left_since (delete_asked c.args.name.now) (g.H.Host.told c.args.host.now) c.args.host.now (λ left since. g.met.H.Host.only_now c.args.host.now left since)
 
 -- ---- once it is settled
 

@@ -31,13 +31,13 @@ returns-in-Err-clause-cause g c =
 pub returns-in-Ok-clause-crash : goal.returns-in-Ok-clause-crash
 returns-in-Ok-clause-crash g c =
     asking_leaves_behind g.H.Host.moment g.H.Host.left_since (demo_asked c.args.size.seed c.args.size.ports) c.args.host.now c.find_steps.new.host c.show_summary.new.host
-    (g.H.Host.told c.args.host.now) (g.H.Host.told c.find_steps.new.host) c.find_steps.ensures.told
-    (λ left since. g.met.H.Host.only_now c.args.host.now left since) c.find_steps.ensures.time c.show_summary.ensures.time
+    (g.H.Host.told c.args.host.now) (g.H.Host.told c.find_steps.new.host) Done (summary c.args.size.ports (length c.in-Ok.plan) ++ last_line Done) c.find_steps.ensures.told c.in-Ok.ensures.says
+    (λ left since. g.met.H.Host.only_now c.args.host.now left since) c.find_steps.ensures.time (rw c.len.ensures at c.show_summary.ensures.time)
 
 pub returns-in-Err-clause-crash : goal.returns-in-Err-clause-crash
 returns-in-Err-clause-crash g c =
     asking_leaves_behind g.H.Host.moment g.H.Host.left_since (demo_asked c.args.size.seed c.args.size.ports) c.args.host.now c.find_steps.new.host c.say.new.host
-    (g.H.Host.told c.args.host.now) (g.H.Host.told c.find_steps.new.host) c.find_steps.ensures.told
+    (g.H.Host.told c.args.host.now) (g.H.Host.told c.find_steps.new.host) c.in-Err.outcome (last_line c.in-Err.outcome) c.find_steps.ensures.told c.in-Err.ensures.says
     (λ left since. g.met.H.Host.only_now c.args.host.now left since) c.find_steps.ensures.time c.say.ensures.time
 
 pub returns-in-Ok-clause-goes : goal.returns-in-Ok-clause-goes

@@ -32,13 +32,13 @@ returns-in-Err-clause-cause g c =
 pub returns-in-Ok-clause-crash : goal.returns-in-Ok-clause-crash
 returns-in-Ok-clause-crash g c =
     asking_leaves_behind g.H.Host.moment g.H.Host.left_since (dry_run_asked (target_view c.args.target) c.args.budget) c.args.host.now c.solve.new.host c.show_plan.new.host
-    (g.H.Host.told c.args.host.now) (g.H.Host.told c.solve.new.host) c.solve.ensures.told
+    (g.H.Host.told c.args.host.now) (g.H.Host.told c.solve.new.host) Done (plan_text c.in-Ok.plan ++ last_line Done) c.solve.ensures.told c.in-Ok.ensures.says
     (λ left since. g.met.H.Host.only_now c.args.host.now left since) c.solve.ensures.time c.show_plan.ensures.time
 
 pub returns-in-Err-clause-crash : goal.returns-in-Err-clause-crash
 returns-in-Err-clause-crash g c =
     asking_leaves_behind g.H.Host.moment g.H.Host.left_since (dry_run_asked (target_view c.args.target) c.args.budget) c.args.host.now c.solve.new.host c.say.new.host
-    (g.H.Host.told c.args.host.now) (g.H.Host.told c.solve.new.host) c.solve.ensures.told
+    (g.H.Host.told c.args.host.now) (g.H.Host.told c.solve.new.host) c.in-Err.outcome (last_line c.in-Err.outcome) c.solve.ensures.told c.in-Err.ensures.says
     (λ left since. g.met.H.Host.only_now c.args.host.now left since) c.solve.ensures.time c.say.ensures.time
 
 pub returns-in-Ok-clause-goes : goal.returns-in-Ok-clause-goes

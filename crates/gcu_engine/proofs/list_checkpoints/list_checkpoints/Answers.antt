@@ -25,13 +25,15 @@ returns-in-Err-clause-answers g c =
 pub returns-in-Ok-clause-crash : goal.returns-in-Ok-clause-crash
 returns-in-Ok-clause-crash g c =
     asking_leaves_behind g.H.Host.moment g.H.Host.left_since list_asked c.args.host.now c.find_names.new.host c.show_names.new.host
-    (g.H.Host.told c.args.host.now) (g.H.Host.told c.find_names.new.host) c.find_names.ensures.told
+    (g.H.Host.told c.args.host.now) (g.H.Host.told c.find_names.new.host) Done (lines c.in-Ok.names ++ last_line Done) c.find_names.ensures.told
+    (names_say (g.H.Host.told c.args.host.now) c.in-Ok.names c.in-Ok.ensures.answer)
     (λ left since. g.met.H.Host.only_now c.args.host.now left since) c.find_names.ensures.time c.show_names.ensures.time
 
 pub returns-in-Err-clause-crash : goal.returns-in-Err-clause-crash
 returns-in-Err-clause-crash g c =
     asking_leaves_behind g.H.Host.moment g.H.Host.left_since list_asked c.args.host.now c.find_names.new.host c.say.new.host
-    (g.H.Host.told c.args.host.now) (g.H.Host.told c.find_names.new.host) c.find_names.ensures.told
+    (g.H.Host.told c.args.host.now) (g.H.Host.told c.find_names.new.host) c.in-Err.outcome (last_line c.in-Err.outcome) c.find_names.ensures.told
+    (names_refused (g.H.Host.told c.args.host.now) c.in-Err.outcome (g.H.Host.counts c.args.host.now) (g.H.Host.counts c.find_names.new.host) c.in-Err.ensures.cause c.in-Err.ensures.answer)
     (λ left since. g.met.H.Host.only_now c.args.host.now left since) c.find_names.ensures.time c.say.ensures.time
 
 pub returns-in-Ok-clause-goes : goal.returns-in-Ok-clause-goes

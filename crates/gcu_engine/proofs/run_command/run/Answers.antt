@@ -1,4 +1,4 @@
-use Rattle.std.proofs.Common.{None, Some, inl, sym, ◌++◌}
+use Rattle.std.proofs.Common.{None, Some, sym, ◌++◌}
 use Rattle.conf_doc.specs.Trees.{document}
 use Rattle.gcu_output.specs.Lines.{last_line}
 use Rattle.gcu_output.specs.Printing.{text_in_lines}
@@ -36,19 +36,21 @@ returns-in-Err-clause-answers g c =
 
 pub returns-in-Unknown-clause-crash : goal.returns-in-Unknown-clause-crash
 returns-in-Unknown-clause-crash g c =
-    command_leaves g.H.Host.moment g.H.Host.left_since c.args.words.now None c.args.host.now c.say.new.host (g.H.Host.told c.args.host.now) c.in-Unknown.ensures (λ s left h. inl h)
-    (λ left since. g.met.H.Host.only_now c.args.host.now left since) c.say.ensures.time
+    command_leaves g.H.Host.moment g.H.Host.left_since c.args.words.now None c.args.host.now c.say.new.host (g.H.Host.told c.args.host.now) Usage (last_line Usage) c.in-Unknown.ensures (λ s left h. h)
+    (no_form_says c.args.words.now (g.H.Host.told c.args.host.now) (sym c.in-Unknown.ensures)) (λ left since. g.met.H.Host.only_now c.args.host.now left since) c.say.ensures.time
 
 pub returns-in-Ok-clause-crash : goal.returns-in-Ok-clause-crash
 returns-in-Ok-clause-crash g c =
     command_leaves_behind g.H.Host.moment g.H.Host.left_since c.args.words.now _ c.args.host.now c.preview.new.host c.show.new.host
-    (g.H.Host.told c.args.host.now) (g.H.Host.told c.preview.new.host) c.in-Preview.ensures (λ s left h. inl h) c.preview.ensures.told
+    (g.H.Host.told c.args.host.now) (g.H.Host.told c.preview.new.host) Done (text_in_lines (document c.in-Ok.tree) ++ last_line Done) c.in-Preview.ensures (λ s left h. h)
+    (preview_says c.args.words.now _ (g.H.Host.told c.args.host.now) c.in-Ok.tree (sym c.in-Preview.ensures) c.in-Ok.ensures.answer) c.preview.ensures.told
     (λ left since. g.met.H.Host.only_now c.args.host.now left since) c.preview.ensures.time c.show.ensures.time
 
 pub returns-in-Err-clause-crash : goal.returns-in-Err-clause-crash
 returns-in-Err-clause-crash g c =
     command_leaves_behind g.H.Host.moment g.H.Host.left_since c.args.words.now _ c.args.host.now c.preview.new.host c.say-in-Err.new.host
-    (g.H.Host.told c.args.host.now) (g.H.Host.told c.preview.new.host) c.in-Preview.ensures (λ s left h. inl h) c.preview.ensures.told
+    (g.H.Host.told c.args.host.now) (g.H.Host.told c.preview.new.host) c.in-Err.outcome (last_line c.in-Err.outcome) c.in-Preview.ensures (λ s left h. h)
+    (preview_refuses c.args.words.now _ (g.H.Host.told c.args.host.now) c.in-Err.outcome (g.H.Host.counts c.args.host.now) (g.H.Host.counts c.preview.new.host) (sym c.in-Preview.ensures) c.in-Err.ensures.cause c.in-Err.ensures.answer) c.preview.ensures.told
     (λ left since. g.met.H.Host.only_now c.args.host.now left since) c.preview.ensures.time c.say-in-Err.ensures.time
 
 pub returns-in-Ok-clause-goes : goal.returns-in-Ok-clause-goes
@@ -179,49 +181,49 @@ returns-in-Demo-clause-complete g c =
 pub returns-in-Unknown-clause-headline : goal.returns-in-Unknown-clause-headline
 returns-in-Unknown-clause-headline g c =
     headline g.H.Host.moment g.H.Host.left_since c.args.words.now (g.H.Host.told c.args.host.now) (g.H.Host.told c.say.new.host) c.args.host.now c.say.new.host
-    (g.H.Host.counts c.args.host.now) (g.H.Host.counts c.say.new.host) c.say.result (returns-in-Unknown-clause-answers g c) (returns-in-Unknown-clause-crash g c)
+    (g.H.Host.counts c.args.host.now) (g.H.Host.counts c.say.new.host) c.say.result c.asked_has_one_answer.ensures (returns-in-Unknown-clause-answers g c) (returns-in-Unknown-clause-crash g c)
 
 pub returns-in-Ok-clause-headline : goal.returns-in-Ok-clause-headline
 returns-in-Ok-clause-headline g c =
     headline g.H.Host.moment g.H.Host.left_since c.args.words.now (g.H.Host.told c.args.host.now) (g.H.Host.told c.show.new.host) c.args.host.now c.show.new.host
-    (g.H.Host.counts c.args.host.now) (g.H.Host.counts c.show.new.host) c.show.result (returns-in-Ok-clause-answers g c) (returns-in-Ok-clause-crash g c)
+    (g.H.Host.counts c.args.host.now) (g.H.Host.counts c.show.new.host) c.show.result c.asked_has_one_answer.ensures (returns-in-Ok-clause-answers g c) (returns-in-Ok-clause-crash g c)
 
 pub returns-in-Err-clause-headline : goal.returns-in-Err-clause-headline
 returns-in-Err-clause-headline g c =
     headline g.H.Host.moment g.H.Host.left_since c.args.words.now (g.H.Host.told c.args.host.now) (g.H.Host.told c.say-in-Err.new.host) c.args.host.now c.say-in-Err.new.host
-    (g.H.Host.counts c.args.host.now) (g.H.Host.counts c.say-in-Err.new.host) c.say-in-Err.result (returns-in-Err-clause-answers g c) (returns-in-Err-clause-crash g c)
+    (g.H.Host.counts c.args.host.now) (g.H.Host.counts c.say-in-Err.new.host) c.say-in-Err.result c.asked_has_one_answer.ensures (returns-in-Err-clause-answers g c) (returns-in-Err-clause-crash g c)
 
 pub returns-in-Check-clause-headline : goal.returns-in-Check-clause-headline
 returns-in-Check-clause-headline g c =
     headline g.H.Host.moment g.H.Host.left_since c.args.words.now (g.H.Host.told c.args.host.now) (g.H.Host.told c.check.new.host) c.args.host.now c.check.new.host
-    (g.H.Host.counts c.args.host.now) (g.H.Host.counts c.check.new.host) c.check.result (returns-in-Check-clause-answers g c) (returns-in-Check-clause-crash g c)
+    (g.H.Host.counts c.args.host.now) (g.H.Host.counts c.check.new.host) c.check.result c.asked_has_one_answer.ensures (returns-in-Check-clause-answers g c) (returns-in-Check-clause-crash g c)
 
 pub returns-in-ListCheckpoints-clause-headline : goal.returns-in-ListCheckpoints-clause-headline
 returns-in-ListCheckpoints-clause-headline g c =
     headline g.H.Host.moment g.H.Host.left_since c.args.words.now (g.H.Host.told c.args.host.now) (g.H.Host.told c.list_checkpoints.new.host) c.args.host.now c.list_checkpoints.new.host
-    (g.H.Host.counts c.args.host.now) (g.H.Host.counts c.list_checkpoints.new.host) c.list_checkpoints.result (returns-in-ListCheckpoints-clause-answers g c) (returns-in-ListCheckpoints-clause-crash g c)
+    (g.H.Host.counts c.args.host.now) (g.H.Host.counts c.list_checkpoints.new.host) c.list_checkpoints.result c.asked_has_one_answer.ensures (returns-in-ListCheckpoints-clause-answers g c) (returns-in-ListCheckpoints-clause-crash g c)
 
 pub returns-in-SaveCheckpoint-clause-headline : goal.returns-in-SaveCheckpoint-clause-headline
 returns-in-SaveCheckpoint-clause-headline g c =
     headline g.H.Host.moment g.H.Host.left_since c.args.words.now (g.H.Host.told c.args.host.now) (g.H.Host.told c.save_checkpoint.new.host) c.args.host.now c.save_checkpoint.new.host
-    (g.H.Host.counts c.args.host.now) (g.H.Host.counts c.save_checkpoint.new.host) c.save_checkpoint.result (returns-in-SaveCheckpoint-clause-answers g c) (returns-in-SaveCheckpoint-clause-crash g c)
+    (g.H.Host.counts c.args.host.now) (g.H.Host.counts c.save_checkpoint.new.host) c.save_checkpoint.result c.asked_has_one_answer.ensures (returns-in-SaveCheckpoint-clause-answers g c) (returns-in-SaveCheckpoint-clause-crash g c)
 
 pub returns-in-DeleteCheckpoint-clause-headline : goal.returns-in-DeleteCheckpoint-clause-headline
 returns-in-DeleteCheckpoint-clause-headline g c =
     headline g.H.Host.moment g.H.Host.left_since c.args.words.now (g.H.Host.told c.args.host.now) (g.H.Host.told c.delete_checkpoint.new.host) c.args.host.now c.delete_checkpoint.new.host
-    (g.H.Host.counts c.args.host.now) (g.H.Host.counts c.delete_checkpoint.new.host) c.delete_checkpoint.result (returns-in-DeleteCheckpoint-clause-answers g c) (returns-in-DeleteCheckpoint-clause-crash g c)
+    (g.H.Host.counts c.args.host.now) (g.H.Host.counts c.delete_checkpoint.new.host) c.delete_checkpoint.result c.asked_has_one_answer.ensures (returns-in-DeleteCheckpoint-clause-answers g c) (returns-in-DeleteCheckpoint-clause-crash g c)
 
 pub returns-in-Plan-clause-headline : goal.returns-in-Plan-clause-headline
 returns-in-Plan-clause-headline g c =
     headline g.H.Host.moment g.H.Host.left_since c.args.words.now (g.H.Host.told c.args.host.now) (g.H.Host.told c.dry_run.new.host) c.args.host.now c.dry_run.new.host
-    (g.H.Host.counts c.args.host.now) (g.H.Host.counts c.dry_run.new.host) c.dry_run.result (returns-in-Plan-clause-answers g c) (returns-in-Plan-clause-crash g c)
+    (g.H.Host.counts c.args.host.now) (g.H.Host.counts c.dry_run.new.host) c.dry_run.result c.asked_has_one_answer.ensures (returns-in-Plan-clause-answers g c) (returns-in-Plan-clause-crash g c)
 
 pub returns-in-Change-clause-headline : goal.returns-in-Change-clause-headline
 returns-in-Change-clause-headline g c =
     headline g.H.Host.moment g.H.Host.left_since c.args.words.now (g.H.Host.told c.args.host.now) (g.H.Host.told c.change.new.host) c.args.host.now c.change.new.host
-    (g.H.Host.counts c.args.host.now) (g.H.Host.counts c.change.new.host) c.change.result (returns-in-Change-clause-answers g c) (returns-in-Change-clause-crash g c)
+    (g.H.Host.counts c.args.host.now) (g.H.Host.counts c.change.new.host) c.change.result c.asked_has_one_answer.ensures (returns-in-Change-clause-answers g c) (returns-in-Change-clause-crash g c)
 
 pub returns-in-Demo-clause-headline : goal.returns-in-Demo-clause-headline
 returns-in-Demo-clause-headline g c =
     headline g.H.Host.moment g.H.Host.left_since c.args.words.now (g.H.Host.told c.args.host.now) (g.H.Host.told c.demo.new.host) c.args.host.now c.demo.new.host
-    (g.H.Host.counts c.args.host.now) (g.H.Host.counts c.demo.new.host) c.demo.result (returns-in-Demo-clause-answers g c) (returns-in-Demo-clause-crash g c)
+    (g.H.Host.counts c.args.host.now) (g.H.Host.counts c.demo.new.host) c.demo.result c.asked_has_one_answer.ensures (returns-in-Demo-clause-answers g c) (returns-in-Demo-clause-crash g c)

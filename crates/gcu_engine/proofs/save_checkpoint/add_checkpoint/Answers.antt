@@ -17,6 +17,7 @@ use Rattle.gcu_requests.specs.Request.{check, save_checkpoint}
 use Rattle.gcu_output.proofs.Elapsing.{elapses_both}
 use Rattle.gcu_requests.proofs.Finding.{memory_found}
 use Rattle.gcu_engine.proofs.Savings.{bad_name_found, may_save, not_valid_found, saving, saving_found, settling_fault_found, settling_reads}
+use Rattle.gcu_engine.proofs.Elapsing.{asking_begins}
 use Rattle.gcu_engine.proofs.Writing.{FindsUnit, asking_goes_on, asking_settles, of_some, ready_before, ready_settled, ready_written, writes_within}
 use Rattle.gcu_engine.proofs.save_checkpoint.add_checkpoint.Goals as goal
 
@@ -30,6 +31,10 @@ returns-in_err-name-clause-left g c =
     (g.H.Host.counts c.args.host.now) (g.H.Host.counts c.args.host.now) check refl tt
     (memory_found (λ u. check) (g.H.Host.told c.args.host.now) (save_asked c.args.name.now)))
 
+pub returns-in_err-name-clause-crash : goal.returns-in_err-name-clause-crash
+returns-in_err-name-clause-crash g c =
+    asking_begins g.H.Host.moment g.H.Host.left_since (save_asked c.args.name.now) (g.H.Host.told c.args.host.now) c.args.host.now (λ left since. g.met.H.Host.only_now c.args.host.now left since)
+
 pub returns-then-not-is_good_name-clause-left : goal.returns-then-not-is_good_name-clause-left
 returns-then-not-is_good_name-clause-left g c =
     let bad : is_good_name c.args.name.now ≡ false = search rules in
@@ -37,6 +42,10 @@ returns-then-not-is_good_name-clause-left g c =
     (g.H.Host.counts c.args.host.now) (g.H.Host.counts c.args.host.now) check refl tt
     (subst (λ n. FindsUnit (g.H.Host.told c.args.host.now) check (Err (BadName n)) (save_asked c.args.name.now)) (sym c.in_ok-name.ensures)
     (bad_name_found (g.H.Host.told c.args.host.now) c.args.name.now check bad))
+
+pub returns-then-not-is_good_name-clause-crash : goal.returns-then-not-is_good_name-clause-crash
+returns-then-not-is_good_name-clause-crash g c =
+    asking_begins g.H.Host.moment g.H.Host.left_since (save_asked c.args.name.now) (g.H.Host.told c.args.host.now) c.args.host.now (λ left since. g.met.H.Host.only_now c.args.host.now left since)
 
 -- ---- where nothing is settled
 

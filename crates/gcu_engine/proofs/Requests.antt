@@ -1,0 +1,135 @@
+-- What a form requests, where nothing stands against it.
+use Rattle.std.proofs.Common.{◌≡◌, inl, inr, ℕ, List, refl, sym, subst, Bool, true, false, if◌then◌else◌, Option, Some, None, Result, Ok, Err}
+use Rattle.std.specs.FinMap.{get, keys}
+use Rattle.host_core.specs.Answers.{map_ok}
+use Rattle.host_core.specs.State.{State, printed}
+use Rattle.conf_doc.specs.declared.configuration.Config.{Config}
+use Rattle.conf_store.specs.Stored.{stored}
+use Rattle.checkpoints.specs.Names.{is_good_name}
+use Rattle.checkpoints.specs.Points.{Held, points}
+use Rattle.move_core.specs.declared.contexts.Ctx.{Ctx}
+use Rattle.gcu_demo.specs.Demo as generated
+use Rattle.plan_options.specs.Options.{default_budget}
+use Rattle.plan_options.specs.Targets.{Target}
+use Rattle.gcu_output.specs.declared.outcomes.Outcome.{Outcome}
+use Rattle.gcu_output.specs.declared.outcomes.Outcome.TheVariants.{BadName}
+use Rattle.gcu_requests.specs.Asked.{absent_answer, delete_asked, form_asked, preview_asked, save_asked, there_answer}
+use Rattle.gcu_requests.specs.ChangeAsked.{change_asked}
+use Rattle.gcu_requests.specs.Checking.{check_asked}
+use Rattle.gcu_requests.specs.DemoAsked.{demo_asked, generated_asked}
+use Rattle.gcu_requests.specs.Form.{Form, form}
+use Rattle.gcu_requests.specs.Form as forms
+use Rattle.gcu_requests.specs.PlanAsked.{dry_run_asked}
+use Rattle.gcu_requests.specs.Request as request
+use Rattle.gcu_requests.specs.Request.{Planning, Request}
+use Rattle.gcu_engine.specs.Contents.{IsContextIn}
+use Rattle.gcu_engine.proofs.Naming.{named_is}
+use Rattle.gcu_engine.proofs.Contents.{context_in}
+use Rattle.gcu_engine.proofs.RightPlans.{IsAsked, asked_is, planning_is, stored_from}
+
+-- ---- a plan
+
+-- a plan is requested where one is to be printed
+pub plan_given : (from : Target) (budget : ℕ) (s : State) (r : Request) → (dry_run_asked from budget s).Gives (Ok r)
+    → (p : Planning) × IsAsked from s p × (request.plan p ≡ r)
+plan_given from budget s r (inl never) = absurd never
+plan_given from budget s r (inr (x, named, inl never)) = absurd never
+plan_given from budget s r (inr (x, named, inr (p, given, e))) =
+    let same : request.plan p ≡ r = cc in (p, subst (λ (t : Target). IsAsked t s p) (named_is from x named) (asked_is x budget s p given), same)
+
+-- a change is requested where one is to be done
+pub change_given : (from : Target) (budget : ℕ) (s : State) (r : Request) → (change_asked from budget s).Gives (Ok r)
+    → (p : Planning) × IsAsked from s p × (request.change p ≡ r)
+change_given from budget s r (inl never) = absurd never
+change_given from budget s r (inr (x, named, inl never)) = absurd never
+change_given from budget s r (inr (x, named, inr (u, settles, inl never))) = absurd never
+change_given from budget s r (inr (x, named, inr (u, settles, inr (p, given, e)))) =
+    let same : request.change p ≡ r = cc in (p, subst (λ (t : Target). IsAsked t s p) (named_is from x named) (asked_is x budget s p given), same)
+
+-- ---- each form
+
+-- what a form requests, where nothing stands against it
+abbrev pub IsRequestOf : Option Form → State → Request → Type 0
+IsRequestOf (Some (forms.plan from budget)) s r = (p : Planning) × IsAsked from s p × (request.plan p ≡ r)
+IsRequestOf (Some (forms.change from budget)) s r = (p : Planning) × IsAsked from s p × (request.change p ≡ r)
+IsRequestOf (Some (forms.demo seed ports)) s r =
+    (p : Planning) × IsContextIn s p.ctx × (p.start ≡ generated.start seed ports) × (p.goal ≡ generated.goal seed ports)
+    × (request.demo p ports ≡ r)
+IsRequestOf (Some (forms.save_checkpoint name)) s r = (c : Config) × (stored s.files ≡ Ok c) × (request.save_checkpoint name c ≡ r)
+IsRequestOf (Some (forms.delete_checkpoint name)) s r = request.delete_checkpoint name ≡ r
+IsRequestOf (Some (forms.preview path)) s r = (c : Config) × (request.preview c ≡ r)
+IsRequestOf (Some forms.check) s r = request.check ≡ r
+IsRequestOf (Some forms.list_checkpoints) s r = (names : List (List ℕ)) × (request.list_checkpoints names ≡ r)
+IsRequestOf None s r = ⊥
+
+request_is : (q r : Request) (x : Result Request Outcome) → x ≡ Ok q → x ≡ Ok r → q ≡ r
+request_is q r x a b = let same : q ≡ r = cc in same
+
+generated_is : (seed ports : ℕ) (ctx : Ctx) (s : State) (p : Planning) → IsContextIn s ctx → (generated_asked seed ports ctx).Gives (Ok p)
+    → IsContextIn s p.ctx × (p.start ≡ generated.start seed ports) × (p.goal ≡ generated.goal seed ports)
+generated_is seed ports ctx s p read (inl never) = absurd never
+generated_is seed ports ctx s p read (inr (start, given, inl never)) = absurd never
+generated_is seed ports ctx s p read (inr (start, (valid, is), inr (goal, inl never, e))) = absurd never
+generated_is seed ports ctx s p read (inr (start, (valid, is), inr (goal, inr (u, same, inl never), e))) = absurd never
+generated_is seed ports ctx s p read (inr (start, (valid, is), inr (goal, inr (u, same, inr (v, keys, (fine, made))), e))) =
+    subst (λ (q : Planning). IsContextIn s q.ctx × (q.start ≡ generated.start seed ports) × (q.goal ≡ generated.goal seed ports))
+    (planning_is (record { ctx = ctx; start = start; goal = goal; budget = default_budget }) p _ refl e) (read, is, made)
+
+demo_given : (seed ports : ℕ) (s : State) (r : Request) → (demo_asked seed ports s).Gives (Ok r) → IsRequestOf (Some (forms.demo seed ports)) s r
+demo_given seed ports s r (inl never) = absurd never
+demo_given seed ports s r (inr (p, inl never, e)) = absurd never
+demo_given seed ports s r (inr (p, inr (ctx, read, given), e)) =
+    let (context, start, goal) = generated_is seed ports ctx s p (context_in s ctx read) given in
+    (p, context, start, goal, request_is (request.demo p ports) r _ refl e)
+
+saved_is : (name : List ℕ) (config : Config) (o : Option Held) (r : Request) → absent_answer name config o ≡ Ok r → request.save_checkpoint name config ≡ r
+saved_is name config None r e = request_is (request.save_checkpoint name config) r _ refl e
+saved_is name config (Some held) r e = absurd cc
+
+deleted_is : (name : List ℕ) (o : Option Held) (r : Request) → map_ok request.delete_checkpoint (there_answer name o) ≡ Ok r → request.delete_checkpoint name ≡ r
+deleted_is name None r e = absurd cc
+deleted_is name (Some held) r e = request_is (request.delete_checkpoint name) r _ refl e
+
+name_of : (b : Bool) (word name : List ℕ) → (if b then Ok word else Err (BadName word)) ≡ Ok name → word ≡ name
+name_of true word name e = let same : word ≡ name = cc in same
+name_of false word name e = absurd cc
+
+save_given : (word : List ℕ) (s : State) (r : Request) → (save_asked word s).Gives (Ok r) → IsRequestOf (Some (forms.save_checkpoint word)) s r
+save_given word s r (inl never) = absurd never
+save_given word s r (inr (name, named, inl never)) = absurd never
+save_given word s r (inr (name, named, inr (u, settles, inl never))) = absurd never
+save_given word s r (inr (name, named, inr (u, settles, inr (q, checks, inl never)))) = absurd never
+save_given word s r (inr (name, named, inr (u, settles, inr (q, checks, inr (start, there, e))))) =
+    let same = name_of (is_good_name word) word name named in (
+      start,
+      stored_from (stored s.files) start there,
+      subst (λ (n : List ℕ). request.save_checkpoint n start ≡ r) (sym same) (saved_is name start (get (points s.files) name) r e),
+    )
+
+delete_given : (word : List ℕ) (s : State) (r : Request) → (delete_asked word s).Gives (Ok r) → IsRequestOf (Some (forms.delete_checkpoint word)) s r
+delete_given word s r (inl never) = absurd never
+delete_given word s r (inr (name, named, inl never)) = absurd never
+delete_given word s r (inr (name, named, inr (u, settles, e))) =
+    let same = name_of (is_good_name word) word name named in
+    subst (λ (n : List ℕ). request.delete_checkpoint n ≡ r) (sym same) (deleted_is name (get (points s.files) name) r e)
+
+check_given : (s : State) (r : Request) → (check_asked s).Gives (Ok r) → request.check ≡ r
+check_given s r (inl never) = absurd never
+check_given s r (inr (models, read, inl never)) = absurd never
+check_given s r (inr (models, read, inr (start, there, (valid, is)))) = sym is
+
+preview_given : (path : List ℕ) (s : State) (r : Request) → (preview_asked path s).Gives (Ok r) → (c : Config) × (request.preview c ≡ r)
+preview_given path s r (inl never) = absurd never
+preview_given path s r (inr (c, made, e)) = (c, request_is (request.preview c) r _ refl e)
+
+-- what is requested is what the form says
+pub requested : (f : Option Form) (s : State) (r : Request) → (form_asked f s).Gives (Ok r) → IsRequestOf f s r
+requested (Some (forms.plan from budget)) s r given = plan_given from budget s r given
+requested (Some (forms.change from budget)) s r given = change_given from budget s r given
+requested (Some (forms.demo seed ports)) s r given = demo_given seed ports s r given
+requested (Some (forms.save_checkpoint name)) s r given = save_given name s r given
+requested (Some (forms.delete_checkpoint name)) s r given = delete_given name s r given
+requested (Some (forms.preview path)) s r given = preview_given path s r given
+requested (Some forms.check) s r given = check_given s r given
+requested (Some forms.list_checkpoints) s r e = (keys (points s.files), request_is (request.list_checkpoints (keys (points s.files))) r _ refl e)
+requested None s r e = absurd cc

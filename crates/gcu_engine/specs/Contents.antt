@@ -1,0 +1,68 @@
+-- What the inputs of a command hold, where they can be read, and what a target makes of the stored configuration.
+use Rattle.std.specs.Prelude.{◌≡◌, ⊤, ℕ, List, [], ◌∷◌, codes, Option, Some, None, Result, Ok}
+use Rattle.std.specs.FinMap.{get}
+use Rattle.host_core.specs.State.{State}
+use Rattle.conf_doc.specs.Configuration.{tree}
+use Rattle.conf_doc.specs.Document.{Document}
+use Rattle.conf_doc.specs.Reading as documents
+use Rattle.conf_doc.specs.Shaping.{shaping}
+use Rattle.conf_doc.specs.declared.configuration.Config.{Config}
+use Rattle.patch_core.specs.Apply.{apply}
+use Rattle.patch_core.specs.Operation.{Operation}
+use Rattle.patch_core.specs.Reading.{patch}
+use Rattle.model_list.specs.Lists.{paths_of}
+use Rattle.yang_text.specs.Declarations.{Declaration}
+use Rattle.yang_text.specs.Reading.{reading}
+use Rattle.yang_scope.specs.Modules.{modules_of}
+use Rattle.yang_model.specs.ModelSets.{ModelSet}
+use Rattle.yang_model.specs.Readers.{Readers, AreTrue}
+use Rattle.yang_model.specs.Shapes.{models_of}
+use Rattle.checkpoints.specs.Points.{points}
+use Rattle.move_core.specs.RulesFile.{rules}
+use Rattle.move_core.specs.declared.contexts.Ctx.{Ctx}
+use Rattle.plan_options.specs.Targets.{Target, patched, replaced, rolled_back}
+
+-- the input at a path has bytes that are read as this
+abbrev pub Holds : {X E : Type 0} → State → List ℕ → (List ℕ → Result X E) → X → Type 0
+Holds s path read x = (bytes : List ℕ) × (get s.inputs path ≡ Some bytes) × (read bytes ≡ Ok x)
+
+-- ---- models and settings
+
+-- the inputs at some paths hold the statements of some files, in order
+abbrev pub HoldFiles : State → List (List ℕ) → List (List Declaration) → Type 0
+HoldFiles s [] [] = ⊤
+HoldFiles s (path ∷ paths) (file ∷ files) = Holds s path reading file × HoldFiles s paths files
+HoldFiles s paths files = ⊥
+
+-- the models are those of the files that the list of models names
+pub record AreModelsIn (s : State) (models : ModelSet) : Type 0 where
+  pub paths : List (List ℕ)
+  pub listed : Holds s (codes "models.list") paths_of paths
+  pub files : List (List Declaration)
+  pub hold : HoldFiles s paths files
+  pub are : (readers : Readers) → AreTrue readers
+      → models ≡ models_of (modules_of files) readers
+
+-- by the models and the settings of the inputs moves are judged
+pub record IsContextIn (s : State) (ctx : Ctx) : Type 0 where
+  pub models : AreModelsIn s ctx.models
+  pub settings : Holds s (codes "rules.json") rules ctx.settings
+
+-- ---- the target
+
+-- the document is that of a configuration
+abbrev pub HoldsConfig : State → List ℕ → Config → Type 0
+HoldsConfig s path config =
+    (d : Document) × Holds s path documents.reading d × (shaping d ≡ Ok config)
+
+-- the patch at a path leads from one configuration to another, by RFC 6902
+abbrev pub Patches : State → List ℕ → Config → Config → Type 0
+Patches s path start goal =
+    (ops : List Operation) × (d : Document) × Holds s path patch ops
+    × (apply ops (tree start) ≡ Ok d) × (shaping d ≡ Ok goal)
+
+-- what the target makes of a configuration: the patched one, that of a file, or that of a checkpoint
+abbrev pub IsMade : Target → State → Config → Config → Type 0
+IsMade (patched path) s start goal = Patches s path start goal
+IsMade (replaced path) s start goal = HoldsConfig s path goal
+IsMade (rolled_back name) s start goal = get (points s.files) name ≡ Some (Some goal)

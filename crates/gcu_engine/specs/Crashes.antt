@@ -1,0 +1,97 @@
+-- What a crash leaves at a moment of a command: whole files, and a front of what the command prints.
+use Rattle.std.specs.Prelude.{◌≡◌, ◌⊎◌, ℕ, List, ◌++◌, Option, Some, None, Ok, ⊤}
+use Rattle.host_core.specs.Crashes.{Left, MayLeave}
+use Rattle.host_core.specs.State.{State, printed}
+use Rattle.conf_store.specs.Changes.{AreLeft}
+use Rattle.checkpoints.specs.Changes.{IsDeletedOrNot, IsSavedOrNot}
+use Rattle.checkpoints.specs.Points.{points}
+use Rattle.move_core.specs.Operations.{plan_text}
+use Rattle.change_apply.specs.Acknowledgements.{acks}
+use Rattle.change_apply.specs.Change.{Change}
+use Rattle.change_apply.specs.Crashes.{IsLeft}
+use Rattle.gcu_output.specs.declared.outcomes.Outcome.{Outcome}
+use Rattle.gcu_requests.specs.Asked.{form_asked}
+use Rattle.gcu_requests.specs.Asking.{Asking}
+use Rattle.gcu_requests.specs.ChangeAsked.{change_asked}
+use Rattle.gcu_requests.specs.Form as forms
+use Rattle.gcu_requests.specs.Form.{Form, form}
+use Rattle.gcu_requests.specs.Request.{Planning, Request, change, delete_checkpoint, save_checkpoint}
+use Rattle.gcu_engine.specs.Answers.{Says}
+use Rattle.gcu_engine.specs.Changing.{IsChangeFor, IsLast, acknowledged, begun}
+
+-- ---- the output
+
+-- a front of the whole output that the command has with some answer, once nothing else is left to be done
+abbrev pub IsOutputFront : Asking Request → State → List ℕ → Type 0
+IsOutputFront asking before part =
+    (now : State) × (answer : Outcome) × (rest : List ℕ)
+    × Says asking before now answer (part ++ rest) × (now.output ≡ before.output)
+
+-- a front of the text of a plan that is then done
+abbrev pub IsPlanFront : Asking Request → State → List ℕ → Type 0
+IsPlanFront asking before part =
+    (p : Planning) × (c : Change) × (rest : List ℕ) × asking.Gives (Ok (change p))
+    × IsChangeFor p before c × (plan_text c.moves ≡ part ++ rest)
+
+-- ---- a command that does no plan
+
+-- the files are changed as a request changes them that writes, and all else is as before
+abbrev pub LeftWriting : Request → State → Left → Type 0
+LeftWriting (delete_checkpoint name) before left = AreLeft (IsDeletedOrNot name) before left
+LeftWriting (save_checkpoint name config) before left =
+    AreLeft (IsSavedOrNot name config) before left
+LeftWriting other before left = ⊥
+
+-- what was there, or what a request leaves that is right and writes
+abbrev pub LeftBy : Asking Request → State → Left → Type 0
+LeftBy asking before left =
+    MayLeave before left ⊎ ((r : Request) × asking.Gives (Ok r) × LeftWriting r before left)
+
+-- what a crash leaves: that, with a front of what the command prints
+abbrev pub LeftOf : Asking Request → State → Left → Type 0
+LeftOf asking before left =
+    (part : List ℕ) × IsOutputFront asking before part × LeftBy asking (printed part before) left
+
+-- ---- a command that does a plan
+
+-- while nothing is written yet: what was there, with a front of what is printed where nothing is done, or of
+-- the text of the plan
+abbrev pub LeftEarly : Asking Request → State → Left → Type 0
+LeftEarly asking before left =
+    (part : List ℕ) × (IsOutputFront asking before part ⊎ IsPlanFront asking before part)
+    × MayLeave (printed part before) left
+
+-- what a change leaves while its last line is printed, behind its acknowledgements
+pub record LeftLast (c : Change) (before : State) (left : Left) : Type 0 where
+  pub now : State
+  pub answer : Outcome
+  pub part : List ℕ
+  pub rest : List ℕ
+  pub line : IsLast c before now answer (part ++ rest)
+  pub output : left.output ≡ before.output ++ acks (acknowledged c answer) ++ part
+  pub is : IsLeft c before (record left { output = before.output ++ acks (acknowledged c answer) })
+
+-- what a change leaves: the last acknowledged configuration or the next one
+abbrev pub LeftChanged : Change → State → Left → Type 0
+LeftChanged c before left = IsLeft c before left ⊎ LeftLast c before left
+
+-- what a command leaves that does a plan: what was there, or what its change leaves with the checkpoints from
+-- before
+abbrev pub LeftOfChange : Asking Request → State → Left → Type 0
+LeftOfChange asking before left =
+    LeftEarly asking before left
+    ⊎ ((p : Planning) × (c : Change) × asking.Gives (Ok (change p)) × IsChangeFor p before c
+    × LeftChanged c (begun c before) left × (points left.files ≡ points before.files))
+
+-- ---- of words
+
+-- what a crash leaves of the command that words are
+abbrev pub LeftByForm : Option Form → State → Left → Type 0
+LeftByForm (Some (forms.change target budget)) before left =
+    LeftOfChange (change_asked target budget before) before left
+LeftByForm other before left = LeftOf (form_asked other before) before left
+
+-- What a crash leaves at a moment of a command, of a host that tells its state.
+abbrev pub LeftMeanwhile : List (List ℕ) → Option State → Left → Type 0
+LeftMeanwhile words None left = ⊤
+LeftMeanwhile words (Some before) left = LeftByForm (form words) before left
