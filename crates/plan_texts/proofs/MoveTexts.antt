@@ -69,10 +69,6 @@ module _ (text : List ℕ) where
 
 -- ---- lines
 
--- a line with another number is none of the step's
-pub no_number : (number : ℕ) (line : List ℕ) → ((rest : List ℕ) → line ≢ number_text number ++ rest) → (m : Move) → IsMove m → line ≢ number_text number ++ move_text m
-no_number number line none m is same = none (move_text m) same
-
 same_rest : (xs ys zs : List ℕ) → xs ++ ys ≡ xs ++ zs → ys ≡ zs
 same_rest [] ys zs same = same
 same_rest (x ∷ xs) ys zs same = let rest : xs ++ ys ≡ xs ++ zs = cc in same_rest xs ys zs rest

@@ -14,10 +14,15 @@ use Rattle.move_core.specs.declared.moves.Move.{Move}
 use Rattle.plan_texts.specs.PlanTexts.{IsMove, IsPart}
 
 -- the place and the part that names and a document are, where they are these
-pub record IsPlaceAndPart (names : List (List ℕ)) (d : Document) (found : Option (List (List ℕ) × Part))
+pub record IsPlaceAndPart
+    (names : List (List ℕ)) (d : Document) (found : Option (List (List ℕ) × Part))
     : Type 0 where
-  pub is : IfSome found (λ x. (x.0 ≡ names) × IsPath names × AreTexts names × Fits names x.1 × IsPart x.1)
-  pub all : (p : Part) → IsPath names → Fits names p → IsPart p → d ≡ part_tree p → found ≡ Some (names, p)
+  pub is :
+      IfSome found (λ x.
+      (x.0 ≡ names) × IsPath names × AreTexts names × Fits names x.1 × IsPart x.1)
+  pub all :
+      (p : Part) → IsPath names → Fits names p → IsPart p → d ≡ part_tree p
+      → found ≡ Some (names, p)
 
 -- the move that an operation is, where it is one
 pub record IsMoveOf (o : Operation) (found : Option Move) : Type 0 where
