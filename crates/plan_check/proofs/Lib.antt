@@ -1,0 +1,6 @@
+pub mod Accepted
+pub mod Adding
+pub mod Causes
+pub mod ChainEnds
+pub mod Tests
+pub mod WayLemmas
