@@ -1,5 +1,5 @@
 -- A plan has no fault.
-use Rattle.std.proofs.Common.{◌≡◌, ℕ, List, inl, inr, sym, subst, ◌∙◌}
+use Rattle.std.proofs.Common.{ℕ, List, inl, inr, subst}
 use Rattle.conf_doc.specs.WellFormed.{IsConfig}
 use Rattle.conf_doc.specs.declared.configuration.Config.{Config}
 use Rattle.move_core.specs.Listed.{IsListed}
@@ -7,7 +7,7 @@ use Rattle.move_core.specs.Moves.{IsDefined}
 use Rattle.move_core.specs.Plans.{IsAllowed, IsPlan, IsWay}
 use Rattle.move_core.specs.Rulebook.{Rulebook}
 use Rattle.move_core.specs.declared.moves.Move.{Move}
-use Rattle.plan_check.specs.Checks.{BreaksAt, EndsElsewhere, IsFirstFault, Meets}
+use Rattle.plan_check.specs.Checks.{BreaksAt, IsFirstFault, Meets}
 use Rattle.plan_check.specs.declared.errors.NoWhy.{NoWhy}
 use Rattle.plan_check.specs.declared.errors.NoWhy.TheVariants.{NotDefined, NotListed, Rule1, Rule2, Rule3, Rule4, Rule5, Same, WrongEnd}
 use Rattle.plan_check.proofs.WayLemmas.{one_end, way_cut}

@@ -1,7 +1,6 @@
 -- Lists to which what is missing is added.
-use Rattle.std.proofs.Common.{◌≡◌, ◌⊎◌, ℕ, zero, suc, ◌+◌, ◌<◌, List, [], ◌∷◌, ◌++◌, length, map, take, get_or, inl, inr, Contains, All, refl, sym, ap, ◌∙◌, subst, append_assoc, arith}
-use Rattle.std.proofs.lemmas.List.{append-nil}
-use Rattle.std.proofs.lemmas.List.Elements.{All-append, All-contains, All-nil, All-weaker, Contains-append_cases, Contains-append_left, Contains-append_right}
+use Rattle.std.proofs.Common.{◌≡◌, ◌⊎◌, ℕ, zero, suc, ◌+◌, List, [], ◌∷◌, ◌++◌, map, take, inl, inr, Contains, All, refl, sym, ap, ◌∙◌, subst, append_assoc, arith}
+use Rattle.std.proofs.lemmas.List.Elements.{All-append, All-contains, All-weaker, Contains-append_cases, Contains-append_left, Contains-append_right}
 use Rattle.plan_check.specs.Chains.{Adds}
 
 module _ {A : Type 0} where
@@ -14,41 +13,6 @@ module _ {A : Type 0} where
 
   is_one : (x : A) → Contains (x ∷ []) x
   is_one x = (0, omega arith, refl)
-
-  all_one : (P : A → Type 0) (x : A) → P x → All P (x ∷ [])
-  all_one P x is zero d lt = is
-  all_one P x is (suc k) d lt = absurd (omega arith)
-
-  -- it is there already
-  pub adds_none : (m : A) (xs : List A) → Contains xs m → Adds (λ x. x ≡ m) xs xs
-  adds_none m xs has = record {
-    more = [];
-    follows = sym (append-nil xs);
-    each = All-nil (λ x. x ≡ m);
-    all = λ a same. subst (Contains xs) (sym same) has;
-  }
-
-  -- it is put at the end
-  pub adds_one : (m : A) (xs ys : List A) → ys ≡ xs ++ m ∷ [] → Adds (λ x. x ≡ m) xs ys
-  adds_one m xs ys is = record {
-    more = m ∷ [];
-    follows = is;
-    each = all_one (λ x. x ≡ m) m refl;
-    all = λ a same. subst (λ l. Contains l a) (sym is) (subst (Contains (xs ++ m ∷ [])) (sym same) (Contains-append_right xs (m ∷ []) m (is_one m)));
-  }
-
-  -- nothing is to be added
-  pub adds_begin : (xs ms : List A) → Adds (Contains (take 0 ms)) xs xs
-  adds_begin xs ms = record {
-    more = [];
-    follows = sym (append-nil xs);
-    each = All-nil (Contains (take 0 ms));
-    all = λ a has. absurd (none_in a (nothing ms a has));
-  }
-    where
-      nothing : (ns : List A) (a : A) → Contains (take 0 ns) a → Contains [] a
-      nothing [] a has = has
-      nothing (n ∷ ns) a has = has
 
   both : (P Q R : A → Type 0) (xs ys zs : List A) → ((a : A) → P a → R a) → ((a : A) → Q a → R a) → ((a : A) → R a → P a ⊎ Q a) → Adds P xs ys → Adds Q ys zs → Adds R xs zs
   both P Q R xs ys zs one two cases p q = record {

@@ -1,5 +1,5 @@
 -- The first cause against a step, by what of it is wrong.
-use Rattle.std.proofs.Common.{◌≡◌, ◌≢◌, ℕ, ◌<◌, ◌≤◌, refl, sym, subst, arith}
+use Rattle.std.proofs.Common.{◌≡◌, ◌≢◌, ℕ, ◌<◌, ◌≤◌, subst, arith}
 use Rattle.conf_doc.specs.declared.configuration.Config.{Config}
 use Rattle.move_core.specs.Listed.{IsListed}
 use Rattle.move_core.specs.Moves.{IsDefined, step}
@@ -26,9 +26,6 @@ module _ (book : Rulebook) (goal cur : Config) (m : Move) where
   met n few d l s v h e k Rule4 lt = k lt
   met n few d l s v h e k Rule5 lt = absurd (omega arith)
   met n few d l s v h e k WrongEnd lt = tt
-
-  pub not_defined : ¬ IsDefined cur m → IsFirstCause book goal cur m NotDefined
-  not_defined broken = record { broken = broken; before = λ w lt. absurd (omega arith) }
 
   module _ (defined : IsDefined cur m) where
     pub not_listed : ¬ IsListed book cur goal m → IsFirstCause book goal cur m NotListed

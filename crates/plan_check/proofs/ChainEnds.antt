@@ -1,5 +1,5 @@
 -- All ends of chains are found.
-use Rattle.std.proofs.Common.{◌≡◌, ◌≢◌, ◌⊎◌, ℕ, zero, suc, ◌+◌, ◌<◌, ◌≤◌, List, [], ◌∷◌, ◌++◌, length, map, Some, slice_get, get_or, inl, inr, Contains, All, refl, sym, ap, ◌∙◌, subst, arith}
+use Rattle.std.proofs.Common.{◌≡◌, ◌≢◌, ℕ, zero, suc, ◌+◌, ◌<◌, ◌≤◌, List, [], ◌∷◌, ◌++◌, length, map, Some, slice_get, get_or, inl, inr, Contains, All, refl, sym, ap, ◌∙◌, subst, arith}
 use Rattle.std.proofs.lemmas.Bool.{cases_lt}
 use Rattle.std.proofs.lemmas.List.Elements.{All-append, All-contains, All-map, All-weaker, Contains-append_left}
 use Rattle.std.proofs.lemmas.Option.{slice_get-get_or, slice_get_within}
@@ -9,7 +9,7 @@ use Rattle.move_core.specs.Rulebook.{Rulebook}
 use Rattle.move_core.specs.declared.moves.Generated.{Generated}
 use Rattle.move_core.specs.declared.moves.Move.{Move}
 use Rattle.chain_begins.specs.Begins.{AreGenerated}
-use Rattle.plan_check.specs.Chains.{Adds, AreBegun, AreExtended, IsNoneBefore, IsReached}
+use Rattle.plan_check.specs.Chains.{Adds, AreBegun, IsReached}
 use Rattle.plan_check.proofs.Adding.{contains_map}
 
 module _ {A : Type 0} where
@@ -43,14 +43,6 @@ module _ (book : Rulebook) (cur goal : Config) where
   listed_more m x is more = record { first = is.first; depth = suc is.depth; generated = is.generated; leads = (m, is.leads, more) }
 
   module _ (mv : Move) where
-    -- nothing is extended yet
-    pub reached_first : (ms : List Move) → AreBegun book cur goal ms → IsReached book cur goal mv 0 ms
-    reached_first ms begun = record {
-      begun = begun;
-      extended = λ i m x lt at more. absurd (omega arith);
-      none = λ i m lt at. absurd (omega arith);
-    }
-
     -- the move at the index is another one, and is extended
     module _ (n : ℕ) (ms ns : List Move) (m : Move) (at : slice_get ms n ≡ Some m) (other : m ≢ mv) (is : IsReached book cur goal mv n ms) (adds : Adds (Extends book cur goal m) ms ns) where
       before : (i : ℕ) (x : Move) → i < n → slice_get ns i ≡ Some x → slice_get ms i ≡ Some x
@@ -108,7 +100,3 @@ module _ (book : Rulebook) (cur goal : Config) where
           let there = led listed.first listed.generated listed.depth mv listed.leads in
           let within = there.1 in
           is.none there.0 mv (omega arith) (slice_get-get_or ms there.0 mv within ∙ ap Some there.2) refl
-
-    -- one of those that are found
-    pub is_listed_at : (n : ℕ) (ms : List Move) (i : ℕ) → IsReached book cur goal mv n ms → slice_get ms i ≡ Some mv → IsListed book cur goal mv
-    is_listed_at n ms i is at = All-contains (IsListed book cur goal) ms mv is.begun.each (at_there ms i mv at)

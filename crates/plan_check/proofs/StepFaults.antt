@@ -1,5 +1,5 @@
 -- A step at fault, by its index.
-use Rattle.std.proofs.Common.{◌≡◌, ℕ, suc, ◌+◌, ◌<◌, ◌≤◌, List, ◌∷◌, ◌++◌, length, take, drop, get_or, add-one, inl, sym, ap, ◌∙◌, subst, arith, drop-cons, take-append-drop}
+use Rattle.std.proofs.Common.{◌≡◌, ℕ, suc, ◌+◌, ◌<◌, List, ◌∷◌, ◌++◌, length, take, drop, get_or, add-one, inl, sym, ap, ◌∙◌, subst, arith, drop-cons, take-append-drop}
 use Rattle.std.proofs.lemmas.List.{length-take-le}
 use Rattle.conf_doc.specs.WellFormed.{IsConfig}
 use Rattle.conf_doc.specs.declared.configuration.Config.{Config}
