@@ -1,0 +1,13 @@
+pub mod Appended
+pub mod Chosen
+pub mod FieldMoves
+pub mod Gathered
+pub mod KeyMoves
+pub mod Named
+pub mod Owned
+pub mod Parted
+pub mod SamePairs
+pub mod Settled
+pub mod TableMoves
+pub mod Walks
+pub mod WantNames

@@ -1,0 +1,30 @@
+use Rattle.std.proofs.Common.{◌+◌, sym, ◌∙◌, subst, true≢false, arith}
+use Rattle.move_core.specs.Contexts.{rulebook}
+use Rattle.chain_begins.specs.Choosing.{IsSeedOfFirst}
+use Rattle.chain_begins.proofs.Chosen.{seed_ends, seed_with, seed_without}
+use Rattle.chain_begins.proofs.Walks.{letters_at}
+use Rattle.chain_begins.proofs.seeds.seed_of.Goals.{then-has_no_want+in_ok-seed, else-has_no_want}
+use Rattle.chain_begins.proofs.seeds.seed_of.Goals as goal
+
+pub with-requires : goal.with-requires
+with-requires c = letters_at c.args.entry.now c.loop-i.i c.name_at-field.result.now c.len-i-end.ensures.formed.shaped.named c.name_at-field.ensures
+
+pub loop-i-preserved : goal.loop-i-preserved
+loop-i-preserved c =
+    let book = rulebook c.args.ctx.now in let goal = c.args.goal.now in let t = c.args.table.now in let k = c.args.key.now in let e = c.args.entry.now in
+    let rising = c.len-i-end.ensures.formed.shaped.rising in let n = c.name_at-field.result.now in let a = c.part_at-value.result.now in
+    elim c.if-has_no_want.branch [
+      | then-has_no_want+in_ok-seed w ↦
+          subst (IsSeedOfFirst book goal t k e (c.loop-i.i + 1)) (sym (w.seed-is ∙ w.in_ok-seed.ensures.changed))
+          (seed_with book goal t k e rising c.loop-i.i n a c.name_at-field.ensures c.part_at-value.ensures.part c.loop-i.seed c.loop-i.invariant (c.has_no_want.ensures.0 w.if-has_no_want.true))
+      | else-has_no_want w ↦
+          subst (IsSeedOfFirst book goal t k e (c.loop-i.i + 1)) (sym w.seed-is)
+          (seed_without book goal t k e rising c.loop-i.i n a c.name_at-field.ensures c.part_at-value.ensures.part c.loop-i.seed c.loop-i.invariant
+          (λ free. true≢false (sym (c.has_no_want.ensures.1 free) ∙ w.if-has_no_want.false)))
+    ]
+
+pub returns : goal.returns
+returns c =
+    let end = c.loop-i-test.false in let all = c.len-i-end.ensures.len in
+    seed_ends (rulebook c.args.ctx.now) c.args.goal.now c.args.table.now c.args.key.now c.args.entry.now c.len-i-end.ensures.formed.shaped.rising c.loop-i.i
+    (omega (arith, end, all)) c.loop-i.seed c.loop-i.invariant

@@ -1,0 +1,107 @@
+//! The adds of entries that cur lacks.
+ghost use Rattle.std.specs.Prelude.{◌≡◌, ◌<◌, length, IfOk};
+ghost use Rattle.move_core.specs.Generated.{added_entry};
+ghost use Rattle.chain_begins.specs.Adding.{IsAs, class_of};
+ghost use Rattle.chain_begins.specs.EntryLaws.{added_for};
+ghost use Rattle.chain_begins.specs.Given.{IsAddedEntry};
+ghost use Rattle.chain_begins.specs.Giving.{Gives};
+
+use crate::entries::EntryMoves;
+use crate::giving::{KEY_CLASS, SEED_CLASS, give};
+use crate::seeds::seed_of;
+use conf_doc::{Config, Entry, Part, Path, Table};
+use host_core::Memory;
+use move_core::{Ctx, Generated, Move};
+use std::alloc::Global;
+
+/// Which fields of goal's entry an added one has.
+#[derive(Drop)]
+pub(crate) enum Fields<'a> {
+    All,
+    /// Those without a want in goal.
+    Seed { ctx: &'a Ctx, goal: &'a Config },
+}
+
+impl<'a> Fields<'a> {
+    /// The entry with those fields.
+    fn choose(&self, alloc: Global, table: &str, key: &str, entry: &Entry) -> Result<Entry, Memory>
+        ensures { IfOk result (IsAs self.now table.now key.now entry.now) }
+    {
+        match self {
+            Fields::All => entry.copy(alloc),
+            Fields::Seed { ctx, goal } => seed_of(alloc, ctx, goal, table, key, entry),
+        }
+    }
+
+    /// The class of the adds.
+    fn class(&self) -> u8
+        ensures { result ≡ class_of self.now }
+    {
+        match self {
+            Fields::All => KEY_CLASS,
+            Fields::Seed { .. } => SEED_CLASS,
+        }
+    }
+}
+
+/// The add of each entry that cur lacks, with some fields.
+#[derive(Drop)]
+pub(crate) struct AddedEntries<'a> {
+    pub(crate) cur: &'a Config,
+    pub(crate) fields: Fields<'a>,
+}
+
+impl<'a> EntryMoves for AddedEntries<'a> {
+    ghost is_given = { λ s. IsAddedEntry (IsAs s.fields) (class_of s.fields) s.cur.now };
+
+    ghost other = { λ s. s.cur.now };
+
+    fn beside(&self) -> &Config {
+        self.cur
+    }
+
+    fn is_of_missing(&self) -> bool {
+        true
+    }
+
+    fn give(
+        &self,
+        alloc: Global,
+        table: &str,
+        key: &str,
+        entry: &Entry,
+        there: Option<&Entry>,
+        out: &mut Vec<Generated>,
+    ) -> Result<(), Memory> {
+        if there.is_some() {
+            return Ok(());
+        }
+        let new = self.fields.choose(alloc, table, key, entry)?;
+        let mv = added_entry(alloc, self.cur, table, key, new)?;
+        let place = Path::new(alloc, &[table, key])?;
+        give(mv, place, self.fields.class(), out)
+    }
+
+    ghost for_entries = { λ s. added_for (IsAs s.fields) (class_of s.fields) s.cur.now };
+}
+
+/// The add of an entry to its table, or where that isn't there, of the table that holds it alone.
+fn added_entry(
+    alloc: Global,
+    cur: &Config,
+    table: &str,
+    key: &str,
+    entry: Entry,
+) -> Result<Move, Memory>
+    requires table { 0 < length table.now }
+    requires key { 0 < length key.now }
+    ensures { IfOk result (λ m. m ≡ added_entry cur.now table.now key.now entry) }
+{
+    if cur.table(table).is_some() {
+        let path = Path::new(alloc, &[table, key])?;
+        return Ok(Move::Add(path, Part::Entry(entry)));
+    }
+    let path = Path::new(alloc, &[table])?;
+    let alone = Table::new(alloc).with(alloc, key, &entry)?;
+    Ok(Move::Add(path, Part::Table(alone)))
+}

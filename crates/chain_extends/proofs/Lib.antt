@@ -1,0 +1,17 @@
+pub mod AllExtensions
+pub mod Among
+pub mod AtKeys
+pub mod EntryWants
+pub mod Finding
+pub mod GoneKeys
+pub mod Kept
+pub mod KeptKeys
+pub mod Leafrefs
+pub mod Named
+pub mod Names
+pub mod Removals
+pub mod Requireds
+pub mod Slots
+pub mod Texts
+pub mod Uppers
+pub mod Wanted

@@ -1,0 +1,10 @@
+-- what public clauses cite
+pub mod Extended
+-- what only private clauses cite
+pub mod Entries
+pub mod Found
+pub mod KeptKeys
+pub mod Mentions
+pub mod Referrers
+pub mod Referring
+pub mod Requireds

@@ -1,0 +1,40 @@
+-- What is left without what it refers to.
+use Rattle.std.specs.Prelude.{◌≡◌, ◌⊎◌, ℕ, List, ◌∷◌, Some, option_map}
+use Rattle.std.specs.Option.{option_to_list}
+use Rattle.conf_check.specs.Acceptance.{IsSatisfied}
+use Rattle.conf_check.specs.Wants.{Want, IsWantAt, want_of}
+use Rattle.conf_check.specs.declared.want_iter.WantAt.{WantAt}
+use Rattle.conf_check.specs.declared.want_iter.WantPlace.{WantPlace}
+use Rattle.conf_doc.specs.declared.configuration.Config.{Config}
+use Rattle.yang_model.specs.ModelSets.{ModelSet}
+use Rattle.move_core.specs.Contexts.{names_of}
+use Rattle.move_core.specs.Moves.{Place}
+use Rattle.move_core.specs.declared.moves.Move.{Move}
+use Rattle.move_core.specs.declared.moves.Move.TheVariants.{Remove}
+use Rattle.chain_extends.specs.Found.{AddsUnlessLast}
+
+-- a key of the table is wanted that isn't there
+abbrev pub IsBroken : ModelSet → Config → List ℕ → Want → Type 0
+IsBroken models next t want =
+    (want.target.table ≡ t) × ¬ IsSatisfied models next want.target want.text
+
+-- the names of the place of a want as they are handed out
+abbrev pub place_of : WantAt → Place
+place_of at = at.table.now ∷ at.key.now ∷ option_to_list (option_map (λ f. f.now) at.field)
+
+-- the removal of the place of such a want is put at the end, unless it is the last
+abbrev pub AddsRemoval : ModelSet → Config → List ℕ → WantAt → List Move → List Move → Type 0
+AddsRemoval models next t at old new =
+    (IsBroken models next t (want_of at.want) × AddsUnlessLast (Remove (place_of at)) old new)
+    ⊎ ((¬ IsBroken models next t (want_of at.want)) × (new ≡ old))
+
+-- the place of some such want is removed
+pub record GivesRemovals (models : ModelSet) (cur next : Config) (t : List ℕ) (x : Move)
+    : Type 0 where
+  pub at : WantPlace
+  pub want : Want
+  pub wanted : IsWantAt models cur at want
+  pub broken : IsBroken models next t want
+  pub place : Place
+  pub names : names_of cur at ≡ Some place
+  pub move : x ≡ Remove place

@@ -1,0 +1,84 @@
+//! Whether an entry has a part of a key among its texts.
+ghost use Rattle.std.specs.Prelude.{◌≡◌, ℕ, List, map, IfOk, IsTrue};
+ghost use Rattle.std.specs.List.{Contains, list_any};
+ghost use Rattle.std.specs.Str.{bytes_eq};
+ghost use Rattle.key_split.specs.Key.{key_parts};
+ghost use Rattle.chain_extends.specs.Mentions.{Mentions, texts_of_value};
+
+use conf_doc::{Entry, Value};
+use host_core::{Memory, Names};
+use std::alloc::Global;
+
+/// A table, and the texts of which one is a part of each key that it loses.
+#[derive(Clone, Copy, Drop)]
+pub(crate) struct Gone<'a> {
+    pub(crate) table: &'a str,
+    pub(crate) parts: &'a [&'a str],
+}
+
+/// The parts of a key.
+pub(crate) fn parts_of<'a>(alloc: Global, key: &'a str) -> Result<Vec<&'a str>, Memory>
+    ensures { IfOk result (λ parts. map (λ p. p.now) parts.items ≡ key_parts key.now) }
+{
+    let parts = key.split('|').collect(alloc)?;
+    Ok(parts)
+}
+
+/// Whether a text is among some texts.
+fn is_among(texts: &[&str], text: &str) -> bool
+    ensures { result ≡ list_any (λ t. bytes_eq t.now text.now) texts.now }
+{
+    texts.iter().any(|t| *t == text)
+}
+
+/// Whether a part of the key is among some texts.
+fn has_part(texts: &[&str], key: &str) -> bool
+    ensures { (s : List ℕ) → Contains (map (λ t. t.now) texts.now) s
+        → Contains (key_parts key.now) s → IsTrue result }
+{
+    for part in key.split('|') {
+        if is_among(texts, part) {
+            return true;
+        }
+    }
+    false
+}
+
+/// Whether a value's text or one of its items is among some texts.
+fn has_text(texts: &[&str], value: &Value) -> bool
+    ensures { (s : List ℕ) → Contains (map (λ t. t.now) texts.now) s
+        → Contains (texts_of_value value.now) s → IsTrue result }
+{
+    match value {
+        Value::Text(text) => is_among(texts, text.as_str()),
+        Value::List(items) => has_item(texts, items),
+    }
+}
+
+/// Whether one of the items is among some texts.
+fn has_item(texts: &[&str], items: &Names) -> bool
+    ensures { (s : List ℕ) → Contains (map (λ t. t.now) texts.now) s
+        → Contains items.now s → IsTrue result }
+{
+    for item in items.items() {
+        if is_among(texts, item.as_str()) {
+            return true;
+        }
+    }
+    false
+}
+
+/// Whether an entry has one of some texts: as a part of its key, as a field or as an item of one.
+pub(crate) fn mentions_one(texts: &[&str], key: &str, fields: &Entry) -> bool
+    ensures { Mentions (map (λ t. t.now) texts.now) key.now fields.now → IsTrue result }
+{
+    if has_part(texts, key) {
+        return true;
+    }
+    for i in 0..fields.len() {
+        if has_text(texts, fields.part_at(i)) {
+            return true;
+        }
+    }
+    false
+}

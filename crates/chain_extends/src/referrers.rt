@@ -1,0 +1,249 @@
+//! The extender of referrers.
+ghost use Rattle.std.specs.Prelude.{◌≡◌, ◌↔◌, [], map, Some, IfOk, IsTrue, OnOk};
+ghost use Rattle.conf_check.specs.Wants.{want_of};
+ghost use Rattle.conf_doc.specs.Pairs.{find};
+ghost use Rattle.conf_doc.specs.Paths.{IsPath};
+ghost use Rattle.move_core.specs.Appends.{Appends};
+ghost use Rattle.move_core.specs.Contexts.{rulebook};
+ghost use Rattle.move_core.specs.Extensions.{IsReferrer};
+ghost use Rattle.move_core.specs.Moves.{IsDefined};
+ghost use Rattle.key_split.specs.Key.{key_parts};
+ghost use Rattle.chain_extends.specs.Entries.{entry_of};
+ghost use Rattle.chain_extends.specs.Found.{Finds};
+ghost use Rattle.chain_extends.specs.Mentions.{BreaksOnly, GivesOfChange, GivesOfEntry, GivesOfTable, IsRemovalOf, texts_of};
+ghost use Rattle.chain_extends.specs.Referrers.{AddsRemoval, GivesRemovals, IsBroken, place_of};
+
+use crate::changes::Change;
+use crate::entries::table_of;
+use crate::found::{add_move, add_unless_last};
+use crate::kept_keys::{keeps_always, keeps_keys};
+use crate::mentions::{Gone, mentions_one, parts_of};
+use crate::referring::{is_referred, table_refers};
+use conf_check::{Want, WantAt, entry_wants, is_satisfied, wants};
+use conf_doc::{Config, Entry, Path, Table};
+use host_core::Memory;
+use move_core::{Ctx, Move, Moves, step};
+use std::alloc::Global;
+use yang_model::Models;
+
+/// The path of the entry or the field where a want stands.
+fn path_of(alloc: Global, at: &WantAt) -> Result<Path, Memory>
+    requires { IsPath (place_of at.now) }
+    ensures { IfOk result (λ p. p ≡ place_of at.now) }
+{
+    match at.field {
+        Some(field) => Path::new(alloc, &[at.table, at.key, field]),
+        None => Path::new(alloc, &[at.table, at.key]),
+    }
+}
+
+/// Whether a key of a table is wanted that a configuration lacks.
+fn is_broken(models: &Models, next: &Config, table: &str, want: &Want) -> bool
+    ensures { IsTrue result ↔ IsBroken models.now next.now table.now (want_of want.now) }
+{
+    want.table == table && !is_satisfied(models, next, want)
+}
+
+/// Adds the removal of the place of such a want. The wants of one place stand together, so only the last
+/// removal may be the same.
+fn add_removal(
+    alloc: Global,
+    models: &Models,
+    next: &Config,
+    table: &str,
+    at: &WantAt,
+    found: &mut Moves,
+) -> Result<(), Memory>
+    requires { IsPath (place_of at.now) }
+    ensures { let Adds = AddsRemoval models.now next.now table.now at.now in
+        OnOk result (Adds found.old found.new) }
+{
+    if is_broken(models, next, table, &at.want) {
+        let path = path_of(alloc, at)?;
+        add_unless_last(found, Move::Remove(path))
+    } else {
+        Ok(())
+    }
+}
+
+/// The removals of the places of all such wants.
+fn broken_wants(
+    alloc: Global,
+    models: &Models,
+    cur: &Config,
+    next: &Config,
+    table: &str,
+) -> Result<Moves, Memory>
+    ensures { let Gives = GivesRemovals models.now cur.now next.now table.now in
+        IfOk result (Appends Gives []) }
+{
+    let _tables = cur.len();
+    let mut found = Moves::new(alloc);
+    for at in wants(models, cur) {
+        add_removal(alloc, models, next, table, &at, &mut found)?;
+    }
+    Ok(found)
+}
+
+/// Adds the removal of the place of such a want, unless it is there.
+fn find_removal(
+    alloc: Global,
+    change: &Change<'_>,
+    gone: &str,
+    at: &WantAt,
+    found: &mut Moves,
+) -> Result<(), Memory>
+    requires { IsPath (place_of at.now) }
+    ensures { OnOk result
+        (Finds (IsRemovalOf change.now gone.now at.now) found.old found.new) }
+{
+    if is_broken(change.models, change.next, gone, &at.want) {
+        let path = path_of(alloc, at)?;
+        add_move(found, Move::Remove(path))
+    } else {
+        Ok(())
+    }
+}
+
+/// Adds the removals of the places of such wants of an entry.
+fn find_in_entry(
+    alloc: Global,
+    change: &Change<'_>,
+    gone: &str,
+    table: &str,
+    key: &str,
+    found: &mut Moves,
+) -> Result<(), Memory>
+    ensures { let Gives = GivesOfEntry change.now gone.now table.now key.now in
+        OnOk result (Finds Gives found.old found.new) }
+{
+    let _tables = change.cur.len();
+    for at in entry_wants(change.models, change.cur, table, key) {
+        find_removal(alloc, change, gone, &at, found)?;
+    }
+    Ok(())
+}
+
+/// The same, where the entry has one of the texts that alone can be wanted in vain.
+fn find_in_mentioning(
+    alloc: Global,
+    change: &Change<'_>,
+    gone: &Gone<'_>,
+    table: &str,
+    key: &str,
+    fields: &Entry,
+    found: &mut Moves,
+) -> Result<(), Memory>
+    requires entry { entry_of change.now.cur.now table.now key.now ≡ Some fields.now }
+    requires only { BreaksOnly change.now gone.now.table.now (texts_of gone.now) }
+    ensures { let Gives = GivesOfEntry change.now gone.now.table.now table.now key.now in
+        OnOk result (Finds Gives found.old found.new) }
+{
+    let _tables = change.cur.len();
+    if mentions_one(gone.parts, key, fields) {
+        find_in_entry(alloc, change, gone.table, table, key, found)
+    } else {
+        Ok(())
+    }
+}
+
+/// The same of each entry of a table, where one may refer to the table that loses the keys.
+fn find_in_table(
+    alloc: Global,
+    change: &Change<'_>,
+    gone: &Gone<'_>,
+    table: &str,
+    entries: &Table,
+    found: &mut Moves,
+) -> Result<(), Memory>
+    requires table { find table.now change.now.cur.now ≡ Some entries.now }
+    requires only { BreaksOnly change.now gone.now.table.now (texts_of gone.now) }
+    ensures { let Gives = GivesOfTable change.now gone.now.table.now (table.now, entries.now) in
+        OnOk result (Finds Gives found.old found.new) }
+{
+    if !table_refers(change.models, table, gone.table) {
+        return Ok(());
+    }
+    for i in 0..entries.len() {
+        let key = entries.name_at(i);
+        let fields = entries.part_at(i);
+        find_in_mentioning(alloc, change, gone, table, key, fields, found)?;
+    }
+    Ok(())
+}
+
+/// The removals of the places of all wants of a configuration that are broken, where the texts are known
+/// that these can have.
+fn find_in_config(alloc: Global, change: &Change<'_>, gone: &Gone<'_>) -> Result<Moves, Memory>
+    requires { BreaksOnly change.now gone.now.table.now (texts_of gone.now) }
+    ensures { IfOk result (Appends (GivesOfChange change.now gone.now.table.now) []) }
+{
+    let cur = change.cur;
+    let mut found = Moves::new(alloc);
+    for i in 0..cur.len() {
+        find_in_table(
+            alloc,
+            change,
+            gone,
+            cur.name_at(i),
+            cur.part_at(i),
+            &mut found,
+        )?;
+    }
+    Ok(found)
+}
+
+/// The removals of the referrers to a key that a move takes away. Only entries are looked at that have a
+/// part of the key among their texts: what all others want is there still.
+fn removals_of_key(
+    alloc: Global,
+    change: &Change<'_>,
+    table: &str,
+    key: &str,
+) -> Result<Moves, Memory>
+    requires { BreaksOnly change.now table.now (key_parts key.now) }
+    ensures { IfOk result (Appends (GivesOfChange change.now table.now) []) }
+{
+    let parts = parts_of(alloc, key)?;
+    let gone = Gone {
+        table,
+        parts: &parts,
+    };
+    find_in_config(alloc, change, &gone)
+}
+
+/// The removals of the referrers to what a move takes away. For a move that keeps the keys of any
+/// configuration the next one isn't made.
+pub(crate) fn removals_of(
+    alloc: Global,
+    ctx: &Ctx,
+    cur: &Config,
+    mv: &Move,
+) -> Result<Moves, Memory>
+    requires { IsDefined cur.now mv.now }
+    ensures { IfOk result (Appends (IsReferrer (rulebook ctx.now) cur.now mv.now) []) }
+{
+    if keeps_always(mv) {
+        return Ok(Moves::new(alloc));
+    }
+    let models = &ctx.models;
+    let table = table_of(mv);
+    if !is_referred(models, cur, table) {
+        return Ok(Moves::new(alloc));
+    }
+    let next = step(alloc, cur, mv)?;
+    if keeps_keys(cur, &next, mv) {
+        return Ok(Moves::new(alloc));
+    }
+    let place = mv.place();
+    if place.len() > 1 {
+        let change = Change {
+            models,
+            cur,
+            next: &next,
+        };
+        removals_of_key(alloc, &change, table, place.name_at(1))
+    } else {
+        broken_wants(alloc, models, cur, &next, table)
+    }
+}

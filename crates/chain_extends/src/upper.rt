@@ -1,0 +1,56 @@
+//! The extender of the place above.
+ghost use Rattle.std.specs.Prelude.{◌≡◌, option_map, IfOk};
+ghost use Rattle.conf_doc.specs.Changes.{part_at};
+ghost use Rattle.move_core.specs.Extensions.{as_in_goal, upper};
+ghost use Rattle.move_core.specs.Moves.{place};
+
+use crate::entries::{copy_entry, copy_table, copy_value, entry_at, value_at};
+use conf_doc::{Config, Part, Path};
+use host_core::Memory;
+use move_core::{Ctx, Move};
+use std::alloc::Global;
+
+/// The place one name shorter, of a place of two or three names.
+fn upper_place(alloc: Global, place: &Path) -> Result<Option<Path>, Memory>
+    ensures { IfOk result (λ p. p ≡ upper place.now) }
+{
+    match place.len() {
+        2 => Ok(Some(Path::new(alloc, &[place.name_at(0)])?)),
+        3 => Ok(Some(Path::new(alloc, &[place.name_at(0), place.name_at(1)])?)),
+        _ => Ok(None),
+    }
+}
+
+/// A copy of what stands at a place.
+fn copy_at(alloc: Global, config: &Config, place: &Path) -> Result<Option<Part>, Memory>
+    ensures { IfOk result (λ p. p ≡ part_at config.now place.now) }
+{
+    match place.len() {
+        1 => copy_table(alloc, config.table(place.name_at(0))),
+        2 => copy_entry(alloc, entry_at(config, place.name_at(0), place.name_at(1))),
+        _ => copy_value(
+            alloc,
+            value_at(config, place.name_at(0), place.name_at(1), place.name_at(2)),
+        ),
+    }
+}
+
+/// The place becomes as in goal: its part there, or nothing where goal lacks it.
+fn as_in_goal(alloc: Global, goal: &Config, place: Path) -> Result<Move, Memory>
+    ensures { IfOk result (λ m. m ≡ as_in_goal goal.now place) }
+{
+    match copy_at(alloc, goal, &place)? {
+        Some(part) => Ok(Move::Replace(place, part)),
+        None => Ok(Move::Remove(place)),
+    }
+}
+
+/// The place above a move's becomes as in goal.
+pub(crate) fn upper_of(alloc: Global, goal: &Config, mv: &Move) -> Result<Option<Move>, Memory>
+    ensures { IfOk result (λ o. o ≡ option_map (as_in_goal goal.now) (upper (place mv.now))) }
+{
+    match upper_place(alloc, mv.place())? {
+        Some(place) => Ok(Some(as_in_goal(alloc, goal, place)?)),
+        None => Ok(None),
+    }
+}

@@ -1,0 +1,7 @@
+pub mod Accepted
+pub mod Adding
+pub mod Causes
+pub mod ChainEnds
+pub mod StepFaults
+pub mod Tests
+pub mod WayLemmas

@@ -1,0 +1,128 @@
+//! One step of a plan: whether it is allowed where it stands, or the first cause against it.
+ghost use Rattle.std.specs.Prelude.{◌≡◌, ◌↔◌, IfOk, IsTrue, MatchOption};
+ghost use Rattle.conf_doc.specs.Changes.{Fits, HasParent, HasPlace};
+ghost use Rattle.conf_doc.specs.WellFormed.{IsConfig};
+ghost use Rattle.move_core.specs.Contexts.{IsNamed, IsResult, rulebook};
+ghost use Rattle.move_core.specs.Moves.{IsDefined};
+ghost use Rattle.plan_check.specs.Verdicts.{IsFine, IsFirstBroken, IsVerdict};
+
+use crate::NoWhy;
+use crate::chains::is_listed;
+use conf_doc::{Config, Part, Path};
+use host_core::Memory;
+use move_core::{Ctx, Move, step};
+use plan_rules::{empties_none, has_no_dependency, is_valid, keeps_create_only, keeps_required};
+use std::alloc::Global;
+
+/// What is told of a step.
+#[derive(Drop)]
+pub(crate) enum Verdict {
+    /// It is allowed, and leads to this configuration.
+    Allowed(Config),
+    /// The first cause against it.
+    Refused(NoWhy),
+}
+
+/// Whether something stands at a place.
+fn has_place(config: &Config, place: &Path) -> bool
+    ensures { IsTrue result ↔ HasPlace config.now place.now }
+{
+    match place.len() {
+        1 => config.table(place.name_at(0)).is_some(),
+        2 => config.entry(place.name_at(0), place.name_at(1)).is_some(),
+        _ => config
+            .value(place.name_at(0), place.name_at(1), place.name_at(2))
+            .is_some(),
+    }
+}
+
+/// Whether what stands one name above a place is there.
+fn has_parent(config: &Config, place: &Path) -> bool
+    ensures { IsTrue result ↔ HasParent config.now place.now }
+{
+    match place.len() {
+        1 => true,
+        2 => config.table(place.name_at(0)).is_some(),
+        _ => config.entry(place.name_at(0), place.name_at(1)).is_some(),
+    }
+}
+
+/// Whether a part fits a place.
+fn fits(place: &Path, part: &Part) -> bool
+    ensures { IsTrue result ↔ Fits place.now part.now }
+{
+    match part {
+        Part::Table(_) => place.len() == 1,
+        Part::Entry(_) => place.len() == 2,
+        Part::Value(_) => place.len() == 3,
+    }
+}
+
+/// Whether a move is defined at a configuration.
+fn is_defined(cur: &Config, mv: &Move) -> bool
+    ensures { IsTrue result ↔ IsDefined cur.now mv.now }
+{
+    match mv {
+        Move::Add(path, part) => {
+            fits(path, part) && has_parent(cur, path) && !has_place(cur, path)
+        }
+        Move::Remove(path) => has_place(cur, path),
+        Move::Replace(path, part) => fits(path, part) && has_place(cur, path),
+    }
+}
+
+/// What of the result is the first to be wrong: that it is the same, or the first rule that is broken.
+fn first_broken(ctx: &Ctx, cur: &Config, next: &Config, mv: &Move) -> Option<NoWhy>
+    requires { IsResult cur.now mv.now next.now }
+    ensures { MatchOption result (IsFine (rulebook ctx.now) cur.now next.now mv.now)
+        (IsFirstBroken (rulebook ctx.now) cur.now next.now mv.now) }
+{
+    if next.same(cur) {
+        return Some(NoWhy::Same);
+    }
+    if !is_valid(&ctx.models, next) {
+        return Some(NoWhy::Rule1);
+    }
+    if !has_no_dependency(ctx, cur, next, mv) {
+        return Some(NoWhy::Rule2);
+    }
+    if !empties_none(cur, next, mv) {
+        return Some(NoWhy::Rule3);
+    }
+    if !keeps_create_only(&ctx.settings, cur, next, mv) {
+        return Some(NoWhy::Rule4);
+    }
+    if !keeps_required(&ctx.settings, cur, next, mv) {
+        return Some(NoWhy::Rule5);
+    }
+    None
+}
+
+/// What is told of a step at a configuration.
+pub(crate) fn judge(
+    alloc: Global,
+    ctx: &Ctx,
+    cur: &Config,
+    goal: &Config,
+    mv: &Move,
+) -> Result<Verdict, Memory>
+    requires { IsNamed ctx.now }
+    ensures verdict { IfOk result (IsVerdict (rulebook ctx.now) goal.now cur.now mv.now) }
+    ensures formed { IsConfig cur.now }
+{
+    let _tables = cur.len();
+    if !is_defined(cur, mv) {
+        return Ok(Verdict::Refused(NoWhy::NotDefined));
+    }
+    if !is_listed(alloc, ctx, cur, goal, mv)? {
+        return Ok(Verdict::Refused(NoWhy::NotListed));
+    }
+    let next = step(alloc, cur, mv)?;
+    match first_broken(ctx, cur, &next, mv) {
+        Some(why) => {
+            drop(next);
+            Ok(Verdict::Refused(why))
+        }
+        None => Ok(Verdict::Allowed(next)),
+    }
+}

@@ -1,0 +1,3 @@
+-- what only private clauses cite
+pub mod Dependencies
+pub mod Entries

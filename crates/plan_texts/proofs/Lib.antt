@@ -1,0 +1,9 @@
+pub mod CountLemmas
+pub mod Feeds
+pub mod LineLemmas
+pub mod MoveTexts
+pub mod OneElement
+pub mod PartLemmas
+pub mod PathLemmas
+pub mod PlanLines
+pub mod SoundParts

@@ -1,0 +1,16 @@
+//! Plans read back from their texts.
+#![tactic(auto)]
+
+mod counts;
+mod elements;
+mod ends;
+mod errors;
+mod lines;
+mod moves;
+mod parts;
+mod places;
+mod reading;
+mod steps;
+
+pub use errors::PlanError;
+pub use reading::read_plan;
