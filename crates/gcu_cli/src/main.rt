@@ -4,7 +4,6 @@
 ghost use Rattle.std.specs.Prelude.{◌≡◌, [], IfOk, OnErr, map, drop, string_bytes};
 ghost use Rattle.std.specs.Process.{exit_status};
 ghost use Rattle.std.specs.Vec.Iter.{into_iter_items};
-ghost use Rattle.gcu_output.specs.declared.outcomes.Outcome.{Outcome as outcomes};
 ghost use Rattle.gcu_output.specs.Lines.{number};
 ghost use Rattle.gcu_cli.specs.Obeying.{IsOutcomeOf, outcome_in};
 
@@ -20,10 +19,7 @@ use std::env::Args;
 use std::process::ExitCode;
 use std::{env, io};
 
-/// Ends with the number of the outcome for its status.
-fn main(rt: HostRuntime) -> ExitCode
-    ensures { (outcome : outcomes) × (exit_status result ≡ number outcome) }
-{
+fn main(rt: HostRuntime) -> ExitCode {
     let line = env::args(&rt);
     status_of(&obey(rt, line))
 }
