@@ -7,7 +7,7 @@
 --
 -- Of `replace` and `rollback` the last configuration is that of the file and of the checkpoint. Where no plan is
 -- done, or the command is refused, the stored configuration after a crash is that of the beginning.
-use Rattle.std.specs.Prelude.{◌≡◌, ◌≢◌, ◌≤◌, ◌⊎◌, ℕ, suc, List, [], ◌++◌, length, slice_get, Option, Some, None, Ok, Err, ⊤}
+use Rattle.std.specs.Prelude.{◌≡◌, ◌≢◌, ◌≤◌, ◌⊎◌, ℕ, suc, List, [], ◌++◌, length, slice_get, Option, Some, None, Ok, Err}
 use Rattle.std.specs.FinMap.{get}
 use Rattle.host_core.specs.Crashes.{Left}
 use Rattle.host_core.specs.State.{Files, State}
@@ -25,13 +25,14 @@ use Rattle.change_apply.specs.Acknowledgements.{ack, acks}
 use Rattle.plan_options.specs.Targets.{Target, rolled_back}
 use Rattle.gcu_output.specs.Lines.{last_line}
 use Rattle.gcu_output.specs.declared.outcomes.Outcome.{Outcome}
-use Rattle.gcu_output.specs.declared.outcomes.Outcome.TheVariants.{Done, DiskFault, PrintFault, ServiceFault, Unorderable}
+use Rattle.gcu_output.specs.declared.outcomes.Outcome.TheVariants.{Done, Unorderable}
 use Rattle.gcu_requests.specs.Asked.{asked}
 use Rattle.gcu_requests.specs.Form.{Form, form, plan, change}
 use Rattle.gcu_requests.specs.PlanAsked.{made_asked}
 use Rattle.gcu_requests.specs.Request as request
 use Rattle.gcu_requests.specs.Request.{Planning, Request, delete_checkpoint, save_checkpoint}
 use Rattle.gcu_requests.specs.RulesAsked.{ctx_asked}
+use Rattle.gcu_engine.specs.Answers.{IsRefusal}
 use Rattle.gcu_engine.specs.Changing.{IsLastLine}
 
 -- ---- a plan
@@ -149,14 +150,6 @@ StoresPoint name s after =
 
 -- ---- a refusal
 
--- an answer that nothing may have been written before: another one than those of 0, 4, 5 and 6
-abbrev pub IsRefusal : Outcome → Type 0
-IsRefusal Done = ⊥
-IsRefusal (DiskFault step) = ⊥
-IsRefusal (PrintFault step) = ⊥
-IsRefusal (ServiceFault step service) = ⊥
-IsRefusal other = ⊤
-
 -- the files are as before, the last line is all that was printed, and nothing was restarted
 pub record IsQuiet (s : State) (after : Option State) (result : Outcome) : Type 0 where
   pub now : State
@@ -177,6 +170,9 @@ pub record IsHeadline (words : List (List ℕ)) (s : State) (after : Option Stat
   -- a crash in a command that is refused leaves the files from before
   pub refused : (e : Outcome) → (asked words s).Gives (Err e) → IsSettled s
       → (left : Left) → IsLeftSince left → left.files ≡ s.files
+  -- with another answer than those of 0, 4, 5 and 6 it leaves what the folder stood for
+  pub kept : IsRefusal result → IsSettled s
+      → (left : Left) → IsLeftSince left → stored left.files ≡ stored s.files
   pub quiet : IsRefusal result → IsQuiet s after result
   pub finished : (from : Target) (budget : ℕ) → form words ≡ Some (change from budget)
       → result ≡ Done → StoresTarget from s after
