@@ -1,5 +1,5 @@
 -- The promise of the whole program follows from what it answers and what a crash leaves.
-use Rattle.std.proofs.Common.{◌≡◌, ◌≤◌, ◌⊎◌, inl, inr, ℕ, suc, List, [], ◌++◌, length, append-nil, append_assoc, sym, ap, ◌∙◌, subst, Option, Some, None, Ok, Err, IfSome, ⊎_elim}
+use Rattle.std.proofs.Common.{◌≡◌, ◌≤◌, ◌⊎◌, inl, inr, ℕ, suc, List, [], ◌++◌, length, append-nil, append_assoc, refl, sym, ap, ◌∙◌, subst, Option, Some, None, Ok, Err, IfSome, ⊎_elim}
 use Rattle.host_core.specs.Counts.{Counts}
 use Rattle.host_core.specs.Crashes.{Image, Left, LeavesOnly, MayLeave}
 use Rattle.host_core.specs.State.{State, printed}

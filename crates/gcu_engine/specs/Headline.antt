@@ -26,14 +26,10 @@ use Rattle.plan_options.specs.Targets.{Target, rolled_back}
 use Rattle.gcu_output.specs.Lines.{last_line}
 use Rattle.gcu_output.specs.declared.outcomes.Outcome.{Outcome}
 use Rattle.gcu_output.specs.declared.outcomes.Outcome.TheVariants.{Done, Memory, InputFault, Unorderable, Budget}
-use Rattle.gcu_requests.specs.Asked.{asked}
-use Rattle.gcu_requests.specs.Form.{Form, form, plan, change}
-use Rattle.gcu_requests.specs.PlanAsked.{made_asked}
-use Rattle.gcu_requests.specs.Request as request
-use Rattle.gcu_requests.specs.Request.{Planning, Request, delete_checkpoint, save_checkpoint}
-use Rattle.gcu_requests.specs.RulesAsked.{ctx_asked}
+use Rattle.gcu_requests.specs.Form.{Form, form, plan, change, demo, save_checkpoint, delete_checkpoint}
 use Rattle.gcu_engine.specs.Answers.{IsRefusal}
 use Rattle.gcu_engine.specs.Changing.{IsLastLine}
+use Rattle.gcu_engine.specs.Contents.{IsContextIn, IsMade}
 
 -- ---- a plan
 
