@@ -31,7 +31,7 @@ use Rattle.gcu_engine.specs.Answers.{HasCause, Leaves, Prints, Says}
 use Rattle.gcu_engine.specs.Changing.{AreAcknowledged, IsChangeFor, IsLast, acknowledged, begun}
 use Rattle.gcu_engine.specs.Commands.{AnswersTo}
 use Rattle.gcu_engine.specs.Crashes.{LeftChanged, LeftOfChange}
-use Rattle.gcu_engine.specs.Doing.{EndsChange, EndsWork, IsCutInLast, IsCutInStep, IsMissed, IsReadyIn, IsTold, LeftDoing, LeftToChange, change_by}
+use Rattle.gcu_engine.specs.Doing.{EndsChange, EndsWork, IsCutInLast, IsCutInStep, IsMissed, IsReadyIn, IsTold, LeftDoing, LeftToChange, LeftToEarly, change_by}
 use Rattle.gcu_engine.specs.PlanCommands.{IsSolved, RefusesOrEnds}
 use Rattle.gcu_engine.specs.Plannings.{IsPlanFor}
 use Rattle.gcu_engine.specs.declared.change.ReadyChange.{ReadyChange}
@@ -244,15 +244,20 @@ doing_left from budget law (Some s) told ready in_it is left h = by (subst (λ t
     by (inr h) = inr (in_it.0, ready.ready, given, in_it.2, h, kept_points ready.ready s left law h)
 
 -- nothing is printed yet
-pub early_left : (asking : State → Asking Request) (o : Option State) (left : Left) → MayLeaveNow o left → LeftToChange asking o left
+pub early_left : (asking : State → Asking Request) (o : Option State) (left : Left) → MayLeaveNow o left → LeftToEarly asking o left
 early_left asking None left may = tt
 early_left asking (Some s) left may =
-    inl ([], inl (no_front (asking s) s), with_none s left may)
+    ([], inl (no_front (asking s) s), with_none s left may)
 
 -- nothing is printed yet, and all is settled
 pub settled_early : (asking : State → Asking Request) (o told : Option State) → told ≡ option_map (with_pending settled) o → (left : Left) → MayLeaveNow told left
-    → LeftToChange asking o left
+    → LeftToEarly asking o left
 settled_early asking None told is left may = tt
 settled_early asking (Some s) told is left may =
     let now : MayLeave (with_pending settled s) left = subst (λ t. MayLeaveNow t left) is may in
-    inl ([], inl (no_front (asking s) s), part_left s [] left (with_none (with_pending settled s) left now))
+    ([], inl (no_front (asking s) s), part_left s [] left (with_none (with_pending settled s) left now))
+
+-- what is left while nothing is written may be left of a change
+pub early_changes : (asking : State → Asking Request) (o : Option State) (left : Left) → LeftToEarly asking o left → LeftToChange asking o left
+early_changes asking None left h = tt
+early_changes asking (Some s) left h = inl h

@@ -1,8 +1,9 @@
 -- The promise of the whole program follows from what it answers and what a crash leaves.
-use Rattle.std.proofs.Common.{◌≡◌, ◌≢◌, ◌≤◌, ◌<◌, ◌⊎◌, inl, inr, ℕ, zero, suc, ◌+◌, List, [], ◌∷◌, ◌++◌, length, append-nil, append_assoc, length-append, refl, sym, ap, ◌∙◌, subst, arith, Option, Some, None, Ok, Err, IfSome, ⊎_elim}
+use Rattle.std.proofs.Common.{◌≡◌, ◌≤◌, ◌⊎◌, inl, inr, ℕ, suc, List, [], ◌++◌, length, append-nil, append_assoc, refl, sym, ap, ◌∙◌, subst, Option, Some, None, Ok, Err, IfSome, ⊎_elim}
 use Rattle.host_core.specs.Counts.{Counts}
 use Rattle.host_core.specs.Crashes.{Image, Left, LeavesOnly, MayLeave}
 use Rattle.host_core.specs.State.{State, printed}
+use Rattle.host_core.proofs.Runs.{weaker}
 use Rattle.conf_doc.specs.declared.configuration.Config.{Config}
 use Rattle.conf_store.specs.Changes.{IsSettled}
 use Rattle.conf_store.specs.Stored.{stored}
@@ -10,7 +11,7 @@ use Rattle.checkpoints.specs.Changes.{with_point, without_point}
 use Rattle.checkpoints.specs.Points.{points}
 use Rattle.move_core.specs.Operations.{plan_text}
 use Rattle.move_core.specs.Plans.{conf}
-use Rattle.change_apply.specs.Acknowledgements.{HasAcknowledged, ack, acks}
+use Rattle.change_apply.specs.Acknowledgements.{acks}
 use Rattle.change_apply.specs.Change.{Change, name_at, steps}
 use Rattle.change_apply.specs.Crashes.{StandAt}
 use Rattle.change_apply.specs.Ends.{IsStopped}
@@ -28,67 +29,17 @@ use Rattle.gcu_requests.specs.OneAnswer.{AskedIsOne, HasOneAnswer}
 use Rattle.gcu_requests.specs.PlanAsked.{dry_run_asked}
 use Rattle.gcu_requests.specs.Request as request
 use Rattle.gcu_requests.specs.Request.{Planning, Request}
-use Rattle.gcu_engine.specs.Answers.{Answers, IsDoneOutput, IsUntouched, Leaves, LeavesDone, LeavesStopped, Prints, Says}
+use Rattle.gcu_engine.specs.Answers.{Answers, IsDoneOutput, IsRefusal, IsUntouched, Leaves, LeavesDone, LeavesStopped, Prints, Says}
 use Rattle.gcu_engine.specs.Changing.{IsChangeFor, IsLastLine, acknowledged, begun}
 use Rattle.gcu_engine.specs.Crashes.{LeftByForm, LeftChanged, LeftEarly, LeftMeanwhile, LeftOf, LeftOfChange, LeftWriting}
-use Rattle.gcu_engine.specs.Headline.{HasNoOrder, HasWholePoints, IsBefore, IsForeseen, IsHeadline, IsLastOrNext, IsOneChange, IsPlanOutput, IsQuiet, IsRefusal, PrintsPlan, StandsAfter, StoresPoint, StoresTarget, target_in}
+use Rattle.gcu_engine.specs.Doing.{LeftToEarly}
+use Rattle.gcu_engine.specs.Headline.{HasNoOrder, HasWholePoints, IsBefore, IsForeseen, IsHeadline, IsLastOrNext, IsOneChange, IsPlanOutput, IsQuiet, PrintsPlan, StandsAfter, StoresPoint, StoresTarget, target_in}
 use Rattle.gcu_engine.specs.Plannings.{IsUnsolved}
+use Rattle.gcu_engine.proofs.Acknowledged.{acked_is}
 use Rattle.gcu_engine.proofs.ChangeEnds.{is_last_line}
 use Rattle.gcu_engine.proofs.Changes.{some_is}
 use Rattle.gcu_engine.proofs.Requests.{IsRequestOf, change_given, plan_given, requested}
 use Rattle.gcu_engine.proofs.RightPlans.{IsAsked, right_plan, way_last}
-
--- ---- how many steps are acknowledged
-
-three_ways : (d k : ℕ) → (d < k) ⊎ ((d ≡ k) ⊎ (k < d))
-three_ways zero zero = inr (inl refl)
-three_ways zero (suc k) = inl (omega arith)
-three_ways (suc d) zero = inr (inr (omega arith))
-three_ways (suc d) (suc k) = up (three_ways d k)
-  where
-    up : (d < k) ⊎ ((d ≡ k) ⊎ (k < d)) → (suc d < suc k) ⊎ ((suc d ≡ suc k) ⊎ (suc k < suc d))
-    up (inl lt) = inl (omega (arith, lt))
-    up (inr (inl e)) = inr (inl (ap suc e))
-    up (inr (inr gt)) = inr (inr (omega (arith, gt)))
-
-one_length : (k : ℕ) → length (acks (suc k)) ≡ length (acks k) + length (ack (suc k))
-one_length k = length-append (acks k) (ack (suc k))
-
-more_by : (d k : ℕ) → (d < k → length (acks d) + length (ack (suc d)) ≤ length (acks k)) → d < suc k → (d < k) ⊎ ((d ≡ k) ⊎ (k < d))
-    → length (acks d) + length (ack (suc d)) ≤ length (acks (suc k))
-more_by d k so_far low (inl lt) = let less = so_far lt in let one = one_length k in omega (arith, less, one)
-more_by d k so_far low (inr (inl e)) =
-    subst (λ (n : ℕ). length (acks d) + length (ack (suc d)) ≤ length (acks (suc n))) e (let one = one_length d in omega (arith, one))
-more_by d k so_far low (inr (inr gt)) = absurd (omega (arith, low, gt))
-
--- with more steps there is at least the next acknowledgement more
-more_length : (d k : ℕ) → d < k → length (acks d) + length (ack (suc d)) ≤ length (acks k)
-more_length d zero low = absurd (omega (arith, low))
-more_length d (suc k) low = more_by d k (λ lt. more_length d k lt) low (three_ways d k)
-
-some_length : (rest : List ℕ) → rest ≢ [] → 0 < length rest
-some_length [] some = absurd (some refl)
-some_length (x ∷ rest) some = omega arith
-
-ack_length : (k : ℕ) → 0 < length (ack k)
-ack_length k = omega arith
-
--- so many were printed, and no part of another one
-acked_is : (d k : ℕ) (base : List ℕ) → HasAcknowledged d base (base ++ acks k) → d ≡ k
-acked_is d k base h = by (three_ways d k)
-  where
-    long : length base + length (acks k) ≡ length base + length (acks d) + length h.part
-    long =
-        sym (length-append base (acks k)) ∙ ap (λ (l : List ℕ). length l) h.printed
-        ∙ length-append (base ++ acks d) h.part ∙ ap (λ (n : ℕ). n + length h.part) (length-append base (acks d))
-
-    line : length (ack (suc d)) ≡ length h.part + length h.rest
-    line = ap (λ (l : List ℕ). length l) h.line ∙ length-append h.part h.rest
-
-    by : (d < k) ⊎ ((d ≡ k) ⊎ (k < d)) → d ≡ k
-    by (inl lt) = absurd (let more = more_length d k lt in let some = some_length h.rest h.cut in let l = long in let e = line in omega (arith, more, some, l, e))
-    by (inr (inl e)) = e
-    by (inr (inr gt)) = absurd (let more = more_length k d gt in let some = ack_length (suc k) in let l = long in omega (arith, more, some, l))
 
 -- ---- what is planned
 
@@ -492,13 +443,37 @@ form_refused : (f : Option Form) (s : State) (left : Left) (e : Outcome) → Has
 form_refused (Some (forms.change from budget)) s left e one refused clean h = change_refused (change_asked from budget s) one s left e refused clean h
 form_refused other s left e one refused clean h = other_refused (form_asked other s) one s left e refused clean h
 
+-- ---- a crash in a command that refuses
+
+-- of a host that tells its state the folder stands for the same as before, where nothing is pending then
+abbrev KeepsStored : Option State → Left → Type 0
+KeepsStored o left = IfSome o (λ s. IsSettled s → stored left.files ≡ stored s.files)
+
+-- no plan is done
+abbrev pub IsNoChange : Option Form → Type 0
+IsNoChange (Some (forms.change from budget)) = ⊥
+IsNoChange other = Unit {0}
+
+form_keeps : (f : Option Form) (s : State) (left : Left) → IsNoChange f → IsSettled s → LeftByForm f s left → stored left.files ≡ stored s.files
+form_keeps (Some (forms.change from budget)) s left never clean h = absurd never
+form_keeps other s left none clean h = other_stands (form_asked other s) s left clean h
+
+words_keep : (words : List (List ℕ)) (f : Option Form) (o : Option State) (left : Left) → f ≡ form words → IsNoChange f → LeftMeanwhile words o left → KeepsStored o left
+words_keep words f None left is none h = tt
+words_keep words f (Some s) left is none h = λ clean. form_keeps f s left none clean (subst (λ (g : Option Form). LeftByForm g s left) (sym is) h)
+
+early_keeps : (from : Target) (budget : ℕ) (o : Option State) (left : Left) → LeftToEarly (change_asked from budget) o left → KeepsStored o left
+early_keeps from budget None left h = tt
+early_keeps from budget (Some s) left (part, front, may) = λ clean. ap stored (settled_files s part left clean may)
+
 -- ---- all of it
 
 module _ {H : Type 0} (moment : H → ℕ) (left_since : H → ℕ → Left → Type 0) where
   headline_of : (words : List (List ℕ)) (s : State) (after : Option State) (old new : H) (before later : Counts) (result : Outcome)
       → AskedIsOne → Answers words (Some s) after before later result → LeavesOnly moment left_since old new (LeftMeanwhile words (Some s))
+      → (IsRefusal result → LeavesOnly moment left_since old new (KeepsStored (Some s)))
       → IsHeadline words s after result (left_since new (moment old))
-  headline_of words s after old new before later result one answers crash = record {
+  headline_of words s after old new before later result one answers crash keeps = record {
     printed = λ from is. plans_print (form words) from s after before later result is answers;
     no_order = no_order_is (form words) s after before later result answers;
     crash = λ clean left since.
@@ -508,6 +483,7 @@ module _ {H : Type 0} (moment : H → ℕ) (left_since : H → ℕ → Left → 
         };
     refused = λ any clean left since.
         form_refused (form words) s left result (one words s) (foreseen (asked words s) s answers.0 before later result answers.1 answers.3 any) clean (crash.each left since);
+    kept = λ any clean left since. (keeps any).each left since clean;
     quiet = λ any. quiet_is (asked words s) s answers.0 after answers.1 answers.2 before later result answers.3 any;
     finished = λ from budget is done. changes from budget is done;
     rolled = λ name budget is done. rolls_back name s after (changes (rolled_back name) budget is done);
@@ -520,8 +496,26 @@ module _ {H : Type 0} (moment : H → ℕ) (left_since : H → ℕ → Left → 
           (subst (λ (f : Option Form). Leaves (form_asked f s) s after before later result) is answers))
 
   -- of a host that may not tell its state
-  pub headline : (words : List (List ℕ)) (o after : Option State) (old new : H) (before later : Counts) (result : Outcome)
+  headline_in : (words : List (List ℕ)) (o after : Option State) (old new : H) (before later : Counts) (result : Outcome)
+      → AskedIsOne → Answers words o after before later result → LeavesOnly moment left_since old new (LeftMeanwhile words o)
+      → (IsRefusal result → LeavesOnly moment left_since old new (KeepsStored o))
+      → IfSome o (λ s. IsHeadline words s after result (left_since new (moment old)))
+  headline_in words None after old new before later result one answers crash keeps = tt
+  headline_in words (Some s) after old new before later result one answers crash keeps = headline_of words s after old new before later result one answers crash keeps
+
+  -- of words whose command does no plan
+  pub headline : (words : List (List ℕ)) (f : Option Form) (o after : Option State) (old new : H) (before later : Counts) (result : Outcome) → f ≡ form words → IsNoChange f
       → AskedIsOne → Answers words o after before later result → LeavesOnly moment left_since old new (LeftMeanwhile words o)
       → IfSome o (λ s. IsHeadline words s after result (left_since new (moment old)))
-  headline words None after old new before later result one answers crash = tt
-  headline words (Some s) after old new before later result one answers crash = headline_of words s after old new before later result one answers crash
+  headline words f o after old new before later result is none one answers crash =
+      headline_in words o after old new before later result one answers crash
+      (λ any. weaker moment left_since old new (LeftMeanwhile words o) (KeepsStored o) (λ left h. words_keep words f o left is none h) crash)
+
+  -- of words whose command does one
+  pub change_headline : (words : List (List ℕ)) (from : Target) (budget : ℕ) (o after : Option State) (old new : H) (before later : Counts) (result : Outcome)
+      → AskedIsOne → Answers words o after before later result → LeavesOnly moment left_since old new (LeftMeanwhile words o)
+      → (IsRefusal result → LeavesOnly moment left_since old new (LeftToEarly (change_asked from budget) o))
+      → IfSome o (λ s. IsHeadline words s after result (left_since new (moment old)))
+  change_headline words from budget o after old new before later result one answers crash early =
+      headline_in words o after old new before later result one answers crash
+      (λ any. weaker moment left_since old new (LeftToEarly (change_asked from budget) o) (KeepsStored o) (λ left h. early_keeps from budget o left h) (early any))

@@ -1,3 +1,4 @@
+mod Acknowledged
 mod Answering
 mod Causes
 mod ChangeBegins

@@ -17,7 +17,7 @@ use Rattle.gcu_requests.specs.Preparing.{Found, Refuses, RefusesAlways, refusal}
 use Rattle.gcu_requests.specs.Request.{Request}
 use Rattle.gcu_engine.specs.Answers.{Complete, IsStopped, IsUntouched, Prints, Says}
 use Rattle.gcu_engine.specs.Commands.{AnswersTo, CompleteTo}
-use Rattle.gcu_engine.specs.Doing.{LeftToChange}
+use Rattle.gcu_engine.specs.Doing.{LeftToChange, LeftToEarly}
 use Rattle.gcu_requests.proofs.Finding.{first_refused, found_always}
 use Rattle.gcu_engine.proofs.Answering.{refused_says}
 
@@ -92,16 +92,27 @@ answers_wider word budget (Some s) after old new result named (now, output, is, 
 
 -- ---- what a crash leaves
 
+early_left_wider : (word : Target) (budget : ℕ) (o : Option State) (left : Left) → target_answer word ≡ Ok word
+    → LeftToEarly (settled_asked word budget) o left → LeftToEarly (change_asked word budget) o left
+early_left_wider word budget None left named h = tt
+early_left_wider word budget (Some s) left named (part, inl (now, answer, rest, says, same), may) =
+    let wider = says_wider (settled_asked word budget s) (change_asked word budget s) (widened word budget s named) s now answer (part ++ rest) says in
+    (part, inl (now, answer, rest, wider, same), may)
+early_left_wider word budget (Some s) left named (part, inr (p, c, rest, given, fits, is), may) =
+    (part, inr (p, c, rest, (widened word budget s named).gives _ given, fits, is), may)
+
 left_wider : (word : Target) (budget : ℕ) (o : Option State) (left : Left) → target_answer word ≡ Ok word
     → LeftToChange (settled_asked word budget) o left → LeftToChange (change_asked word budget) o left
 left_wider word budget None left named h = tt
-left_wider word budget (Some s) left named (inl (part, inl (now, answer, rest, says, same), may)) =
-    let wider = says_wider (settled_asked word budget s) (change_asked word budget s) (widened word budget s named) s now answer (part ++ rest) says in
-    inl (part, inl (now, answer, rest, wider, same), may)
-left_wider word budget (Some s) left named (inl (part, inr (p, c, rest, given, fits, is), may)) =
-    inl (part, inr (p, c, rest, (widened word budget s named).gives _ given, fits, is), may)
+left_wider word budget (Some s) left named (inl h) = inl (early_left_wider word budget (Some s) left named h)
 left_wider word budget (Some s) left named (inr (p, c, given, fits, left_is, points_are)) =
     inr (p, c, (widened word budget s named).gives _ given, fits, left_is, points_are)
+
+pub early_wider : {H : Type 0} (moment : H → ℕ) (left_since : H → ℕ → Left → Type 0) (word : Target) (budget : ℕ) (o : Option State) (old new : H) → target_answer word ≡ Ok word
+    → LeavesOnly moment left_since old new (LeftToEarly (settled_asked word budget) o) → LeavesOnly moment left_since old new (LeftToEarly (change_asked word budget) o)
+early_wider moment left_since word budget o old new named run =
+    runs.weaker moment left_since old new (LeftToEarly (settled_asked word budget) o) (LeftToEarly (change_asked word budget) o)
+    (λ left h. early_left_wider word budget o left named h) run
 
 pub leaves_wider : {H : Type 0} (moment : H → ℕ) (left_since : H → ℕ → Left → Type 0) (word : Target) (budget : ℕ) (o : Option State) (old new : H) → target_answer word ≡ Ok word
     → LeavesOnly moment left_since old new (LeftToChange (settled_asked word budget) o) → LeavesOnly moment left_since old new (LeftToChange (change_asked word budget) o)

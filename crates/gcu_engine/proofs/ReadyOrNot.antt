@@ -22,48 +22,57 @@ use Rattle.gcu_requests.specs.declared.planning.Planning as code
 use Rattle.gcu_engine.specs.Answers.{HasCause, Says}
 use Rattle.gcu_engine.specs.Commands.{AnswersTo, IsReady}
 use Rattle.gcu_engine.specs.Crashes.{IsOutputFront}
-use Rattle.gcu_engine.specs.Doing.{IsKept, IsMissed, IsPrepared, IsReadyIn, LeftDoing, LeftToChange, change_by}
+use Rattle.gcu_engine.specs.Doing.{IsKept, IsMissed, IsPrepared, IsReadyIn, LeftDoing, LeftToChange, LeftToEarly, change_by}
 use Rattle.gcu_engine.specs.PlanCommands.{IsSolved, RefusesOrEnds}
 use Rattle.gcu_engine.specs.Plannings.{IsPlanFor}
 use Rattle.gcu_engine.specs.declared.change.ReadyChange.{ReadyChange}
 use Rattle.gcu_output.proofs.Elapsing.{elapses_both}
 use Rattle.gcu_engine.proofs.Causes.{rose_from}
-use Rattle.gcu_engine.proofs.Changes.{KeepsPoints, change_for, doing_left, early_left, missed_before, missed_says, part_left, ready_before, refused_missed, settled_early, solved_missed}
+use Rattle.gcu_engine.proofs.Changes.{KeepsPoints, change_for, doing_left, early_changes, early_left, missed_before, missed_says, part_left, ready_before, refused_missed, settled_early, solved_missed}
 use Rattle.gcu_engine.proofs.Elapsing.{memory_front, said_front}
 use Rattle.gcu_engine.proofs.Writing.{ready_printed}
 
 -- ---- while a line is printed
 
 -- a question that is refused of what is there
-pub says_ready : (asking : State → Asking Request) (o : Option State) (e : Outcome) → IfSome o (λ s. Says (asking s) s s e (last_line e)) → IsReady asking o o e
+says_ready : (asking : State → Asking Request) (o : Option State) (e : Outcome) → IfSome o (λ s. Says (asking s) s s e (last_line e)) → IsReady asking o o e
 says_ready asking None e says = refl
 says_ready asking (Some s) e says = (s, refl, says, refl)
 
 module _ (asking : State → Asking Request) where
   -- with a front that is printed
   kept_left : (s : State) (told : Option State) (part : List ℕ) (left : Left) → IsKept (Some s) told → IsOutputFront (asking s) s part → MayLeaveNow (option_map (printed part) told) left
-      → LeftToChange asking (Some s) left
-  kept_left s told part left (inl same) front may = inl (part, inl front, subst (λ t. MayLeaveNow (option_map (printed part) t) left) same may)
-  kept_left s told part left (inr is) front may = inl (part, inl front, part_left s part left (subst (λ t. MayLeaveNow (option_map (printed part) t) left) is may))
+      → LeftToEarly asking (Some s) left
+  kept_left s told part left (inl same) front may = (part, inl front, subst (λ t. MayLeaveNow (option_map (printed part) t) left) same may)
+  kept_left s told part left (inr is) front may = (part, inl front, part_left s part left (subst (λ t. MayLeaveNow (option_map (printed part) t) left) is may))
 
   -- what a crash leaves meanwhile
-  line_left : (o told : Option State) (e : Outcome) (left : Left) → IsReady asking o told e → IsKept o told → LeftInText (last_line e) told left → LeftToChange asking o left
+  line_left : (o told : Option State) (e : Outcome) (left : Left) → IsReady asking o told e → IsKept o told → LeftInText (last_line e) told left → LeftToEarly asking o left
   line_left None told e left ready kept h = tt
   line_left (Some s) told e left (now, is, says, same) kept (inl (part, rest, line, may)) =
       kept_left s told part left kept (said_front (asking s) s now e (last_line e) part rest says same line) may
   line_left (Some s) told e left ready kept (inr (part, rest, line, may)) = kept_left s told part left kept (memory_front (asking s) s part rest line) may
 
   module _ {H : Type 0} (moment : H → ℕ) (left_since : H → ℕ → Left → Type 0) where
-    pub line_leaves : (o told : Option State) (e : Outcome) (old mid new : H) → IsReady asking o told e → IsKept o told → LeavesOnly moment left_since old mid (LeftToChange asking o)
-        → Elapses moment left_since mid new (LeftInText (last_line e) told) → LeavesOnly moment left_since old new (LeftToChange asking o)
+    pub line_leaves : (o told : Option State) (e : Outcome) (old mid new : H) → IsReady asking o told e → IsKept o told → LeavesOnly moment left_since old mid (LeftToEarly asking o)
+        → Elapses moment left_since mid new (LeftInText (last_line e) told) → LeavesOnly moment left_since old new (LeftToEarly asking o)
     line_leaves o told e old mid new ready kept so_far time =
-        runs.goes_on moment left_since old mid new (LeftToChange asking o) (LeftInText (last_line e) told) so_far time (λ left h. line_left o told e left ready kept h)
+        runs.goes_on moment left_since old mid new (LeftToEarly asking o) (LeftInText (last_line e) told) so_far time (λ left h. line_left o told e left ready kept h)
 
     -- nothing is left yet but what was there
-    pub begins_early : (o : Option State) (old : H) → ((left : Left) → left_since old (moment old) left → MayLeaveNow o left)
-        → LeavesOnly moment left_since old old (LeftToChange asking o)
+    begins_early : (o : Option State) (old : H) → ((left : Left) → left_since old (moment old) left → MayLeaveNow o left)
+        → LeavesOnly moment left_since old old (LeftToEarly asking o)
     begins_early o old now =
-        runs.begins moment left_since old (LeftToChange asking o) (λ left since. early_left asking o left (now left since))
+        runs.begins moment left_since old (LeftToEarly asking o) (λ left since. early_left asking o left (now left since))
+
+    -- nothing is read, and a refusal of what is there is said
+    pub refused_early : (o : Option State) (e : Outcome) (old new : H) → IfSome o (λ s. Says (asking s) s s e (last_line e)) → ((left : Left) → left_since old (moment old) left → MayLeaveNow o left)
+        → Elapses moment left_since old new (LeftInText (last_line e) o) → LeavesOnly moment left_since old new (LeftToEarly asking o)
+    refused_early o e old new says now time = line_leaves o o e old old new (says_ready asking o e says) (inl refl) (begins_early o old now) time
+
+    -- so it is of a change
+    pub early_leaves : (o : Option State) (old new : H) → LeavesOnly moment left_since old new (LeftToEarly asking o) → LeavesOnly moment left_since old new (LeftToChange asking o)
+    early_leaves o old new run = runs.weaker moment left_since old new (LeftToEarly asking o) (LeftToChange asking o) (early_changes asking o) run
 
 -- ---- with nothing pending
 
@@ -133,29 +142,29 @@ module _ (from : Target) (budget : ℕ) where
   module _ {H : Type 0} (moment : H → ℕ) (left_since : H → ℕ → Left → Type 0) where
     -- nothing is settled
     pub unsettled_leaves : (o told : Option State) (old new : H) → told ≡ o → ((left : Left) → left_since old (moment old) left → MayLeaveNow o left)
-        → Elapses moment left_since old new (MayLeaveNow told) → LeavesOnly moment left_since old new (LeftToChange (settled_asked from budget) o)
+        → Elapses moment left_since old new (MayLeaveNow told) → LeavesOnly moment left_since old new (LeftToEarly (settled_asked from budget) o)
     unsettled_leaves o told old new same now time =
-        runs.goes_on moment left_since old old new (LeftToChange (settled_asked from budget) o) (MayLeaveNow told) (begins_early (settled_asked from budget) moment left_since o old now) time
+        runs.goes_on moment left_since old old new (LeftToEarly (settled_asked from budget) o) (MayLeaveNow told) (begins_early (settled_asked from budget) moment left_since o old now) time
         (λ left may. early_left (settled_asked from budget) o left (subst (λ t. MayLeaveNow t left) same may))
 
     -- all is settled, and then read
     pub settled_leaves : (o told : Option State) (old mid new : H) → told ≡ option_map (with_pending settled) o
         → ((left : Left) → left_since old (moment old) left → MayLeaveNow o left)
         → Elapses moment left_since old mid (MayLeaveNow told) → Elapses moment left_since mid new (MayLeaveNow told)
-        → LeavesOnly moment left_since old new (LeftToChange (settled_asked from budget) o)
+        → LeavesOnly moment left_since old new (LeftToEarly (settled_asked from budget) o)
     settled_leaves o told old mid new is now first second =
-        runs.goes_on moment left_since old old new (LeftToChange (settled_asked from budget) o) (MayLeaveNow told) (begins_early (settled_asked from budget) moment left_since o old now)
+        runs.goes_on moment left_since old old new (LeftToEarly (settled_asked from budget) o) (MayLeaveNow told) (begins_early (settled_asked from budget) moment left_since o old now)
         (elapses_both moment left_since old mid new (MayLeaveNow told) first second)
         (λ left may. settled_early (settled_asked from budget) o told is left may)
 
     -- the change is done
     pub change_leaves : KeepsPoints → (o told : Option State) (ready : ReadyChange) (old mid new : H) → IfSome o (λ s. IsReadyIn (needs s) s ready) → told ≡ option_map (with_pending settled) o
-        → LeavesOnly moment left_since old mid (LeftToChange (settled_asked from budget) o) → IfSome told (λ s. LeavesOnly moment left_since mid new (LeftDoing ready.ready s))
+        → LeavesOnly moment left_since old mid (LeftToEarly (settled_asked from budget) o) → IfSome told (λ s. LeavesOnly moment left_since mid new (LeftDoing ready.ready s))
         → moment mid ≤ moment new → LeavesOnly moment left_since old new (LeftToChange (settled_asked from budget) o)
     change_leaves law None told ready old mid new in_it is so_far does later =
         record { later = omega (arith, so_far.later, later); each = λ left since. tt; before = λ t left le since. inr tt }
     change_leaves law (Some s) told ready old mid new in_it is so_far does later =
-        runs.joins moment left_since old mid new (LeftToChange (settled_asked from budget) (Some s)) so_far
+        runs.joins moment left_since old mid new (LeftToChange (settled_asked from budget) (Some s)) (early_leaves (settled_asked from budget) moment left_since (Some s) old mid so_far)
         (runs.weaker moment left_since mid new (LeftDoing ready.ready (with_pending settled s)) (LeftToChange (settled_asked from budget) (Some s))
         (λ left h. doing_left from budget law (Some s) (Some (with_pending settled s)) ready in_it refl left h)
         (subst (λ t. IfSome t (λ s. LeavesOnly moment left_since mid new (LeftDoing ready.ready s))) is does))

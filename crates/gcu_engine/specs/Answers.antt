@@ -149,6 +149,14 @@ TellsUsage Memory = ⊤
 TellsUsage (PrintFault step) = ⊤
 TellsUsage other = ⊥
 
+-- an answer that nothing may have been written before: another one than those of 0, 4, 5 and 6
+abbrev pub IsRefusal : Outcome → Type 0
+IsRefusal Done = ⊥
+IsRefusal (DiskFault step) = ⊥
+IsRefusal (PrintFault step) = ⊥
+IsRefusal (ServiceFault step service) = ⊥
+IsRefusal other = ⊤
+
 -- the answers to a request where nothing failed, but for want of memory
 abbrev pub Finishes : Request → Outcome → Type 0
 Finishes (preview c) result = result ≡ Done

@@ -19,7 +19,7 @@ use Rattle.gcu_requests.specs.Request.{Planning, Request}
 use Rattle.gcu_engine.specs.FaultLines.{AreFaultLines, AreNamed}
 use Rattle.gcu_engine.specs.Answers.{HasCause}
 use Rattle.gcu_engine.specs.Changing.{IsChangeFor, IsLast, acknowledged}
-use Rattle.gcu_engine.specs.Crashes.{LeftChanged, LeftOfChange}
+use Rattle.gcu_engine.specs.Crashes.{LeftChanged, LeftEarly, LeftOfChange}
 use Rattle.gcu_engine.specs.Plannings.{HasNone}
 use Rattle.gcu_engine.specs.declared.change.ReadyChange.{ReadyChange}
 
@@ -106,7 +106,12 @@ LeftDoing c s left =
     MayLeaveInPrint (plan_text c.moves) (Some s) left
     ⊎ LeftChanged c (printed (plan_text c.moves) s) left
 
--- the same of a question, of a host that may not tell its state
+-- what a question leaves while nothing is written, of a host that may not tell its state
+abbrev pub LeftToEarly : (State → Asking Request) → Option State → Left → Type 0
+LeftToEarly asking None left = ⊤
+LeftToEarly asking (Some before) left = LeftEarly (asking before) before left
+
+-- what a question leaves whose plan is done
 abbrev pub LeftToChange : (State → Asking Request) → Option State → Left → Type 0
 LeftToChange asking None left = ⊤
 LeftToChange asking (Some before) left = LeftOfChange (asking before) before left

@@ -25,8 +25,9 @@ use Rattle.change_apply.specs.Acknowledgements.{ack, acks}
 use Rattle.plan_options.specs.Targets.{Target, rolled_back}
 use Rattle.gcu_output.specs.Lines.{last_line}
 use Rattle.gcu_output.specs.declared.outcomes.Outcome.{Outcome}
-use Rattle.gcu_output.specs.declared.outcomes.Outcome.TheVariants.{Done, Memory, InputFault, DiskFault, PrintFault, ServiceFault, Unorderable, Budget}
+use Rattle.gcu_output.specs.declared.outcomes.Outcome.TheVariants.{Done, Memory, InputFault, Unorderable, Budget}
 use Rattle.gcu_requests.specs.Form.{Form, form, plan, change, demo, save_checkpoint, delete_checkpoint}
+use Rattle.gcu_engine.specs.Answers.{IsRefusal}
 use Rattle.gcu_engine.specs.Changing.{IsLastLine}
 use Rattle.gcu_engine.specs.Contents.{IsContextIn, IsMade}
 
@@ -154,15 +155,7 @@ StoresPoint name s after =
 
 -- ---- a refusal
 
--- an answer that nothing may have been written before: another one than those of 0, 4, 5 and 6
-abbrev pub IsRefusal : Outcome → Type 0
-IsRefusal Done = ⊥
-IsRefusal (DiskFault step) = ⊥
-IsRefusal (PrintFault step) = ⊥
-IsRefusal (ServiceFault step service) = ⊥
-IsRefusal other = ⊤
-
--- one that the words, the inputs and the files alone give, whatever the search and the host's calls do
+-- an answer that the words, the inputs and the files alone give, whatever the search and the host's calls do
 abbrev pub IsForeseen : Outcome → Type 0
 IsForeseen Memory = ⊥
 IsForeseen InputFault = ⊥
@@ -190,6 +183,9 @@ pub record IsHeadline (words : List (List ℕ)) (s : State) (after : Option Stat
   -- a crash in a command that is refused leaves the files from before
   pub refused : IsForeseen result → IsSettled s
       → (left : Left) → IsLeftSince left → left.files ≡ s.files
+  -- with another answer than those of 0, 4, 5 and 6 it leaves what the folder stood for
+  pub kept : IsRefusal result → IsSettled s
+      → (left : Left) → IsLeftSince left → stored left.files ≡ stored s.files
   pub quiet : IsRefusal result → IsQuiet s after result
   pub finished : (from : Target) (budget : ℕ) → form words ≡ Some (change from budget)
       → result ≡ Done → StoresTarget from s after

@@ -14,10 +14,10 @@ ghost use Rattle.gcu_output.specs.declared.outcomes.Outcome.TheVariants.{Memory 
 ghost use Rattle.gcu_requests.specs.ChangeAsked.{change_asked, settled_asked};
 ghost use Rattle.gcu_requests.specs.PlanAsked.{planning_asked};
 ghost use Rattle.gcu_requests.specs.ReadPlannings.{HasGoodName, IsReadyToSearch, planning_of};
-ghost use Rattle.gcu_engine.specs.Answers.{HasCause};
+ghost use Rattle.gcu_engine.specs.Answers.{HasCause, IsRefusal};
 ghost use Rattle.gcu_engine.specs.Commands.{AnswersTo, CompleteTo, IsReady};
 ghost use Rattle.gcu_engine.specs.Crashes.{LeftChanged};
-ghost use Rattle.gcu_engine.specs.Doing.{EndsChange, EndsWork, HasBytes, IsEnded, IsKept, IsPrepared, IsReadyIn, LeftDoing, LeftToChange, change_by};
+ghost use Rattle.gcu_engine.specs.Doing.{EndsChange, EndsWork, HasBytes, IsEnded, IsKept, IsPrepared, IsReadyIn, LeftDoing, LeftToChange, LeftToEarly, change_by};
 ghost use Rattle.gcu_engine.specs.PlanCommands.{RefusesOrEnds};
 ghost use Rattle.gcu_engine.specs.Plannings.{IsPlanFor};
 
@@ -65,6 +65,9 @@ pub(crate) fn change<H: Host>(
     ensures counts { NoneFell (H.counts host.old) (H.counts host.new) }
     ensures crash { LeavesOnly H.moment H.left_since host.old host.new
         (LeftToChange (change_asked (target_view target.entry) budget) (H.told host.old)) }
+    // After a refusal a crash leaves what was there while nothing was written.
+    ensures early { IsRefusal result → LeavesOnly H.moment H.left_since host.old host.new
+        (LeftToEarly (change_asked (target_view target.entry) budget) (H.told host.old)) }
     ensures goes { H.goes_on host.old host.new }
     ensures form { result ≡ usage → ⊥ }
     ensures complete { CompleteTo (change_asked (target_view target.entry) budget)
@@ -96,6 +99,8 @@ fn change_named<H: Host>(
     ensures counts { NoneFell (H.counts host.old) (H.counts host.new) }
     ensures crash { LeavesOnly H.moment H.left_since host.old host.new
         (LeftToChange (settled_asked (target_view target.entry) budget) (H.told host.old)) }
+    ensures early { IsRefusal result → LeavesOnly H.moment H.left_since host.old host.new
+        (LeftToEarly (settled_asked (target_view target.entry) budget) (H.told host.old)) }
     ensures goes { H.goes_on host.old host.new }
     ensures form { result ≡ usage → ⊥ }
     ensures complete { CompleteTo (settled_asked (target_view target.entry) budget)
@@ -135,7 +140,7 @@ fn make_ready<H: Host>(
     ensures cause { IfErr result (RefusesOrEnds (H.counts host.old) (H.counts host.new)) }
     ensures counts { NoneFell (H.counts host.old) (H.counts host.new) }
     ensures crash { LeavesOnly H.moment H.left_since host.old host.new
-        (LeftToChange (settled_asked (target_view target.entry) budget) (H.told host.old)) }
+        (LeftToEarly (settled_asked (target_view target.entry) budget) (H.told host.old)) }
     ensures goes { H.goes_on host.old host.new }
 {
     match host.settle() {
@@ -240,6 +245,7 @@ fn do_change<H: Host>(change: &ReadyChange, host: &mut H) -> Outcome
         (λ s. LeavesOnly H.moment H.left_since host.old host.new (LeftDoing change.now.ready s)) }
     ensures later { H.moment host.old ≤ H.moment host.new }
     ensures goes { H.goes_on host.old host.new }
+    ensures works { IsRefusal result → ⊥ }
     ensures form { result ≡ usage → ⊥ }
 {
     match host.print(&change.text) {
@@ -262,6 +268,7 @@ fn do_steps<H: Host>(change: &ReadyChange, host: &mut H) -> Outcome
         (λ s. LeavesOnly H.moment H.left_since host.old host.new (LeftChanged change.now.ready s)) }
     ensures later { H.moment host.old ≤ H.moment host.new }
     ensures goes { H.goes_on host.old host.new }
+    ensures works { IsRefusal result → ⊥ }
     ensures form { result ≡ usage → ⊥ }
 {
     match run(host, &change.ready) {

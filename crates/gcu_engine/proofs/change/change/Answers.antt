@@ -1,11 +1,11 @@
-use Rattle.std.proofs.Common.{inl, refl, Err}
+use Rattle.std.proofs.Common.{Err}
 use Rattle.plan_options.specs.Views.{target_view}
 use Rattle.gcu_output.specs.Lines.{last_line}
 use Rattle.gcu_requests.specs.ChangeAsked.{change_asked}
 use Rattle.gcu_requests.proofs.Finding.{always_refuses}
 use Rattle.gcu_engine.proofs.Answering.{refused_cause, said_to}
-use Rattle.gcu_engine.proofs.Naming.{answers_wider, complete_wider, leaves_wider, misnamed_says}
-use Rattle.gcu_engine.proofs.ReadyOrNot.{begins_early, line_leaves, says_ready}
+use Rattle.gcu_engine.proofs.Naming.{answers_wider, complete_wider, early_wider, leaves_wider, misnamed_says}
+use Rattle.gcu_engine.proofs.ReadyOrNot.{early_leaves, refused_early}
 use Rattle.gcu_engine.proofs.change.change.Goals as goal
 
 -- ---- a target that isn't refused
@@ -19,6 +19,11 @@ pub returns-in-Ok-clause-crash : goal.returns-in-Ok-clause-crash
 returns-in-Ok-clause-crash g c =
     leaves_wider g.H.Host.moment g.H.Host.left_since (target_view c.args.target) c.args.budget (g.H.Host.told c.args.host.now)
     c.args.host.now c.change_named.new.host c.in-Ok.ensures.answer c.change_named.ensures.crash
+
+pub returns-in-Ok-clause-early : goal.returns-in-Ok-clause-early
+returns-in-Ok-clause-early g c = λ refusal.
+    early_wider g.H.Host.moment g.H.Host.left_since (target_view c.args.target) c.args.budget (g.H.Host.told c.args.host.now)
+    c.args.host.now c.change_named.new.host c.in-Ok.ensures.answer (c.change_named.ensures.early refusal)
 
 pub returns-in-Ok-clause-complete : goal.returns-in-Ok-clause-complete
 returns-in-Ok-clause-complete g c =
@@ -37,13 +42,19 @@ returns-in-Err-clause-answers g c =
     (misnamed_says (g.H.Host.told c.args.host.now) (target_view c.args.target) c.args.budget c.in-Err.outcome
     (g.H.Host.counts c.args.host.now) (g.H.Host.counts c.args.host.now) c.in-Err.ensures.answer c.in-Err.ensures.cause refuses)
 
-pub returns-in-Err-clause-crash : goal.returns-in-Err-clause-crash
-returns-in-Err-clause-crash g c =
-    line_leaves (change_asked (target_view c.args.target) c.args.budget) g.H.Host.moment g.H.Host.left_since (g.H.Host.told c.args.host.now) (g.H.Host.told c.args.host.now) c.in-Err.outcome
-    c.args.host.now c.args.host.now c.say.new.host
-    (says_ready (change_asked (target_view c.args.target) c.args.budget) (g.H.Host.told c.args.host.now) c.in-Err.outcome
+pub returns-in-Err-clause-early : goal.returns-in-Err-clause-early
+returns-in-Err-clause-early g c = λ refusal.
+    refused_early (change_asked (target_view c.args.target) c.args.budget) g.H.Host.moment g.H.Host.left_since (g.H.Host.told c.args.host.now) c.in-Err.outcome c.args.host.now c.say.new.host
     (misnamed_says (g.H.Host.told c.args.host.now) (target_view c.args.target) c.args.budget c.in-Err.outcome
     (g.H.Host.counts c.args.host.now) (g.H.Host.counts c.args.host.now) c.in-Err.ensures.answer c.in-Err.ensures.cause
-    (always_refuses {X = Unit {0}} (Err c.in-Err.outcome) (g.H.Host.counts c.args.host.now) (g.H.Host.counts c.args.host.now) c.in-Err.ensures.cause))) (inl refl)
-    (begins_early (change_asked (target_view c.args.target) c.args.budget) g.H.Host.moment g.H.Host.left_since (g.H.Host.told c.args.host.now)
-    c.args.host.now (λ left since. g.met.H.Host.only_now c.args.host.now left since)) c.say.ensures.time
+    (always_refuses {X = Unit {0}} (Err c.in-Err.outcome) (g.H.Host.counts c.args.host.now) (g.H.Host.counts c.args.host.now) c.in-Err.ensures.cause))
+    (λ left since. g.met.H.Host.only_now c.args.host.now left since) c.say.ensures.time
+
+pub returns-in-Err-clause-crash : goal.returns-in-Err-clause-crash
+returns-in-Err-clause-crash g c =
+    early_leaves (change_asked (target_view c.args.target) c.args.budget) g.H.Host.moment g.H.Host.left_since (g.H.Host.told c.args.host.now) c.args.host.now c.say.new.host
+    (refused_early (change_asked (target_view c.args.target) c.args.budget) g.H.Host.moment g.H.Host.left_since (g.H.Host.told c.args.host.now) c.in-Err.outcome c.args.host.now c.say.new.host
+    (misnamed_says (g.H.Host.told c.args.host.now) (target_view c.args.target) c.args.budget c.in-Err.outcome
+    (g.H.Host.counts c.args.host.now) (g.H.Host.counts c.args.host.now) c.in-Err.ensures.answer c.in-Err.ensures.cause
+    (always_refuses {X = Unit {0}} (Err c.in-Err.outcome) (g.H.Host.counts c.args.host.now) (g.H.Host.counts c.args.host.now) c.in-Err.ensures.cause))
+    (λ left since. g.met.H.Host.only_now c.args.host.now left since) c.say.ensures.time)

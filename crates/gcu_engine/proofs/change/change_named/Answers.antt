@@ -4,7 +4,7 @@ use Rattle.gcu_engine.proofs.Causes.{unsolved_cause}
 use Rattle.gcu_engine.proofs.Changes.{cause_from, change_answers}
 use Rattle.gcu_engine.proofs.Completing.{completes}
 use Rattle.gcu_engine.proofs.PlanSaying.{end_cause}
-use Rattle.gcu_engine.proofs.ReadyOrNot.{change_leaves, line_leaves, said_ready, settled_now, stands_now}
+use Rattle.gcu_engine.proofs.ReadyOrNot.{change_leaves, early_leaves, line_leaves, said_ready, settled_now, stands_now}
 use Rattle.gcu_engine.proofs.change.change_named.Goals as goal
 
 -- ---- what the change needs
@@ -49,10 +49,20 @@ returns-in-Ok-clause-crash g c =
     change_leaves (target_view c.args.target) c.args.budget g.H.Host.moment g.H.Host.left_since c.points_are_in_other_files.ensures (g.H.Host.told c.args.host.now) (g.H.Host.told c.make_ready.new.host) c.in-Ok.ready
     c.args.host.now c.make_ready.new.host c.do_change.new.host c.in-Ok.ensures.ready c.in-Ok.ensures.told c.make_ready.ensures.crash c.do_change.ensures.any_moment c.do_change.ensures.later
 
-pub returns-in-Err-clause-crash : goal.returns-in-Err-clause-crash
-returns-in-Err-clause-crash g c =
+pub returns-in-Ok-clause-early : goal.returns-in-Ok-clause-early
+returns-in-Ok-clause-early g c = λ refusal. absurd (c.do_change.ensures.works refusal)
+
+pub returns-in-Err-clause-early : goal.returns-in-Err-clause-early
+returns-in-Err-clause-early g c = λ refusal.
     line_leaves (settled_asked (target_view c.args.target) c.args.budget) g.H.Host.moment g.H.Host.left_since (g.H.Host.told c.args.host.now) (g.H.Host.told c.make_ready.new.host) c.in-Err.outcome
     c.args.host.now c.make_ready.new.host c.say.new.host c.in-Err.ensures.left c.in-Err.ensures.kept c.make_ready.ensures.crash c.say.ensures.time
+
+pub returns-in-Err-clause-crash : goal.returns-in-Err-clause-crash
+returns-in-Err-clause-crash g c =
+    early_leaves (settled_asked (target_view c.args.target) c.args.budget) g.H.Host.moment g.H.Host.left_since (g.H.Host.told c.args.host.now)
+    c.args.host.now c.say.new.host
+    (line_leaves (settled_asked (target_view c.args.target) c.args.budget) g.H.Host.moment g.H.Host.left_since (g.H.Host.told c.args.host.now) (g.H.Host.told c.make_ready.new.host) c.in-Err.outcome
+    c.args.host.now c.make_ready.new.host c.say.new.host c.in-Err.ensures.left c.in-Err.ensures.kept c.make_ready.ensures.crash c.say.ensures.time)
 
 pub returns-in-Ok-clause-goes : goal.returns-in-Ok-clause-goes
 returns-in-Ok-clause-goes g c =

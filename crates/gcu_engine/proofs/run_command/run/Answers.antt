@@ -1,11 +1,12 @@
 use Rattle.std.proofs.Common.{None, Some, sym, ◌++◌}
 use Rattle.conf_doc.specs.Trees.{document}
+use Rattle.plan_options.specs.Views.{target_view}
 use Rattle.gcu_output.specs.Lines.{last_line}
 use Rattle.gcu_output.specs.Printing.{text_in_lines}
 use Rattle.gcu_output.specs.declared.outcomes.Outcome.TheVariants.{Usage, Done}
 use Rattle.gcu_requests.specs.Form.{check, list_checkpoints}
 use Rattle.gcu_engine.proofs.Completing.{complete_by}
-use Rattle.gcu_engine.proofs.Headlines.{headline}
+use Rattle.gcu_engine.proofs.Headlines.{change_headline, headline}
 use Rattle.gcu_engine.proofs.Elapsing.{changes_by, command_leaves, command_leaves_behind, leaves_by}
 use Rattle.gcu_engine.proofs.Answering.{answers_by, said_answers, done_completes, said_completes, no_form_says, preview_says, preview_refuses, refused_cause}
 use Rattle.gcu_engine.proofs.run_command.run.Goals as goal
@@ -180,50 +181,50 @@ returns-in-Demo-clause-complete g c =
 
 pub returns-in-Unknown-clause-headline : goal.returns-in-Unknown-clause-headline
 returns-in-Unknown-clause-headline g c =
-    headline g.H.Host.moment g.H.Host.left_since c.args.words.now (g.H.Host.told c.args.host.now) (g.H.Host.told c.say.new.host) c.args.host.now c.say.new.host
-    (g.H.Host.counts c.args.host.now) (g.H.Host.counts c.say.new.host) c.say.result c.asked_has_one_answer.ensures (returns-in-Unknown-clause-answers g c) (returns-in-Unknown-clause-crash g c)
+    headline g.H.Host.moment g.H.Host.left_since c.args.words.now _ (g.H.Host.told c.args.host.now) (g.H.Host.told c.say.new.host) c.args.host.now c.say.new.host
+    (g.H.Host.counts c.args.host.now) (g.H.Host.counts c.say.new.host) c.say.result c.in-Unknown.ensures tt c.asked_has_one_answer.ensures (returns-in-Unknown-clause-answers g c) (returns-in-Unknown-clause-crash g c)
 
 pub returns-in-Ok-clause-headline : goal.returns-in-Ok-clause-headline
 returns-in-Ok-clause-headline g c =
-    headline g.H.Host.moment g.H.Host.left_since c.args.words.now (g.H.Host.told c.args.host.now) (g.H.Host.told c.show.new.host) c.args.host.now c.show.new.host
-    (g.H.Host.counts c.args.host.now) (g.H.Host.counts c.show.new.host) c.show.result c.asked_has_one_answer.ensures (returns-in-Ok-clause-answers g c) (returns-in-Ok-clause-crash g c)
+    headline g.H.Host.moment g.H.Host.left_since c.args.words.now _ (g.H.Host.told c.args.host.now) (g.H.Host.told c.show.new.host) c.args.host.now c.show.new.host
+    (g.H.Host.counts c.args.host.now) (g.H.Host.counts c.show.new.host) c.show.result c.in-Preview.ensures tt c.asked_has_one_answer.ensures (returns-in-Ok-clause-answers g c) (returns-in-Ok-clause-crash g c)
 
 pub returns-in-Err-clause-headline : goal.returns-in-Err-clause-headline
 returns-in-Err-clause-headline g c =
-    headline g.H.Host.moment g.H.Host.left_since c.args.words.now (g.H.Host.told c.args.host.now) (g.H.Host.told c.say-in-Err.new.host) c.args.host.now c.say-in-Err.new.host
-    (g.H.Host.counts c.args.host.now) (g.H.Host.counts c.say-in-Err.new.host) c.say-in-Err.result c.asked_has_one_answer.ensures (returns-in-Err-clause-answers g c) (returns-in-Err-clause-crash g c)
+    headline g.H.Host.moment g.H.Host.left_since c.args.words.now _ (g.H.Host.told c.args.host.now) (g.H.Host.told c.say-in-Err.new.host) c.args.host.now c.say-in-Err.new.host
+    (g.H.Host.counts c.args.host.now) (g.H.Host.counts c.say-in-Err.new.host) c.say-in-Err.result c.in-Preview.ensures tt c.asked_has_one_answer.ensures (returns-in-Err-clause-answers g c) (returns-in-Err-clause-crash g c)
 
 pub returns-in-Check-clause-headline : goal.returns-in-Check-clause-headline
 returns-in-Check-clause-headline g c =
-    headline g.H.Host.moment g.H.Host.left_since c.args.words.now (g.H.Host.told c.args.host.now) (g.H.Host.told c.check.new.host) c.args.host.now c.check.new.host
-    (g.H.Host.counts c.args.host.now) (g.H.Host.counts c.check.new.host) c.check.result c.asked_has_one_answer.ensures (returns-in-Check-clause-answers g c) (returns-in-Check-clause-crash g c)
+    headline g.H.Host.moment g.H.Host.left_since c.args.words.now _ (g.H.Host.told c.args.host.now) (g.H.Host.told c.check.new.host) c.args.host.now c.check.new.host
+    (g.H.Host.counts c.args.host.now) (g.H.Host.counts c.check.new.host) c.check.result c.in-Check.ensures tt c.asked_has_one_answer.ensures (returns-in-Check-clause-answers g c) (returns-in-Check-clause-crash g c)
 
 pub returns-in-ListCheckpoints-clause-headline : goal.returns-in-ListCheckpoints-clause-headline
 returns-in-ListCheckpoints-clause-headline g c =
-    headline g.H.Host.moment g.H.Host.left_since c.args.words.now (g.H.Host.told c.args.host.now) (g.H.Host.told c.list_checkpoints.new.host) c.args.host.now c.list_checkpoints.new.host
-    (g.H.Host.counts c.args.host.now) (g.H.Host.counts c.list_checkpoints.new.host) c.list_checkpoints.result c.asked_has_one_answer.ensures (returns-in-ListCheckpoints-clause-answers g c) (returns-in-ListCheckpoints-clause-crash g c)
+    headline g.H.Host.moment g.H.Host.left_since c.args.words.now _ (g.H.Host.told c.args.host.now) (g.H.Host.told c.list_checkpoints.new.host) c.args.host.now c.list_checkpoints.new.host
+    (g.H.Host.counts c.args.host.now) (g.H.Host.counts c.list_checkpoints.new.host) c.list_checkpoints.result c.in-ListCheckpoints.ensures tt c.asked_has_one_answer.ensures (returns-in-ListCheckpoints-clause-answers g c) (returns-in-ListCheckpoints-clause-crash g c)
 
 pub returns-in-SaveCheckpoint-clause-headline : goal.returns-in-SaveCheckpoint-clause-headline
 returns-in-SaveCheckpoint-clause-headline g c =
-    headline g.H.Host.moment g.H.Host.left_since c.args.words.now (g.H.Host.told c.args.host.now) (g.H.Host.told c.save_checkpoint.new.host) c.args.host.now c.save_checkpoint.new.host
-    (g.H.Host.counts c.args.host.now) (g.H.Host.counts c.save_checkpoint.new.host) c.save_checkpoint.result c.asked_has_one_answer.ensures (returns-in-SaveCheckpoint-clause-answers g c) (returns-in-SaveCheckpoint-clause-crash g c)
+    headline g.H.Host.moment g.H.Host.left_since c.args.words.now _ (g.H.Host.told c.args.host.now) (g.H.Host.told c.save_checkpoint.new.host) c.args.host.now c.save_checkpoint.new.host
+    (g.H.Host.counts c.args.host.now) (g.H.Host.counts c.save_checkpoint.new.host) c.save_checkpoint.result c.in-SaveCheckpoint.ensures tt c.asked_has_one_answer.ensures (returns-in-SaveCheckpoint-clause-answers g c) (returns-in-SaveCheckpoint-clause-crash g c)
 
 pub returns-in-DeleteCheckpoint-clause-headline : goal.returns-in-DeleteCheckpoint-clause-headline
 returns-in-DeleteCheckpoint-clause-headline g c =
-    headline g.H.Host.moment g.H.Host.left_since c.args.words.now (g.H.Host.told c.args.host.now) (g.H.Host.told c.delete_checkpoint.new.host) c.args.host.now c.delete_checkpoint.new.host
-    (g.H.Host.counts c.args.host.now) (g.H.Host.counts c.delete_checkpoint.new.host) c.delete_checkpoint.result c.asked_has_one_answer.ensures (returns-in-DeleteCheckpoint-clause-answers g c) (returns-in-DeleteCheckpoint-clause-crash g c)
+    headline g.H.Host.moment g.H.Host.left_since c.args.words.now _ (g.H.Host.told c.args.host.now) (g.H.Host.told c.delete_checkpoint.new.host) c.args.host.now c.delete_checkpoint.new.host
+    (g.H.Host.counts c.args.host.now) (g.H.Host.counts c.delete_checkpoint.new.host) c.delete_checkpoint.result c.in-DeleteCheckpoint.ensures tt c.asked_has_one_answer.ensures (returns-in-DeleteCheckpoint-clause-answers g c) (returns-in-DeleteCheckpoint-clause-crash g c)
 
 pub returns-in-Plan-clause-headline : goal.returns-in-Plan-clause-headline
 returns-in-Plan-clause-headline g c =
-    headline g.H.Host.moment g.H.Host.left_since c.args.words.now (g.H.Host.told c.args.host.now) (g.H.Host.told c.dry_run.new.host) c.args.host.now c.dry_run.new.host
-    (g.H.Host.counts c.args.host.now) (g.H.Host.counts c.dry_run.new.host) c.dry_run.result c.asked_has_one_answer.ensures (returns-in-Plan-clause-answers g c) (returns-in-Plan-clause-crash g c)
+    headline g.H.Host.moment g.H.Host.left_since c.args.words.now _ (g.H.Host.told c.args.host.now) (g.H.Host.told c.dry_run.new.host) c.args.host.now c.dry_run.new.host
+    (g.H.Host.counts c.args.host.now) (g.H.Host.counts c.dry_run.new.host) c.dry_run.result c.in-Plan.ensures tt c.asked_has_one_answer.ensures (returns-in-Plan-clause-answers g c) (returns-in-Plan-clause-crash g c)
 
 pub returns-in-Change-clause-headline : goal.returns-in-Change-clause-headline
 returns-in-Change-clause-headline g c =
-    headline g.H.Host.moment g.H.Host.left_since c.args.words.now (g.H.Host.told c.args.host.now) (g.H.Host.told c.change.new.host) c.args.host.now c.change.new.host
-    (g.H.Host.counts c.args.host.now) (g.H.Host.counts c.change.new.host) c.change.result c.asked_has_one_answer.ensures (returns-in-Change-clause-answers g c) (returns-in-Change-clause-crash g c)
+    change_headline g.H.Host.moment g.H.Host.left_since c.args.words.now (target_view c.in-Change.target) c.in-Change.options.budget (g.H.Host.told c.args.host.now) (g.H.Host.told c.change.new.host) c.args.host.now c.change.new.host
+    (g.H.Host.counts c.args.host.now) (g.H.Host.counts c.change.new.host) c.change.result c.asked_has_one_answer.ensures (returns-in-Change-clause-answers g c) (returns-in-Change-clause-crash g c) c.change.ensures.early
 
 pub returns-in-Demo-clause-headline : goal.returns-in-Demo-clause-headline
 returns-in-Demo-clause-headline g c =
-    headline g.H.Host.moment g.H.Host.left_since c.args.words.now (g.H.Host.told c.args.host.now) (g.H.Host.told c.demo.new.host) c.args.host.now c.demo.new.host
-    (g.H.Host.counts c.args.host.now) (g.H.Host.counts c.demo.new.host) c.demo.result c.asked_has_one_answer.ensures (returns-in-Demo-clause-answers g c) (returns-in-Demo-clause-crash g c)
+    headline g.H.Host.moment g.H.Host.left_since c.args.words.now _ (g.H.Host.told c.args.host.now) (g.H.Host.told c.demo.new.host) c.args.host.now c.demo.new.host
+    (g.H.Host.counts c.args.host.now) (g.H.Host.counts c.demo.new.host) c.demo.result c.in-Demo.ensures tt c.asked_has_one_answer.ensures (returns-in-Demo-clause-answers g c) (returns-in-Demo-clause-crash g c)
