@@ -9,6 +9,7 @@ use Rattle.conf_doc.specs.Pairs.{find}
 use Rattle.conf_doc.specs.Reading.{reading}
 use Rattle.conf_doc.specs.Shaping.{configuration}
 use Rattle.conf_doc.specs.declared.configuration.Config.{Config}
+use Rattle.conf_store.specs.Files.{ten}
 use Rattle.checkpoints.specs.declared.content.Content.{Content}
 
 -- ---- the sequence number
@@ -24,7 +25,7 @@ if_decimal n digits =
 
 -- the number that a text is in decimal, without leading zeros
 abbrev pub number_of : List ℕ → Option ℕ
-number_of digits = if_decimal (digits_value 10 digits) digits
+number_of digits = if_decimal (digits_value ten digits) digits
 
 -- ---- the members of a map
 
