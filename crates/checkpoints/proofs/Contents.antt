@@ -1,5 +1,5 @@
 -- What a document holds, by whether it has a number.
-use Rattle.std.proofs.Common.{◌≡◌, ℕ, List, [], ◌∷◌, Bool, true, false, cond, Option, Some, None, Result, Ok, Err, refl, sym, ap, ◌∙◌, option_map}
+use Rattle.std.proofs.Common.{◌≡◌, ℕ, List, [], ◌∷◌, Bool, true, false, cond, Option, Some, None, Result, Ok, Err, refl, ap, ◌∙◌, option_map}
 use Rattle.std.proofs.lemmas.Bool.{and_parts}
 use Rattle.std.specs.Option.{option_map_or, option_or}
 use Rattle.std.specs.Prelude.{bytes_eq, length, option_and_then, ◌==◌}
@@ -13,7 +13,7 @@ use Rattle.conf_doc.specs.declared.configuration.Config.{Config}
 use Rattle.conf_doc.specs.declared.configuration.Table.{Table}
 use Rattle.conf_doc.specs.declared.errors.ReadError.{ReadError}
 use Rattle.conf_doc.specs.declared.errors.ShapeError.{ShapeError}
-use Rattle.checkpoints.specs.Formats.{config_at, config_of, content, content_of, format_2, format_member, has_format_2, members_in, number_in, number_of, old_content, sequence_member, text_at, text_in, with_number}
+use Rattle.checkpoints.specs.Formats.{config_at, config_of, content_of, format_2, format_member, has_format_2, members_in, number_in, text_at, text_in, with_number}
 use Rattle.checkpoints.specs.Points.{held}
 use Rattle.checkpoints.specs.declared.content.Content.{Content}
 use Rattle.checkpoints.proofs.NamesOfFiles.{is_name}

@@ -1,6 +1,6 @@
 -- The two formats of a checkpoint's file. The old one is a configuration. Format 2 is a map of a
 -- configuration, the format and a sequence number. Any layout is read alike.
-use Rattle.std.specs.Prelude.{ℕ, List, [], ◌++◌, codes, length, bytes_eq, decimal, nat_le, ◌&&◌, ◌==◌, if◌then◌else◌, Bool, false, Option, Some, None, option_and_then, option_map}
+use Rattle.std.specs.Prelude.{ℕ, List, [], codes, length, bytes_eq, decimal, nat_le, ◌&&◌, ◌==◌, if◌then◌else◌, Bool, false, Option, Some, None, option_and_then, option_map}
 use Rattle.std.specs.Option.{option_map_or, option_or}
 use Rattle.std.specs.Result.{result_ok}
 use Rattle.std.specs.Str.Parse.{digits_value}
