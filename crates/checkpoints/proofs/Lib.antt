@@ -1,6 +1,7 @@
 mod Changed
+mod Contents
 mod Counting
-mod Holding
+mod Decimals
 mod Moments
 mod NamesOfFiles
 mod PointMaps

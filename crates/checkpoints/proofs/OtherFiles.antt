@@ -6,7 +6,7 @@ use Rattle.std.specs.FinMap.{get}
 use Rattle.std.specs.List.{list_all, starts_with}
 use Rattle.std.proofs.lemmas.Bool.{eqb-true}
 use Rattle.host_core.specs.State.{Files}
-use Rattle.conf_store.specs.Files.{config_file, folded_file, is_step_name, scratch, step_begin, step_digits}
+use Rattle.conf_store.specs.Files.{config_file, folded_file, is_step_name, step_begin, step_digits}
 use Rattle.conf_store.specs.Folds.{IsOther}
 use Rattle.checkpoints.specs.Names.{is_good_name, is_point_file, point_end, point_file}
 use Rattle.checkpoints.specs.Points.{points}

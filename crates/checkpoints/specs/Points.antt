@@ -1,20 +1,19 @@
 -- The checkpoints of a folder.
-use Rattle.std.specs.Prelude.{ℕ, List, map, filter, Option}
+use Rattle.std.specs.Prelude.{ℕ, List, map, filter, Option, option_map}
 use Rattle.std.specs.FinMap.{FinMap, entries, from_entries}
-use Rattle.std.specs.Result.{result_ok}
 use Rattle.host_core.specs.Names.{name_cmp}
 use Rattle.host_core.specs.State.{Files}
 use Rattle.conf_doc.specs.declared.configuration.Config.{Config}
-use Rattle.conf_store.specs.Stored.{config_in}
+use Rattle.checkpoints.specs.Formats.{content}
 use Rattle.checkpoints.specs.Names.{is_point_file, point_name}
 
--- what a checkpoint holds: a configuration, or None where its file holds none
+-- what a checkpoint holds: a configuration, or None where its file is of neither format
 abbrev pub Held : Type 0
 Held = Option Config
 
--- what the bytes of a checkpoint's file hold
+-- the configuration that the bytes of a checkpoint's file hold
 abbrev pub held : List ℕ → Held
-held bytes = result_ok (config_in bytes)
+held bytes = option_map (λ c. c.config) (content bytes)
 
 -- checkpoints by their names, in the order of the names
 abbrev pub Points : Type 0

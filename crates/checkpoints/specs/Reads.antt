@@ -1,10 +1,8 @@
 -- What private calls read and list.
-use Rattle.std.specs.Prelude.{◌≡◌, ℕ, List, [], ◌∷◌, if◌then◌else◌, Some, None, Result, Ok, Err}
+use Rattle.std.specs.Prelude.{◌≡◌, ℕ, List, [], ◌∷◌, if◌then◌else◌, Option, Some, None, Result, Ok, Err}
 use Rattle.std.specs.BTreeSet.{insert_key}
 use Rattle.host_core.specs.Names.{name_cmp}
-use Rattle.conf_doc.specs.declared.configuration.Config.{Config}
 use Rattle.checkpoints.specs.Names.{is_point_file, point_name}
-use Rattle.checkpoints.specs.Points.{held}
 use Rattle.checkpoints.specs.declared.errors.PointError.{PointError}
 use Rattle.checkpoints.specs.declared.errors.PointError.TheVariants.{BadName, NotConfig, Disk, Memory}
 
@@ -15,12 +13,12 @@ IsOfReading Disk = Unit {0}
 IsOfReading Memory = Unit {0}
 IsOfReading other = ⊥
 
--- the configuration that the bytes hold, or that they hold none, unless memory was wanting
-abbrev pub Holds : List ℕ → Result Config PointError → Type 0
-Holds bytes (Ok config) = held bytes ≡ Some config
-Holds bytes (Err NotConfig) = held bytes ≡ None
-Holds bytes (Err Memory) = Unit {0}
-Holds bytes (Err other) = ⊥
+-- what was found, or that nothing was, unless memory was wanting
+abbrev pub Finds : {A : Type 0} → Option A → Result A PointError → Type 0
+Finds found (Ok a) = found ≡ Some a
+Finds found (Err NotConfig) = found ≡ None
+Finds found (Err Memory) = Unit {0}
+Finds found (Err other) = ⊥
 
 -- the names of the checkpoints in files of these names, in order
 abbrev pub names_in : List (List ℕ) → List (List ℕ)

@@ -18,7 +18,7 @@ pub enum PointError {
     /// There is no checkpoint of that name.
     #[error("there is no such checkpoint")]
     Absent,
-    /// Its file holds no configuration.
+    /// Its file holds no configuration, in either format.
     #[error("the checkpoint holds no configuration")]
     NotConfig,
     /// The host has counted a disk fault.

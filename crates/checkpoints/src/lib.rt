@@ -1,8 +1,10 @@
 //! Checkpoints of a folder: configurations under names, each in a file of its own.
 #![tactic(auto)]
 
+mod content;
 mod deleting;
 mod errors;
+mod format;
 mod laws;
 mod listing;
 mod loading;

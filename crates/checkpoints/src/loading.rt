@@ -5,16 +5,19 @@ ghost use Rattle.host_core.specs.Names.{longest_plain_name};
 ghost use Rattle.conf_doc.specs.WellFormed.{IsConfig};
 ghost use Rattle.conf_store.specs.Reads.{OnlyReads};
 ghost use Rattle.checkpoints.specs.Answers.{IsOfLoading, Loads, Named};
-ghost use Rattle.checkpoints.specs.Reads.{Holds};
+ghost use Rattle.checkpoints.specs.Points.{held};
+ghost use Rattle.checkpoints.specs.Reads.{Finds};
 ghost use Rattle.checkpoints.specs.declared.errors.PointError.TheVariants.{Disk as disk_failed};
 
 use crate::PointError;
+use crate::content::{Content, read_content};
 use crate::reading::read_point;
-use conf_doc::{Config, ReadError, ShapeError, config_of_tree, read_tree};
+use conf_doc::Config;
 use host_core::Host;
 use std::alloc::Global;
 
-/// The configuration that the checkpoint of a name holds. `Disk` comes only where the disk count rose.
+/// The configuration that the checkpoint of a name holds, in either format. `NotConfig` comes where its file
+/// is of neither. `Disk` comes only where the disk count rose.
 pub fn load<H: Host>(alloc: Global, host: &mut H, name: &str) -> Result<Config, PointError>
     requires { longest_plain_name ≤ H.longest_name }
     ensures named { Named name.now result }
@@ -35,17 +38,11 @@ pub fn load<H: Host>(alloc: Global, host: &mut H, name: &str) -> Result<Config, 
 
 /// The configuration that the bytes of a file hold.
 fn read_config(alloc: Global, bytes: &[u8]) -> Result<Config, PointError>
-    ensures config { Holds bytes.now result }
+    ensures config { Finds (held bytes.now) result }
     ensures formed { IfOk result IsConfig }
 {
-    let tree = match read_tree(alloc, bytes) {
-        Ok(tree) => tree,
-        Err(ReadError::Memory) => return Err(PointError::Memory),
-        Err(_) => return Err(PointError::NotConfig),
-    };
-    match config_of_tree(alloc, tree) {
-        Ok(config) => Ok(config),
-        Err(ShapeError::Shape { .. }) => Err(PointError::NotConfig),
-        Err(ShapeError::Memory) => Err(PointError::Memory),
+    match read_content(alloc, bytes) {
+        Ok(Content { config, number: _ }) => Ok(config),
+        Err(error) => Err(error),
     }
 }

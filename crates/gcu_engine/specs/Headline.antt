@@ -7,7 +7,7 @@
 --
 -- Of `replace` and `rollback` the last configuration is that of the file and of the checkpoint. Where no plan is
 -- done, or the command is refused, the stored configuration after a crash is that of the beginning.
-use Rattle.std.specs.Prelude.{◌≡◌, ◌≢◌, ◌≤◌, ◌⊎◌, ℕ, suc, List, [], ◌++◌, length, slice_get, Option, Some, None, Ok, ⊤}
+use Rattle.std.specs.Prelude.{◌≡◌, ◌≢◌, ◌≤◌, ◌⊎◌, ℕ, suc, List, [], ◌++◌, length, slice_get, Option, Some, None, IfSome, Ok}
 use Rattle.std.specs.FinMap.{get}
 use Rattle.host_core.specs.Crashes.{Left}
 use Rattle.host_core.specs.State.{Files, State}
@@ -26,7 +26,7 @@ use Rattle.plan_options.specs.Targets.{Target, rolled_back}
 use Rattle.gcu_output.specs.Lines.{last_line}
 use Rattle.gcu_output.specs.declared.outcomes.Outcome.{Outcome}
 use Rattle.gcu_output.specs.declared.outcomes.Outcome.TheVariants.{Done, Memory, InputFault, Unorderable, Budget}
-use Rattle.gcu_requests.specs.Form.{Form, form, plan, change, demo, save_checkpoint, delete_checkpoint}
+use Rattle.gcu_requests.specs.Form.{Form, form, plan, change, save_checkpoint, delete_checkpoint}
 use Rattle.gcu_engine.specs.Answers.{IsRefusal}
 use Rattle.gcu_engine.specs.Changing.{IsLastLine}
 use Rattle.gcu_engine.specs.Contents.{IsContextIn, IsMade}
@@ -68,12 +68,8 @@ target_in other = None
 -- where a plan begins and where it is to arrive: from the stored configuration at what the target makes of it;
 -- in a demonstration from a generated one at another
 abbrev pub IsPlanned : Option Form → State → (start goal : Config) → Type 0
-IsPlanned (Some (plan from budget)) s start goal =
-    (stored s.files ≡ Ok start) × IsMade from s start goal
-IsPlanned (Some (change from budget)) s start goal =
-    (stored s.files ≡ Ok start) × IsMade from s start goal
-IsPlanned (Some (demo seed ports)) s start goal = ⊤
-IsPlanned other s start goal = ⊥
+IsPlanned f s start goal =
+    IfSome (target_in f) (λ from. (stored s.files ≡ Ok start) × IsMade from s start goal)
 
 -- no sequence of allowed moves leads from the start to the goal
 pub record HasNoOrder (f : Option Form) (s : State) : Type 0 where
@@ -144,8 +140,7 @@ pub record IsWhole (words : List (List ℕ)) (s : State) (left : Left) : Type 0 
 abbrev pub StoresTarget : Target → State → Option State → Type 0
 StoresTarget from s after =
     (t : State) × (start : Config) × (goal : Config) × (after ≡ Some t)
-    × (stored s.files ≡ Ok start) × IsMade from s start goal
-    × (stored t.files ≡ Ok goal)
+    × (stored s.files ≡ Ok start) × IsMade from s start goal × (stored t.files ≡ Ok goal)
 
 -- the folder stands for exactly what the checkpoint of that name held
 abbrev pub StoresPoint : List ℕ → State → Option State → Type 0

@@ -8,7 +8,7 @@ use Rattle.checkpoints.specs.Changes.{IsSavedOrNot, LeavesOf}
 use Rattle.checkpoints.specs.Names.{point_file}
 use Rattle.checkpoints.specs.Points.{held}
 use Rattle.checkpoints.proofs.Changed.{not_saved, saved_or_not, saves}
-use Rattle.checkpoints.proofs.Holding.{held_read}
+use Rattle.checkpoints.proofs.Contents.{held_read}
 use Rattle.checkpoints.proofs.Moments.{AtAnyMoment, changes_on, changes_weaker, leaves_unchanged, of_each_err, reads_on}
 use Rattle.checkpoints.proofs.saving.save.Goals as goal
 
