@@ -40,7 +40,7 @@ not_lt_back o Less e n g = true≢false n
 not_lt_back o Equal e n g = absurd (cc)
 not_lt_back o Greater e n g = absurd (cc)
 
-rank_total : IsTotalOrder rank_cmp
+pub rank_total : IsTotalOrder rank_cmp
 rank_total =
     then_total (on_total (λ r. r.tier) nat_cmp_total)
     (then_total (on_total (λ r. r.depth) nat_cmp_total) (on_total (λ r. r.class) nat_cmp_total))

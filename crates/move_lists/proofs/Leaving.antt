@@ -1,9 +1,8 @@
 -- What a generated move of a field leaves there.
-use Rattle.std.proofs.Common.{◌≡◌, inl, inr, length, List, [], ◌++◌, All, ap, sym, subst, ◌∙◌, arith}
+use Rattle.std.proofs.Common.{◌≡◌, inl, inr, length, List, All, ap, ◌∙◌, arith}
 use Rattle.conf_doc.specs.Changes.{part_at}
 use Rattle.conf_doc.specs.declared.configuration.Config.{Config}
-use Rattle.move_core.specs.Appends.{Appends}
-use Rattle.move_core.specs.Generated.{AddsEntry, IsFieldMove, IsForItsPlace, IsFromFields, IsKeyRemove, IsTableMove, SaysOfEntry}
+use Rattle.move_core.specs.Generated.{AddsEntry, IsFieldMove, IsForItsPlace, IsKeyRemove, IsTableMove, SaysOfEntry}
 use Rattle.move_core.specs.Listed.{IsGeneratedMove}
 use Rattle.move_core.specs.Moves.{new_part, place}
 use Rattle.move_core.specs.Rulebook.{Rulebook}
@@ -32,9 +31,6 @@ module _ (cur goal : Config) where
   at_own : (g : Generated) → IsForItsPlace g → part_at goal (place g.mv) ≡ new_part g.mv → LeavesGoals goal g
   at_own g own leaves long = ap (part_at goal) own ∙ leaves
 
-  field_leaves : (g : Generated) → IsFromFields cur goal g → LeavesGoals goal g
-  field_leaves g is = at_own g is.1 (by_field g.mv is.0)
-
   -- one that adds an entry is for a place of two names
   by_entry : (IsAs : SaysOfEntry) (g : Generated) → AddsEntry IsAs cur goal g → LeavesGoals goal g
   by_entry IsAs g is long = absurd (let e = ap length is.for in omega (arith, long, e))
@@ -43,14 +39,8 @@ module _ (cur goal : Config) where
   leaves_goals book g (kind, inl h) = at_own g h.1.1 (by_table g.mv h.1.0)
   leaves_goals book g (kind, inr (inl (k, (inl h, c)))) = at_own g h.1 (by_key g.mv h.0)
   leaves_goals book g (kind, inr (inl (k, (inr h, c)))) = by_entry _ g h
-  leaves_goals book g (kind, inr (inr (inl h))) = field_leaves g h.1
+  leaves_goals book g (kind, inr (inr (inl h))) = at_own g h.1.1 (by_field g.mv h.1.0)
   leaves_goals book g (kind, inr (inr (inr h))) = by_entry _ g h.1.0
 
   pub all_leave_goals : (book : Rulebook) (gs : List Generated) → All (IsGeneratedMove book cur goal) gs → All (LeavesGoals goal) gs
   all_leave_goals book gs each = λ k d lt. leaves_goals book _ (each k d lt)
-
-  -- so do the moves of fields that were put at the end of nothing
-  pub appended_leave : (P : Generated → Type 0) → ((g : Generated) → P g → IsFromFields cur goal g) → (old new : List Generated) → old ≡ [] → Appends P old new
-      → All (LeavesGoals goal) new
-  appended_leave P from old new none puts =
-      subst (All (LeavesGoals goal)) (sym (puts.follows ∙ ap (λ l. l ++ puts.more) none)) (λ i d lt. field_leaves _ (from _ (puts.each i d lt)))

@@ -11,13 +11,11 @@ pub mod Known
 pub mod Leaving
 pub mod Members
 pub mod Noted
-pub mod OneEntry
+pub mod OneList
 pub mod Ordered
-pub mod Others
 pub mod PartOrder
 pub mod Parts
 pub mod Reached
-pub mod Retained
 pub mod Selected
 pub mod Standing
 pub mod Surely

@@ -1,5 +1,5 @@
--- The listed moves of a configuration are finitely many, so they can't fail to have a list.
-use Rattle.std.specs.Prelude.{List}
+-- The listed moves of a configuration are finitely many, so they can't fail to have a list, and they have one.
+use Rattle.std.specs.Prelude.{◌≡◌, List}
 use Rattle.std.specs.List.{Contains}
 use Rattle.conf_doc.specs.declared.configuration.Config.{Config}
 use Rattle.move_core.specs.Contexts.{rulebook}
@@ -21,3 +21,10 @@ abbrev pub ListsExist : Type 0
 ListsExist =
     (ctx : Ctx) (start cur goal : Config)
     → ¬ ¬ ((list : List Move) × AreListed (rulebook ctx) start cur goal list)
+
+-- two lists of the listed moves, each once, in order, are the same
+abbrev pub ListsAreOne : Type 0
+ListsAreOne =
+    (ctx : Ctx) (start cur goal : Config) (ms ns : List Move)
+    → AreListed (rulebook ctx) start cur goal ms → AreListed (rulebook ctx) start cur goal ns
+    → ms ≡ ns

@@ -3,7 +3,6 @@ pub mod Finite
 pub mod Firsts
 pub mod Parts
 -- what only private clauses cite
-pub mod Elsewhere
 pub mod MoveKeys
 pub mod Places
 pub mod Questions

@@ -25,7 +25,8 @@ hashed_name m = second_or_first (place m)
 abbrev unranked : Move → Ranked
 unranked m = record { tier = 0; depth = 0; class = 0; mv = m }
 
-move_total : IsTotalOrder move_cmp
+-- the order of moves is a total one
+pub move_total : IsTotalOrder move_cmp
 move_total = on_total unranked listed_total
 
 -- equal keys are the same

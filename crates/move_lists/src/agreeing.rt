@@ -40,7 +40,7 @@ pub(crate) fn has_value(config: &Config, place: &Path, part: Option<&Part>) -> b
 }
 
 /// The entry of a table at a key.
-pub(crate) fn entry_at<'c>(config: &'c Config, table: &str, key: &str) -> Option<&'c Entry>
+fn entry_at<'c>(config: &'c Config, table: &str, key: &str) -> Option<&'c Entry>
     ensures { option_copied result ≡ entry_of config.now table.now key.now }
 {
     match config.table(table) {

@@ -2,7 +2,7 @@
 ghost use Rattle.conf_doc.specs.declared.configuration.Config.{Config};
 ghost use Rattle.move_core.specs.Contexts.{rulebook};
 ghost use Rattle.move_core.specs.declared.contexts.Ctx.{Ctx};
-ghost use Rattle.move_lists.specs.Finite.{ListsExist, MovesAreFinite};
+ghost use Rattle.move_lists.specs.Finite.{ListsAreOne, ListsExist, MovesAreFinite};
 ghost use Rattle.move_lists.specs.Parts.{PartsMakeTheList};
 
 /// The lists of the parts 1 to 7 one after another are the list of moves. The body does nothing: the law is
@@ -20,4 +20,9 @@ pub fn moves_are_finite()
 /// So they can't fail to have a list, each once, in order. Which list it is isn't told.
 pub fn lists_exist()
     ensures { ListsExist }
+{}
+
+/// And there is one: two lists of the same moves, each once, in order, are the same.
+pub fn lists_are_one()
+    ensures { ListsAreOne }
 {}

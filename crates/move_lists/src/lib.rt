@@ -11,6 +11,6 @@ mod places_above;
 mod ranking;
 mod reaches;
 
-pub use firsts::{Firsts, first_moves, first_moves_after};
-pub use laws::{lists_exist, moves_are_finite, parts_make_the_list};
+pub use firsts::{Firsts, first_moves};
+pub use laws::{lists_are_one, lists_exist, moves_are_finite, parts_make_the_list};
 pub use listing::{listed, listed_in_part};

@@ -1,4 +1,5 @@
 pub mod Ended
+pub mod Exact
 pub mod FieldMoves
 pub mod Frames
 pub mod Kept

@@ -4,7 +4,9 @@ use Rattle.std.specs.Cmp.{nat_cmp_is, nat_cmp_total, tied_itself}
 use Rattle.std.specs.Cmp.Lexicographic.{slice_cmp}
 use Rattle.std.specs.List.{Contains, slice_get}
 use Rattle.std.specs.Ordering.{nat_cmp, ordering_then}
-use Rattle.std.specs.declared.cmp.Ordering.TheVariants.{Less}
+use Rattle.std.specs.declared.cmp.Ordering.{Ordering}
+use Rattle.std.specs.declared.cmp.Ordering.TheVariants.{Less, Equal, Greater}
+use Rattle.std.proofs.lemmas.Cmp.{ranked}
 use Rattle.std.proofs.lemmas.Option.{get_or_from_slice_get, slice_get-get_or}
 use Rattle.conf_doc.specs.declared.configuration.Config.{Config}
 use Rattle.move_core.specs.Contexts.{rulebook}
@@ -15,6 +17,7 @@ use Rattle.move_core.specs.Ways.{ArePositions, IsAhead, IsBefore as AreBefore, I
 use Rattle.move_core.specs.declared.contexts.Ctx.{Ctx}
 use Rattle.move_core.specs.declared.moves.Move.{Move}
 use Rattle.move_lists.proofs.Existing.{surely_listed}
+use Rattle.move_lists.proofs.OneList.{one_list}
 use Rattle.move_lists.proofs.Surely.{surely, then_surely}
 use Rattle.plan_search.specs.FirstLaws.{IsSurelyAhead, IsSurelyLeast}
 use Rattle.plan_search.specs.FirstWays.{IsAheadOfGoal, IsBefore, IsFirstWay, StandsBefore}
@@ -75,6 +78,20 @@ module _ (ctx : Ctx) (start goal : Config) where
       → HavePositions (step c m) ms → HavePositions c (m ∷ ms)
   one_more c m ms l is rest = let i = at c l m is in (i.0 ∷ rest.0, ((l.0, l.1, i.1), rest.1))
 
+  -- the move of the lesser position stands before the other
+  in_list : (c : Config) (list : List Move) (m n : Move) (i j : ℕ)
+      → AreListed (rulebook ctx) start c goal list → slice_get list i ≡ Some m → slice_get list j ≡ Some n
+      → i < j → StandsBefore (rulebook ctx) start goal c m n
+  in_list c list m n i j are mi nj lt =
+      let pairs = listed_order (rulebook ctx) start goal c list are i j m lt (within list j n nj) in
+      subst (λ k. StandsBefore (rulebook ctx) start goal c k n) (get_or_from_slice_get list i m m mi)
+      (subst (StandsBefore (rulebook ctx) start goal c (get_or list i m)) (get_or_from_slice_get list j n m nj) pairs)
+
+  -- at one position stands one move
+  at_one : (list : List Move) (m n : Move) (i j : ℕ) → slice_get list i ≡ Some m → slice_get list j ≡ Some n → i ≡ j → m ≡ n
+  at_one list m n i j mi nj e =
+      sym (get_or_from_slice_get list i m n mi) ∙ ap (λ k. get_or list k n) e ∙ get_or_from_slice_get list j n n nj
+
   -- the earlier move has the lesser position
   earlier : (c : Config) (list : List Move) (m n : Move) (i j : ℕ)
       → AreListed (rulebook ctx) start c goal list → slice_get list i ≡ Some m → slice_get list j ≡ Some n
@@ -89,14 +106,9 @@ module _ (ctx : Ctx) (start goal : Config) where
 
       by : (i < j) ⊎ ((j < i) ⊎ (i ≡ j)) → i < j
       by (inl lt) = lt
-      by (inr (inl lt)) =
-          let pairs = listed_order (rulebook ctx) start goal c list are j i n lt (within list i m mi) in
-          absurd (one_before (rulebook ctx) start goal c m n before
-          (subst (λ k. StandsBefore (rulebook ctx) start goal c k m) (get_or_from_slice_get list j n n nj)
-          (subst (StandsBefore (rulebook ctx) start goal c (get_or list j n)) (get_or_from_slice_get list i m n mi) pairs)))
+      by (inr (inl lt)) = absurd (one_before (rulebook ctx) start goal c m n before (in_list c list n m j i are nj mi lt))
       by (inr (inr e)) =
-          let same : m ≡ n =
-          sym (get_or_from_slice_get list i m n mi) ∙ ap (λ k. get_or list k n) e ∙ get_or_from_slice_get list j n n nj in
+          let same = at_one list m n i j mi nj e in
           absurd (no_self n (subst (λ k. StandsBefore (rulebook ctx) start goal c k n) same before))
 
   -- moves that follow an earlier one are before those that follow a later one
@@ -171,6 +183,69 @@ module _ (ctx : Ctx) (start goal : Config) where
     simple_before ms ns x y one other b =
         next _ _ (by_positions start ms ns x y ([], refl) one.way other.way b) (λ h.
         sure _ (record { left = h.0; right = h.1; left_are = h.2; right_are = h.3; before = h.4 }))
+
+  -- ---- from positions to chains
+
+  -- moves of lesser positions are before the others
+  by_chains : (c : Config) (ms ns : List Move) (left right : List ℕ) → ArePositions (rulebook ctx) start goal c ms left
+      → ArePositions (rulebook ctx) start goal c ns right → slice_cmp nat_cmp left right ≡ Less
+      → IsBefore (StandsBefore (rulebook ctx) start goal) c ms ns
+  by_chains c [] [] [] [] l r less = absurd (no_less less)
+    where
+      no_less : ¬ Equal ≡ Less
+      no_less e = absurd cc
+  by_chains c [] [] [] (j ∷ js) l r less = absurd r
+  by_chains c [] [] (i ∷ is) right l r less = absurd l
+  by_chains c [] (n ∷ ns) left right l r less = tt
+  by_chains c (m ∷ ms) ns [] right l r less = absurd l
+  by_chains c (m ∷ ms) [] (i ∷ is) [] l r less = absurd (no_less less)
+    where
+      no_less : ¬ Greater ≡ Less
+      no_less e = absurd cc
+  by_chains c (m ∷ ms) [] (i ∷ is) (j ∷ js) l r less = absurd r
+  by_chains c (m ∷ ms) (n ∷ ns) (i ∷ is) [] l r less = absurd r
+  by_chains c (m ∷ ms) (n ∷ ns) (i ∷ is) (j ∷ js) l r less =
+      by (nat_cmp i j) refl (by_chains (step c m) ms ns is js l.1)
+    where
+      Later : Move → List Move → Type 0
+      Later k qs = ArePositions (rulebook ctx) start goal (step c k) qs js
+
+      -- both lists are one
+      at_left : slice_get l.0.0 j ≡ Some n
+      at_left =
+          subst (λ list. slice_get list j ≡ Some n) (sym (one_list ctx start c goal l.0.0 r.0.0 l.0.1 r.0.1)) r.0.2
+
+      by : (o : Ordering) → o ≡ nat_cmp i j
+          → (Later m ns → slice_cmp nat_cmp is js ≡ Less → IsBefore (StandsBefore (rulebook ctx) start goal) (step c m) ms ns)
+          → IsBefore (StandsBefore (rulebook ctx) start goal) c (m ∷ ms) (n ∷ ns)
+      by Less e later = inl (in_list c l.0.0 m n i j l.0.1 l.0.2 at_left (ranked i j Less e))
+      by Equal e later =
+          let same = at_one l.0.0 m n i j l.0.2 at_left (ranked i j Equal e) in
+          inr (same, later (subst (λ k. Later k ns) (sym same) r.1) (ap (λ o. ordering_then o (slice_cmp nat_cmp is js)) e ∙ less))
+      by Greater e later =
+          let d : Greater ≡ Less = ap (λ o. ordering_then o (slice_cmp nat_cmp is js)) e ∙ less in absurd cc
+
+  before_by_chains : (ms ns : List Move) → AreBefore (rulebook ctx) start goal ms ns
+      → IsBefore (StandsBefore (rulebook ctx) start goal) start ms ns
+  before_by_chains ms ns b = by_chains start ms ns b.left b.right b.left_are b.right_are b.before
+
+  -- the least way is the first one
+  pub least_is_first : (ms : List Move) → IsLeast (rulebook ctx) start goal ms goal
+      → IsFirstWay (rulebook ctx) start goal ms
+  least_is_first ms is = record {
+    way = is.way;
+    first = λ ns simple other. before_by_chains ms ns (is.first ns simple other);
+  }
+
+  -- and what is ahead by positions is so by chains
+  pub ahead_by_chains : (x : Config) → IsAhead (rulebook ctx) start goal x
+      → IsAheadOfGoal (rulebook ctx) start goal x
+  ahead_by_chains x is = record {
+    other = is.other;
+    moves = is.moves;
+    way = is.way;
+    before = λ ns simple. before_by_chains is.moves ns (is.before ns simple);
+  }
 
   -- ---- where the lists are given
 

@@ -16,6 +16,10 @@ use Rattle.plan_search.specs.Searches.{IsSearchAnswer}
 use Rattle.plan_search.specs.declared.errors.SearchError.{SearchError}
 use Rattle.plan_search.specs.declared.errors.SearchError.TheVariants.{Unorderable, Budget, Memory}
 
+-- at least as many are such where more is asked of each
+pub many : (n : ℕ) (P Q : Config → Type 0) → ((x : Config) → P x → Q x) → AreAtLeast n P → AreAtLeast n Q
+many n P Q f h = (h.0, h.1, All-weaker P Q f h.0 h.2, h.3)
+
 module _ (ctx : Ctx) (start goal : Config) where
   way_of_route : (c : Config) (ms : List Move) (x : Config)
       → IsRoute (move_problem ctx start goal) c ms x → IsWay (rulebook ctx) goal c ms x
@@ -63,9 +67,6 @@ module _ (ctx : Ctx) (start goal : Config) where
     way = simple_route is.moves x is.way;
     before = λ ns simple. is.before ns (simple_way ns goal simple);
   }
-
-  many : (n : ℕ) (P Q : Config → Type 0) → ((x : Config) → P x → Q x) → AreAtLeast n P → AreAtLeast n Q
-  many n P Q f h = (h.0, h.1, All-weaker P Q f h.0 h.2, h.3)
 
   not_many : (n : ℕ) → ¬ AreAtLeast n (IsAhead (move_problem ctx start goal))
       → ¬ AreAtLeast n (IsAheadOfGoal (rulebook ctx) start goal)

@@ -1,11 +1,8 @@
 -- What holds of the last configuration of a stack, as long as it is the last.
-use Rattle.std.proofs.Common.{◌≡◌, ◌<◌, ◌∷◌, [], List, length, Option, None, Some, IfSome, sym, ap, subst, ◌∙◌, arith}
+use Rattle.std.proofs.Common.{◌≡◌, ◌∷◌, [], List, Option, None, Some, IfSome, sym, ap, subst}
 use Rattle.conf_doc.specs.declared.configuration.Config.{Config}
-use Rattle.move_core.specs.Moves.{step}
 use Rattle.move_core.specs.declared.moves.Move.{Move}
-use Rattle.plan_search.specs.Problems.{Problem}
-use Rattle.plan_search.specs.Searching.{AreAsked, IsTakenLast}
-use Rattle.plan_search.specs.Stacks.{AtTop, IsAfterTop, IsTop, Spot, configs_of, new_spot}
+use Rattle.plan_search.specs.Stacks.{AtTop, IsAfterTop, IsTop, Spot, configs_of}
 
 -- a move taken changes no configuration
 pub configs_taken : (ss new : List Spot) (m : Option Move) → IsAfterTop ss new m → configs_of new ≡ configs_of ss
@@ -37,25 +34,3 @@ module _ {X : Type 0} (P : Config → X → Type 0) where
   pub at_top : (ss : List Spot) (c : Config) (x : X) → IsTop ss c → AtTop P ss x → P c x
   at_top [] c x top at = absurd at
   at_top (s ∷ ss) c x top at = subst (λ d. P d x) top at
-
-  -- what holds of a configuration that was added holds of the last one
-  pub kept_new : (ss new : List Spot) (c : Config) (o : Option X) → new ≡ new_spot c ∷ ss
-      → IfSome o (P c) → IfSome o (AtTop P new)
-  kept_new ss new c None e h = h
-  kept_new ss new c (Some x) e h = subst (λ l. AtTop P l x) (sym e) h
-
-module _ (p : Problem) where
-  -- where a move was taken there is a last configuration
-  pub some_taken : (ss : List Spot) (m : Move) (next : Config) → IsTakenLast p ss m next → 0 < length ss
-  some_taken [] m next h = absurd h
-  some_taken (s ∷ ss) m next h = omega arith
-
-  -- moves can be asked for there, the move is allowed, and leads to the next one
-  pub taken_top : (ss : List Spot) (c next : Config) (m : Move) → IsTop ss c → AreAsked p ss
-      → IsTakenLast p ss m next → p.IsFit c × p.IsAllowed c m × (next ≡ step c m)
-  taken_top [] c next m top asked h = absurd top
-  taken_top (s ∷ ss) c next m top asked h = (
-    subst p.IsFit top asked.0.fit,
-    subst (λ d. p.IsAllowed d m) top h.allowed,
-    h.leads ∙ ap (λ d. step d m) top,
-  )

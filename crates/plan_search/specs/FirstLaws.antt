@@ -34,6 +34,18 @@ AheadByPositions =
     (ctx : Ctx) (start goal x : Config) → HaveLists ctx start goal
     → IsAheadOfGoal (rulebook ctx) start goal x → IsAhead (rulebook ctx) start goal x
 
+-- Where lists are given or not, the least way by positions is the first one,
+abbrev pub LeastIsFirst : Type 0
+LeastIsFirst =
+    (ctx : Ctx) (start goal : Config) (ms : List Move) → IsLeast (rulebook ctx) start goal ms goal
+    → IsFirstWay (rulebook ctx) start goal ms
+
+-- and what is ahead by positions is ahead of goal
+abbrev pub PositionsAreAhead : Type 0
+PositionsAreAhead =
+    (ctx : Ctx) (start goal x : Config) → IsAhead (rulebook ctx) start goal x
+    → IsAheadOfGoal (rulebook ctx) start goal x
+
 -- ---- where no lists are given
 
 -- the simple way to x that can't fail to be before every other one, by positions in the lists

@@ -1,5 +1,6 @@
 -- what public clauses cite
 pub mod Counting
+pub mod ExactBudget
 pub mod FirstLaws
 pub mod FirstWays
 pub mod Searches

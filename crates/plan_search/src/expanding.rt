@@ -1,5 +1,5 @@
 //! What a search asks: the moves at a configuration, part by part, and whether one is allowed.
-ghost use Rattle.std.specs.Prelude.{◌≡◌, ◌<◌, List, IfOk, IfSome, MatchOption};
+ghost use Rattle.std.specs.Prelude.{◌≡◌, ◌<◌, List, IfOk, MatchOption};
 ghost use Rattle.conf_doc.specs.declared.configuration.Config.{Config as Configuration};
 ghost use Rattle.move_core.specs.Moves.{step};
 ghost use Rattle.move_lists.specs.declared.firsts.First.{First};
@@ -42,21 +42,6 @@ pub(crate) trait Expanding {
         requires fit { (problem self.now).IsFit cur.now }
         ensures ready { is_ready self.now kit.new }
         ensures firsts { IfOk result (are_firsts self.now cur.now) };
-
-    /// What these become at the configuration that an allowed move leads to, or None where they are to be made anew.
-    fn firsts_after(
-        &self,
-        alloc: Global,
-        cur: &Config,
-        next: &Config,
-        mv: &Move,
-        firsts: Firsts,
-    ) -> Result<Option<Firsts>, Memory>
-        requires fit { (problem self.now).IsFit cur.now }
-        requires allowed { (problem self.now).IsAllowed cur.now mv.now }
-        requires next { next.now ≡ step cur.now mv.now }
-        requires firsts { are_firsts self.now cur.now firsts }
-        ensures firsts { IfOk result (λ found. IfSome found (are_firsts self.now next.now)) };
 
     /// The part of the list that follows that many: its moves, in the order in which they are tried.
     fn list(

@@ -1,6 +1,7 @@
 //! What holds of searches and of first ways.
+ghost use Rattle.plan_search.specs.ExactBudget.{BudgetIsExact};
 ghost use Rattle.plan_search.specs.FirstLaws.{AheadByPositions, FirstIsLeast, FirstIsOne};
-ghost use Rattle.plan_search.specs.FirstLaws.{FirstIsSurelyLeast, SurelyAheadByPositions};
+ghost use Rattle.plan_search.specs.FirstLaws.{FirstIsSurelyLeast, LeastIsFirst, PositionsAreAhead, SurelyAheadByPositions};
 ghost use Rattle.plan_search.specs.Searches.{SearchesAgree};
 
 /// A context, start, goal and budget have one answer, wants of memory aside. So it doesn't depend on what
@@ -23,4 +24,17 @@ pub fn first_ways_are_least()
 pub fn first_ways_are_surely_least()
     ensures least { FirstIsSurelyLeast }
     ensures ahead { SurelyAheadByPositions }
+{}
+
+/// The other way round: the least way by positions is the first one, and what is ahead by positions is ahead of
+/// goal. Positions are of lists, so lists are given here. With the law above both sayings are one.
+pub fn least_ways_are_first()
+    ensures first { LeastIsFirst }
+    ensures ahead { PositionsAreAhead }
+{}
+
+/// So which answer a search gives, memory aside, is settled by what can be reached and by what is ahead by
+/// positions, where each configuration that can be reached has its list of moves.
+pub fn budget_is_exact()
+    ensures { BudgetIsExact }
 {}

@@ -13,7 +13,10 @@ mod stacks;
 mod steps;
 
 pub use errors::SearchError;
-pub use laws::{first_ways_are_least, first_ways_are_surely_least, searches_have_one_answer};
+pub use laws::{
+    budget_is_exact, first_ways_are_least, first_ways_are_surely_least, least_ways_are_first,
+    searches_have_one_answer,
+};
 pub use move_lists::listed;
 pub use planning::search;
 pub use steps::Steps;

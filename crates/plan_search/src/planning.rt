@@ -16,7 +16,7 @@ use host_core::Memory;
 use move_core::{
     Boxes, Ctx, Kit, Move, MoveExt, MoveGen, MoveRule, Plan, listed_moves_are_defined, step,
 };
-use move_lists::{Firsts, first_moves, first_moves_after, listed_in_part};
+use move_lists::{Firsts, first_moves, listed_in_part};
 use std::alloc::Global;
 use std::marker::PhantomData;
 use std::sync::ledger::Ledger;
@@ -64,19 +64,6 @@ impl<'a> Expanding for KitMoves<'a> {
 
     fn firsts(&self, alloc: Global, kit: &mut Kit, cur: &Config) -> Result<Firsts, Memory> {
         first_moves(alloc, self.ctx, kit, self.start, cur, self.goal)
-    }
-
-    fn firsts_after(
-        &self,
-        alloc: Global,
-        cur: &Config,
-        next: &Config,
-        mv: &Move,
-        firsts: Firsts,
-    ) -> Result<Option<Firsts>, Memory> {
-        listed_moves_are_defined();
-        let _tables = cur.len();
-        first_moves_after(alloc, self.start, next, self.goal, mv, firsts)
     }
 
     fn list(

@@ -1,7 +1,8 @@
 //! The search: depth first over the lists of moves, with no configuration expanded twice.
-ghost use Rattle.std.specs.Prelude.{◌≡◌, ◌+◌, ◌<◌, [], ◌∷◌, length, reverse, IfOk, IfSome, OnOk, MatchOption, MatchResult, IfNone};
+ghost use Rattle.std.specs.Prelude.{◌≡◌, ◌+◌, ◌<◌, ◌≤◌, [], ◌∷◌, ◌++◌, length, reverse, Err, IfErr, IfOk, IfSome, OnOk, MatchOption, MatchResult, IfNone};
+ghost use Rattle.std.specs.List.{Contains};
 ghost use Rattle.plan_search.specs.Answers.{IsAnswer};
-ghost use Rattle.plan_search.specs.Searching.{AreAsked, AreMet, IsFound, IsPassed, IsStillUnderWay, IsTakenLast, IsTrying, IsUnderWay, weight};
+ghost use Rattle.plan_search.specs.Searching.{AreAsked, AreMet, IsFound, IsPassed, IsStillUnderWay, IsTrying, IsUnderWay, LeadsToNew, weight};
 ghost use Rattle.plan_search.specs.Stacks.{AtTop, IsSpent, configs_of, new_spot, spots, taken};
 
 use crate::expanding::{Expanding, PART_COUNT};
@@ -145,70 +146,38 @@ fn find_new<S: Expanding>(
     kit: &mut S::Kit,
     met: &mut Met,
     stack: &mut Stack,
-    kept: &mut Option<Firsts>,
 ) -> Result<Found, Memory>
     requires ready { S.is_ready source.now kit.old }
     requires way { IsUnderWay (S.problem source.now) met.old (spots stack.old) (taken stack.old) }
-    requires kept { IfSome kept.old (AtTop (S.are_firsts source.now) (spots stack.old)) }
     ensures ready { S.is_ready source.now kit.new }
     ensures found { IfOk result
         (IsFound (S.problem source.now) met.old met.new (spots stack.new) (taken stack.new)) }
-    ensures kept { IfSome kept.new (AtTop (S.are_firsts source.now) (spots stack.new)) }
 {
+    let mut kept = None;
     while !stack.is_empty() {
         match try_rest(alloc, source, kit, met, stack)? {
             Some(found) => return Ok(found),
-            None => pass_on(alloc, source, kit, stack, kept)?,
+            None => pass_on(alloc, source, kit, stack, &mut kept)?,
         }
     }
     Ok(Found::Nothing)
 }
 
-/// What is kept of the last configuration as it is at the one that a move leads to.
-fn kept_after<S: Expanding>(
+/// Expands a configuration: it is put on the stack.
+fn expand<L: Ledger>(
     alloc: Global,
-    source: &S,
-    stack: &Stack,
-    kept: Option<Firsts>,
-    mv: &Move,
-    next: &Config,
-) -> Result<Option<Firsts>, Memory>
-    requires asked { AreAsked (S.problem source.now) (spots stack.now) }
-    requires taken { IsTakenLast (S.problem source.now) (spots stack.now) mv.now next.now }
-    requires kept { IfSome kept (AtTop (S.are_firsts source.now) (spots stack.now)) }
-    ensures { IfOk result (λ found. IfSome found (S.are_firsts source.now next.now)) }
-{
-    match kept {
-        Some(firsts) => source.firsts_after(alloc, stack.top(), next, mv, firsts),
-        None => Ok(None),
-    }
-}
-
-/// Expands a configuration: it is put on the stack, and what is kept of the one before becomes what is kept of it.
-fn expand<S: Expanding, L: Ledger>(
-    alloc: Global,
-    source: &S,
     stack: &mut Stack,
-    kept: &mut Option<Firsts>,
     mv: Move,
     next: Config,
     steps: &mut Steps<L>,
 ) -> Result<(), Memory>
-    requires asked { AreAsked (S.problem source.now) (spots stack.old) }
-    requires taken { IsTakenLast (S.problem source.now) (spots stack.old) mv next }
-    requires kept { IfSome kept.old (AtTop (S.are_firsts source.now) (spots stack.old)) }
     ensures spots { OnOk result (spots stack.new ≡ new_spot next ∷ spots stack.old) }
     ensures taken { OnOk result (taken stack.new ≡ mv ∷ taken stack.old) }
-    ensures kept { OnOk result
-        (IfSome kept.new (AtTop (S.are_firsts source.now) (spots stack.new))) }
     ensures steps { steps.new ≡ steps.old + 1 }
 {
     steps.tick();
-    let after = kept_after(alloc, source, stack, kept.take(), &mv, &next)?;
     stack.follow(mv)?;
-    stack.push(alloc, next)?;
-    *kept = after;
-    Ok(())
+    stack.push(alloc, next)
 }
 
 /// Goes on from what was met until there is an answer.
@@ -232,9 +201,8 @@ fn go_on<S: Expanding, L: Ledger>(
 {
     let mut met = met;
     let mut stack = stack;
-    let mut kept = None;
     loop {
-        match find_new(alloc, source, kit, &mut met, &mut stack, &mut kept) {
+        match find_new(alloc, source, kit, &mut met, &mut stack) {
             Err(_) => return Err(SearchError::Memory),
             Ok(Found::Nothing) => return Err(SearchError::Unorderable),
             Ok(Found::Goal(mv)) => return whole(stack, mv),
@@ -242,7 +210,7 @@ fn go_on<S: Expanding, L: Ledger>(
                 if met.len() == budget as usize {
                     return Err(SearchError::Budget(budget));
                 }
-                match expand(alloc, source, &mut stack, &mut kept, mv, next, steps) {
+                match expand(alloc, &mut stack, mv, next, steps) {
                     Ok(()) => {}
                     Err(_) => return Err(SearchError::Memory),
                 }

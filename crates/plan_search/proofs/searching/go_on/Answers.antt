@@ -5,32 +5,28 @@ use Rattle.plan_search.proofs.Ended.{budget_met, no_order, whole_answer}
 use Rattle.plan_search.proofs.Kept.{met_expanded, under_way_expanded}
 use Rattle.plan_search.proofs.searching.go_on.Goals as goal
 
-pub loop-kept-init : goal.loop-kept-init
-loop-kept-init g c = record {
+pub loop-stack-init : goal.loop-stack-init
+loop-stack-init g c = record {
   ready = c.requires.ready;
   met = c.requires.met;
   way = c.requires.way;
-  kept = tt;
   below = c.requires.below;
   steps = refl;
 }
 
 pub find_new-requires-clause-ready : goal.find_new-requires-clause-ready
-find_new-requires-clause-ready g c = c.loop-kept.invariant.ready
+find_new-requires-clause-ready g c = c.loop-stack.invariant.ready
 
 pub find_new-requires-clause-way : goal.find_new-requires-clause-way
-find_new-requires-clause-way g c = c.loop-kept.invariant.way
-
-pub find_new-requires-clause-kept : goal.find_new-requires-clause-kept
-find_new-requires-clause-kept g c = c.loop-kept.invariant.kept
+find_new-requires-clause-way g c = c.loop-stack.invariant.way
 
 pub returns-in-Err-clause-ready : goal.returns-in-Err-clause-ready
 returns-in-Err-clause-ready g c = c.find_new.ensures.ready
 
 pub returns-in-Err-clause-steps : goal.returns-in-Err-clause-steps
 returns-in-Err-clause-steps g c =
-    let steps = c.loop-kept.invariant.steps in
-    let below = c.loop-kept.invariant.below in
+    let steps = c.loop-stack.invariant.steps in
+    let below = c.loop-stack.invariant.below in
     omega (arith, steps, below)
 
 pub returns-in-Ok-Nothing-clause-ready : goal.returns-in-Ok-Nothing-clause-ready
@@ -40,12 +36,12 @@ pub returns-in-Ok-Nothing-clause-answer : goal.returns-in-Ok-Nothing-clause-answ
 returns-in-Ok-Nothing-clause-answer g c =
     let p = g.S.Expanding.problem c.args.source.now in
     let found = rw c.in-Ok-Nothing.field-0-is at c.in-Ok-Nothing.ensures.found in
-    no_order p c.loop-kept.met c.args.budget c.loop-kept.invariant.met found.1 c.loop-kept.invariant.below
+    no_order p c.loop-stack.met c.args.budget c.loop-stack.invariant.met found.1 c.loop-stack.invariant.below
 
 pub returns-in-Ok-Nothing-clause-steps : goal.returns-in-Ok-Nothing-clause-steps
 returns-in-Ok-Nothing-clause-steps g c =
-    let steps = c.loop-kept.invariant.steps in
-    let below = c.loop-kept.invariant.below in
+    let steps = c.loop-stack.invariant.steps in
+    let below = c.loop-stack.invariant.below in
     omega (arith, steps, below)
 
 pub returns-in-Ok-Goal-clause-ready : goal.returns-in-Ok-Goal-clause-ready
@@ -55,14 +51,14 @@ pub returns-in-Ok-Goal-clause-answer : goal.returns-in-Ok-Goal-clause-answer
 returns-in-Ok-Goal-clause-answer g c =
     let p = g.S.Expanding.problem c.args.source.now in
     let found = rw c.in-Ok-Goal.field-0-is at c.in-Ok-Goal.ensures.found in
-    whole_answer p c.loop-kept.met (spots c.find_new.new.stack) (taken c.find_new.new.stack) c.in-Ok-Goal.mv
-    (g.met.S.Expanding.lawful c.args.source.now) c.loop-kept.invariant.met found.1
-    c.args.budget c.whole.result c.whole.ensures c.loop-kept.invariant.below
+    whole_answer p c.loop-stack.met (spots c.find_new.new.stack) (taken c.find_new.new.stack) c.in-Ok-Goal.mv
+    (g.met.S.Expanding.lawful c.args.source.now) c.loop-stack.invariant.met found.1
+    c.args.budget c.whole.result c.whole.ensures c.loop-stack.invariant.below
 
 pub returns-in-Ok-Goal-clause-steps : goal.returns-in-Ok-Goal-clause-steps
 returns-in-Ok-Goal-clause-steps g c =
-    let steps = c.loop-kept.invariant.steps in
-    let below = c.loop-kept.invariant.below in
+    let steps = c.loop-stack.invariant.steps in
+    let below = c.loop-stack.invariant.below in
     omega (arith, steps, below)
 
 pub returns-then-len-budget-clause-ready : goal.returns-then-len-budget-clause-ready
@@ -74,62 +70,50 @@ returns-then-len-budget-clause-answer g c =
     let found = rw c.in-Ok-New.field-0-is at c.in-Ok-New.ensures.found in
     budget_met p c.find_new.new.met c.args.budget
     (subst (AreMet p) (sym found.0)
-    (met_expanded p c.loop-kept.met (spots c.find_new.new.stack) (taken c.find_new.new.stack) c.in-Ok-New.mv c.in-Ok-New.next
-    (g.met.S.Expanding.lawful c.args.source.now) found.1 c.loop-kept.invariant.met))
+    (met_expanded p c.loop-stack.met (spots c.find_new.new.stack) (taken c.find_new.new.stack) c.in-Ok-New.mv c.in-Ok-New.next
+    (g.met.S.Expanding.lawful c.args.source.now) found.1 c.loop-stack.invariant.met))
     (sym c.len.ensures ∙ c.if-len-budget.true)
 
 pub returns-then-len-budget-clause-steps : goal.returns-then-len-budget-clause-steps
 returns-then-len-budget-clause-steps g c =
-    let steps = c.loop-kept.invariant.steps in
-    let below = c.loop-kept.invariant.below in
+    let steps = c.loop-stack.invariant.steps in
+    let below = c.loop-stack.invariant.below in
     omega (arith, steps, below)
-
-pub expand-requires-clause-asked : goal.expand-requires-clause-asked
-expand-requires-clause-asked g c =
-    let found = rw c.in-Ok-New.field-0-is at c.in-Ok-New.ensures.found in found.1.standing.asked
-
-pub expand-requires-clause-taken : goal.expand-requires-clause-taken
-expand-requires-clause-taken g c =
-    let found = rw c.in-Ok-New.field-0-is at c.in-Ok-New.ensures.found in found.1.taken
-
-pub expand-requires-clause-kept : goal.expand-requires-clause-kept
-expand-requires-clause-kept g c = c.find_new.ensures.kept
 
 pub same-met : goal.same-met
 same-met g c = refl
 
-pub loop-kept-smaller : goal.loop-kept-smaller
-loop-kept-smaller g c =
+pub loop-stack-smaller : goal.loop-stack-smaller
+loop-stack-smaller g c =
     let found = rw c.in-Ok-New.field-0-is at c.in-Ok-New.ensures.found in
-    let more = ap length found.0 ∙ length-append c.loop-kept.met (c.in-Ok-New.next ∷ []) in
-    let below = c.loop-kept.invariant.below in
+    let more = ap length found.0 ∙ length-append c.loop-stack.met (c.in-Ok-New.next ∷ []) in
+    let below = c.loop-stack.invariant.below in
     omega (arith, more, below)
 
-pub loop-kept-preserved : goal.loop-kept-preserved
-loop-kept-preserved g c =
+pub loop-stack-preserved : goal.loop-stack-preserved
+loop-stack-preserved g c =
     let p = g.S.Expanding.problem c.args.source.now in
     let lawful = g.met.S.Expanding.lawful c.args.source.now in
     let found = rw c.in-Ok-New.field-0-is at c.in-Ok-New.ensures.found in
-    let met = c.loop-kept.met ++ c.in-Ok-New.next ∷ [] in
+    let met = c.loop-stack.met ++ c.in-Ok-New.next ∷ [] in
     let ss = spots c.find_new.new.stack in
     let ms = taken c.find_new.new.stack in
-    let more = ap length found.0 ∙ length-append c.loop-kept.met (c.in-Ok-New.next ∷ []) in
-    let below = c.loop-kept.invariant.below in
+    let more = ap length found.0 ∙ length-append c.loop-stack.met (c.in-Ok-New.next ∷ []) in
+    let below = c.loop-stack.invariant.below in
     let len = c.len.ensures in
     let other = c.if-len-budget.false in
     let step = c.expand.ensures.steps in
-    let steps = c.loop-kept.invariant.steps in
+    let steps = c.loop-stack.invariant.steps in
     record {
       ready = c.find_new.ensures.ready;
       met =
           subst (AreMet p) (sym found.0)
-          (met_expanded p c.loop-kept.met ss ms c.in-Ok-New.mv c.in-Ok-New.next lawful found.1 c.loop-kept.invariant.met);
+          (met_expanded p c.loop-stack.met ss ms c.in-Ok-New.mv c.in-Ok-New.next lawful found.1 c.loop-stack.invariant.met);
       way =
           subst (λ l. IsUnderWay p l (spots c.expand.new.stack) (taken c.expand.new.stack)) (sym found.0)
           (subst (λ l. IsUnderWay p met l (taken c.expand.new.stack)) (sym c.in-Ok.ensures.spots)
           (subst (IsUnderWay p met (new_spot c.in-Ok-New.next ∷ ss)) (sym c.in-Ok.ensures.taken)
-          (under_way_expanded p c.loop-kept.met ss ms c.in-Ok-New.mv c.in-Ok-New.next lawful found.1)));
-      kept = c.in-Ok.ensures.kept;
+          (under_way_expanded p c.loop-stack.met ss ms c.in-Ok-New.mv c.in-Ok-New.next lawful found.1)));
       below = omega (arith, more, below, len, other);
       steps = omega (arith, more, step, steps);
     }
@@ -140,12 +124,12 @@ returns-in-Err-expand-clause-ready g c = c.find_new.ensures.ready
 pub returns-in-Err-expand-clause-steps : goal.returns-in-Err-expand-clause-steps
 returns-in-Err-expand-clause-steps g c =
     let found = rw c.in-Ok-New.field-0-is at c.in-Ok-New.ensures.found in
-    let more = ap length found.0 ∙ length-append c.loop-kept.met (c.in-Ok-New.next ∷ []) in
-    let below = c.loop-kept.invariant.below in
+    let more = ap length found.0 ∙ length-append c.loop-stack.met (c.in-Ok-New.next ∷ []) in
+    let below = c.loop-stack.invariant.below in
     let len = c.len.ensures in
     let other = c.if-len-budget.false in
     let step = c.expand.ensures.steps in
-    let steps = c.loop-kept.invariant.steps in
+    let steps = c.loop-stack.invariant.steps in
     omega (arith, more, below, len, other, step, steps)
 
 pub same-next : goal.same-next
