@@ -19,9 +19,10 @@ use std::cell::Cell;
 use std::rc::Rc;
 
 /// A row has a situation, how many configurations a search from `cur` to `goal` has `expanded`, and how
-/// often it has asked each of the `generators`, `extenders` and `rules`, in the order of their numbers. A
-/// generator is asked at each configuration that is expanded, an extender of each move, and a rule where all
-/// have said yes that the search asks before it.
+/// often it has asked each of the `generators`, `extenders` and `rules`, in the order of their numbers.
+/// Generators are asked at each configuration that is expanded, and again where the search comes back to
+/// one, an extender of each move that it may extend, and a rule where all have said yes that the search asks
+/// before it.
 #[derive(Drop)]
 pub struct Counts<'a> {
     /// The models and the rules of the rows.
