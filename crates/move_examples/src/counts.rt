@@ -91,9 +91,9 @@ impl Tally {
 
     /// Whether the boxes were asked as often as the row says.
     fn is_said(&self, row: &Value) -> Result<bool, Fail> {
-        let generators = are_counts(&self.generators, items_at(row, "generators")?);
-        let extenders = are_counts(&self.extenders, items_at(row, "extenders")?);
-        let rules = are_counts(&self.rules, items_at(row, "rules")?);
+        let generators = are_counts(&self.generators, items_at(row, "generators_asked")?);
+        let extenders = are_counts(&self.extenders, items_at(row, "extenders_asked")?);
+        let rules = are_counts(&self.rules, items_at(row, "rules_asked")?);
         Ok(generators && extenders && rules)
     }
 }
