@@ -1,14 +1,16 @@
-//! How many configurations a search expands, and how often it asks each rule.
+//! How many configurations a search expands, and how often it asks each box of a kit.
+ghost use Rattle.move_core.specs.Kinds.{AreOfKinds, generator_kinds, rule_kinds};
 ghost use Rattle.move_examples.specs.Situations.{IsReady};
 
-use crate::kits::{KitTable, ask_rules, kit_rules};
-use crate::move_texts::{line_of, push_word};
+use crate::kits::{KitTable, kit_extenders, kit_generators, kit_rules};
 use crate::plans::{AMPLE, find_plan};
 use crate::situations::{Situation, situation_at};
 use conf_doc::Config;
-use example_rows::{Fail, Table, number_at};
+use example_rows::{Fail, Table, items_at, number_at};
 use host_core::Memory;
-use move_core::{Ctx, Kit, Move, MoveRule};
+use move_core::{Boxes, Ctx, Generated, Kit, Move, MoveExt, MoveGen, MoveRule};
+use move_extend::{DeleteExt, ReferrersExt, RequiredExt, UpperExt};
+use move_gen::{FieldGen, KeyGen, SeedGen, TableGen};
 use move_rules::{CreateOnlyRule, FullRule, NoDependencyRule, NoEmptyRule, RequiredRule};
 use plan_search::SearchError;
 use serde_json::Value;
@@ -17,8 +19,10 @@ use std::cell::Cell;
 use std::rc::Rc;
 
 /// A row has a situation, how many configurations a search from `cur` to `goal` has `expanded`, and how
-/// often it has `asked` each rule, in the order of their numbers. A rule is asked where all have said yes that the
-/// search asks before it.
+/// often it has asked each of the `generators`, `extenders` and `rules`, in the order of their numbers.
+/// Generators are asked at each configuration that is expanded, and again where the search comes back to
+/// one, an extender of each move that it may extend, and a rule where all have said yes that the search asks
+/// before it.
 #[derive(Drop)]
 pub struct Counts<'a> {
     /// The models and the rules of the rows.
@@ -42,9 +46,9 @@ impl<'a> Counts<'a> {
     ) -> Result<bool, Fail>
         requires { IsReady situation.now }
     {
-        let tally = Tally::new(alloc)?;
-        let expanded = ask_counted(alloc, &tally, self, situation, row)?;
-        Ok(expanded && tally.is_said(alloc, row)?)
+        let mut tally = Tally::new(alloc);
+        let expanded = ask_counted(alloc, &mut tally, self, situation, row)?;
+        Ok(expanded && tally.is_said(row)?)
     }
 }
 
@@ -56,8 +60,8 @@ impl<'a> KitTable for Counts<'a> {
         situation: &Situation,
         row: &Value,
     ) -> Result<bool, Fail> {
-        let mut expanded = 0;
-        let found = find_plan(alloc, situation, kit, AMPLE, &mut expanded);
+        let Situation { ctx, cur, goal, .. } = situation;
+        let (found, expanded) = find_plan(alloc, ctx, kit, cur, goal, AMPLE);
         match found {
             Err(SearchError::Memory) => Err(Fail::Memory),
             _ => Ok(expanded == number_at(row, "expanded")?),
@@ -65,118 +69,204 @@ impl<'a> KitTable for Counts<'a> {
     }
 }
 
-/// How often each rule was asked.
+/// How often each box of a kind was asked, in the order of their numbers.
+type Counters = Vec<Rc<Cell<u64>>>;
+
+/// How often each box was asked.
 #[derive(Drop)]
 struct Tally {
-    full: Rc<Cell<u64>>,
-    no_dependency: Rc<Cell<u64>>,
-    no_empty: Rc<Cell<u64>>,
-    create_only: Rc<Cell<u64>>,
-    required: Rc<Cell<u64>>,
+    generators: Counters,
+    extenders: Counters,
+    rules: Counters,
 }
 
 impl Tally {
-    fn new(alloc: Global) -> Result<Tally, Memory> {
-        Ok(Tally {
-            full: Rc::new(alloc, Cell::new(0))?,
-            no_dependency: Rc::new(alloc, Cell::new(0))?,
-            no_empty: Rc::new(alloc, Cell::new(0))?,
-            create_only: Rc::new(alloc, Cell::new(0))?,
-            required: Rc::new(alloc, Cell::new(0))?,
-        })
+    fn new(alloc: Global) -> Tally {
+        Tally {
+            generators: Vec::new(alloc),
+            extenders: Vec::new(alloc),
+            rules: Vec::new(alloc),
+        }
     }
 
-    /// Whether the rules were asked as often as the row says.
-    fn is_said(&self, alloc: Global, row: &Value) -> Result<bool, Fail> {
-        let said = line_of(alloc, row.get("asked").ok_or(Fail::Row)?)?;
-        let line = self.line(alloc)?;
-        Ok(line == said)
-    }
-
-    /// The counts in the order of the rules' numbers.
-    fn line(&self, alloc: Global) -> Result<Vec<u8>, Fail> {
-        let mut line = Vec::new(alloc);
-        self.push_counts(alloc, &mut line)?;
-        Ok(line)
-    }
-
-    fn push_counts(&self, alloc: Global, line: &mut Vec<u8>) -> Result<(), Fail> {
-        push_count(alloc, line, self.full.get())?;
-        push_count(alloc, line, self.no_dependency.get())?;
-        push_count(alloc, line, self.no_empty.get())?;
-        push_count(alloc, line, self.create_only.get())?;
-        push_count(alloc, line, self.required.get())
+    /// Whether the boxes were asked as often as the row says.
+    fn is_said(&self, row: &Value) -> Result<bool, Fail> {
+        let generators = are_counts(&self.generators, items_at(row, "generators_asked")?);
+        let extenders = are_counts(&self.extenders, items_at(row, "extenders_asked")?);
+        let rules = are_counts(&self.rules, items_at(row, "rules_asked")?);
+        Ok(generators && extenders && rules)
     }
 }
 
-fn push_count(alloc: Global, line: &mut Vec<u8>, count: u64) -> Result<(), Fail> {
-    let count = format!(in alloc; "{count}")?;
-    push_word(line, count.as_bytes())
+/// Whether counters are at the numbers that are said.
+fn are_counts(counters: &[Rc<Cell<u64>>], said: &[Value]) -> bool {
+    for (counter, said) in counters.iter().zip(said) {
+        if said.as_u64() != Some(counter.get()) {
+            return false;
+        }
+    }
+    counters.len() == said.len()
 }
 
-/// A rule, and how often it was asked.
+/// A box, and how often it was asked.
 #[derive(Drop)]
-struct Counted<R> {
-    rule: R,
+struct Counted<B> {
+    inner: B,
     asked: Rc<Cell<u64>>,
 }
 
-impl<R: MoveRule> Counted<R> {
-    /// The rule, which counts in a place that is shared.
-    fn new(rule: R, asked: &Rc<Cell<u64>>) -> Result<Counted<R>, Memory> {
-        Ok(Counted {
-            rule,
-            asked: asked.clone()?,
-        })
+impl<B> Counted<B> {
+    /// Counts a call.
+    fn count(&self) {
+        self.asked.set(self.asked.get().saturating_add(1));
+    }
+}
+
+/// A box whose calls are counted behind those of the boxes before it.
+fn counting_box<B: Drop>(
+    alloc: Global,
+    inner: B,
+    counters: &mut Counters,
+) -> Result<Box<Counted<B>>, Memory> {
+    let asked = Rc::new(alloc, Cell::new(0))?;
+    counters.push(asked.clone()?)?;
+    Ok(Box::new(alloc, Counted { inner, asked })?)
+}
+
+impl<G: MoveGen> MoveGen for Counted<G> {
+    ghost gen_kind = { λ s. G.gen_kind s.inner };
+
+    fn kind(&self) -> u32 {
+        self.inner.kind()
+    }
+
+    fn moves(
+        &mut self,
+        alloc: Global,
+        ctx: &Ctx,
+        cur: &Config,
+        goal: &Config,
+        out: &mut Vec<Generated>,
+    ) -> Result<(), Memory> {
+        self.count();
+        self.inner.moves(alloc, ctx, cur, goal, out)
+    }
+}
+
+impl<E: MoveExt> MoveExt for Counted<E> {
+    ghost ext_kind = { λ s. E.ext_kind s.inner };
+
+    fn kind(&self) -> u32 {
+        self.inner.kind()
+    }
+
+    fn extend(
+        &mut self,
+        alloc: Global,
+        ctx: &Ctx,
+        cur: &Config,
+        goal: &Config,
+        mv: &Move,
+        out: &mut Vec<Move>,
+    ) -> Result<(), Memory> {
+        self.count();
+        self.inner.extend(alloc, ctx, cur, goal, mv, out)
     }
 }
 
 impl<R: MoveRule> MoveRule for Counted<R> {
-    ghost rule_kind = { λ s. R.rule_kind s.rule };
+    ghost rule_kind = { λ s. R.rule_kind s.inner };
 
-    ghost fits = { λ s models. R.fits s.rule models };
+    ghost fits = { λ s models. R.fits s.inner models };
 
     fn kind(&self) -> u32 {
-        self.rule.kind()
+        self.inner.kind()
     }
 
     fn begin(&mut self, ctx: &Ctx) {
-        self.rule.begin(ctx);
+        self.inner.begin(ctx);
     }
 
     fn allows(&mut self, ctx: &Ctx, cur: &Config, next: &Config, goal: &Config, mv: &Move) -> bool {
-        self.asked.set(self.asked.get().saturating_add(1));
-        self.rule.allows(ctx, cur, next, goal, mv)
+        self.count();
+        self.inner.allows(ctx, cur, next, goal, mv)
     }
 }
 
-/// Asks a kit whose rules count how often they are asked.
+/// Asks a kit whose boxes count how often they are asked.
 fn ask_counted(
     alloc: Global,
-    tally: &Tally,
+    tally: &mut Tally,
     table: &Counts<'_>,
     situation: &Situation,
     row: &Value,
 ) -> Result<bool, Fail>
     requires { IsReady situation.now }
 {
+    let all = &mut tally.rules;
     let rules = kit_rules(
         alloc,
-        boxed_rule(alloc, FullRule::new(), &tally.full)?,
-        boxed_rule(alloc, NoDependencyRule::new(), &tally.no_dependency)?,
-        boxed_rule(alloc, NoEmptyRule::new(), &tally.no_empty)?,
-        boxed_rule(alloc, CreateOnlyRule::new(), &tally.create_only)?,
-        boxed_rule(alloc, RequiredRule::new(), &tally.required)?,
+        counting_box(alloc, FullRule::new(), all)?,
+        counting_box(alloc, NoDependencyRule::new(), all)?,
+        counting_box(alloc, NoEmptyRule::new(), all)?,
+        counting_box(alloc, CreateOnlyRule::new(), all)?,
+        counting_box(alloc, RequiredRule::new(), all)?,
     )?;
-    ask_rules(alloc, rules, table, situation, row)
+    ask_with_rules(alloc, tally, rules, table, situation, row)
 }
 
-/// A rule that counts in a place that is shared.
-fn boxed_rule<R: MoveRule>(
+/// The same, with these rules.
+fn ask_with_rules(
     alloc: Global,
-    rule: R,
-    asked: &Rc<Cell<u64>>,
-) -> Result<Box<Counted<R>>, Memory> {
-    let rule = Counted::new(rule, asked)?;
-    Ok(Box::new(alloc, rule)?)
+    tally: &mut Tally,
+    rules: Vec<Box<dyn MoveRule>>,
+    table: &Counts<'_>,
+    situation: &Situation,
+    row: &Value,
+) -> Result<bool, Fail>
+    requires rules { AreOfKinds (λ b. (MoveRule-box b).rule_kind b.value) rule_kinds rules.items }
+    requires ready { IsReady situation.now }
+{
+    let all = &mut tally.generators;
+    let gens = kit_generators(
+        alloc,
+        counting_box(alloc, TableGen::new(), all)?,
+        counting_box(alloc, KeyGen::new(), all)?,
+        counting_box(alloc, FieldGen::new(), all)?,
+        counting_box(alloc, SeedGen::new(), all)?,
+    )?;
+    ask_with_both(
+        alloc,
+        &mut tally.extenders,
+        gens,
+        rules,
+        table,
+        situation,
+        row,
+    )
+}
+
+/// The same, with these generators and rules.
+fn ask_with_both(
+    alloc: Global,
+    all: &mut Counters,
+    gens: Vec<Box<dyn MoveGen>>,
+    rules: Vec<Box<dyn MoveRule>>,
+    table: &Counts<'_>,
+    situation: &Situation,
+    row: &Value,
+) -> Result<bool, Fail>
+    requires gens { AreOfKinds (λ b. (MoveGen-box b).gen_kind b.value) generator_kinds gens.items }
+    requires rules { AreOfKinds (λ b. (MoveRule-box b).rule_kind b.value) rule_kinds rules.items }
+    requires ready { IsReady situation.now }
+{
+    let exts = kit_extenders(
+        alloc,
+        counting_box(alloc, UpperExt::new(), all)?,
+        counting_box(alloc, DeleteExt::new(), all)?,
+        counting_box(alloc, ReferrersExt::new(), all)?,
+        counting_box(alloc, RequiredExt::new(), all)?,
+    )?;
+    let mut kit = Kit { gens, exts, rules };
+    table.is_said_by(alloc, &mut kit, situation, row)
 }

@@ -69,7 +69,7 @@ pub fn ask_recheck<T: KitTable>(
 }
 
 /// Asks a kit with these rules.
-pub fn ask_rules<T: KitTable>(
+fn ask_rules<T: KitTable>(
     alloc: Global,
     rules: Vec<Box<dyn MoveRule>>,
     table: &T,
@@ -114,7 +114,7 @@ fn ask_both<T: KitTable>(
 }
 
 /// The generators in the order of their kinds.
-fn kit_generators(
+pub fn kit_generators(
     alloc: Global,
     tables: Box<dyn MoveGen>,
     keys: Box<dyn MoveGen>,
@@ -137,7 +137,7 @@ fn kit_generators(
 }
 
 /// The extenders in the order of their kinds.
-fn kit_extenders(
+pub fn kit_extenders(
     alloc: Global,
     upper: Box<dyn MoveExt>,
     delete: Box<dyn MoveExt>,

@@ -7,6 +7,7 @@ mod inputs;
 mod kits;
 mod lists;
 mod move_texts;
+mod operators;
 mod orders;
 mod plans;
 mod ranks;
@@ -19,6 +20,7 @@ use counts::Counts;
 use example_rows::{Fail, tell};
 use inputs::read_inputs;
 use lists::Lists;
+use operators::Operators;
 use orders::Orders;
 use plans::Plans;
 use rechecks::Rechecks;
@@ -32,5 +34,6 @@ fn main(rt: HostRuntime) -> Result<(), Fail> {
     tell(&rt, "lists.json", &Lists { inputs: &inputs })?;
     tell(&rt, "plans.json", &Plans { inputs: &inputs })?;
     tell(&rt, "rechecks.json", &Rechecks { inputs: &inputs })?;
-    tell(&rt, "counts.json", &Counts { inputs: &inputs })
+    tell(&rt, "counts.json", &Counts { inputs: &inputs })?;
+    tell(&rt, "operators.json", &Operators { inputs: &inputs })
 }

@@ -1,12 +1,15 @@
 //! The first plans, by kits with one and the other first rule.
 ghost use Rattle.std.specs.Prelude.{◌≡◌, ◌<◌, IfOk};
+ghost use Rattle.move_core.specs.Contexts.{IsNamed, IsValidIn, rulebook};
+ghost use Rattle.move_core.specs.Plans.{IsPlan};
 ghost use Rattle.move_examples.specs.Situations.{IsReady};
 
 use crate::kits::{KitTable, ask_full, ask_recheck};
 use crate::move_texts::{Lines, move_texts};
 use crate::situations::{Situation, situation_at};
+use conf_doc::Config;
 use example_rows::{Fail, Table, number_at};
-use move_core::{Boxes, Kit, Plan};
+use move_core::{Boxes, Ctx, Kit, Plan};
 use plan_search::{SearchError, Steps, search};
 use serde_json::Value;
 use std::alloc::Global;
@@ -113,7 +116,7 @@ fn step_lines(alloc: Global, steps: &[Value]) -> Result<Lines, Fail> {
 }
 
 /// A budget, which is above 0.
-fn budget_of(number: u64) -> Result<u32, Fail>
+pub fn budget_of(number: u64) -> Result<u32, Fail>
     ensures { IfOk result (λ budget. 0 < budget) }
 {
     match u32::try_from(number) {
@@ -148,8 +151,8 @@ fn answer(alloc: Global, situation: &Situation, kit: &mut Kit, budget: u32) -> R
     requires budget { 0 < budget }
     ensures kinds { ⟦<Kit as Boxes>⟧.HasKinds kit.new }
 {
-    let mut expanded = 0;
-    let found = find_plan(alloc, situation, kit, budget, &mut expanded);
+    let Situation { ctx, cur, goal, .. } = situation;
+    let (found, expanded) = find_plan(alloc, ctx, kit, cur, goal, budget);
     if expanded >= u64::from(budget) {
         return why_line(alloc, "too many expanded");
     }
@@ -161,43 +164,49 @@ fn answer(alloc: Global, situation: &Situation, kit: &mut Kit, budget: u32) -> R
     }
 }
 
-/// Searches for a plan from `cur` to `goal`, and tells how many configurations are expanded.
+/// Searches for a plan, and tells how many configurations are expanded.
 pub fn find_plan(
     alloc: Global,
-    situation: &Situation,
+    ctx: &Ctx,
     kit: &mut Kit,
+    cur: &Config,
+    goal: &Config,
     budget: u32,
-    expanded: &mut u64,
-) -> Result<Plan, SearchError>
+) -> (Result<Plan, SearchError>, u64)
     requires kinds { ⟦<Kit as Boxes>⟧.HasKinds kit.old }
-    requires ready { IsReady situation.now }
+    requires named { IsNamed ctx.now }
+    requires cur { IsValidIn ctx.now cur.now }
+    requires goal { IsValidIn ctx.now goal.now }
     requires budget { 0 < budget }
     ensures kinds { ⟦<Kit as Boxes>⟧.HasKinds kit.new }
+    ensures plan { IfOk result.0 (IsPlan (rulebook ctx.now) cur.now goal.now) }
 {
-    count_steps::<Brand>(alloc, situation, kit, budget, expanded, Blank::new(1))
+    count_steps::<Brand>(alloc, ctx, kit, cur, goal, budget, Blank::new(1))
 }
 
 /// The same, where the steps are counted in a ledger.
 fn count_steps<L: Ledger>(
     alloc: Global,
-    situation: &Situation,
+    ctx: &Ctx,
     kit: &mut Kit,
+    cur: &Config,
+    goal: &Config,
     budget: u32,
-    expanded: &mut u64,
     blank: Blank,
-) -> Result<Plan, SearchError>
+) -> (Result<Plan, SearchError>, u64)
     requires kinds { ⟦<Kit as Boxes>⟧.HasKinds kit.old }
-    requires ready { IsReady situation.now }
+    requires named { IsNamed ctx.now }
+    requires cur { IsValidIn ctx.now cur.now }
+    requires goal { IsValidIn ctx.now goal.now }
     requires budget { 0 < budget }
     requires name { blank.name ≡ L.name }
     requires parts { blank.parts ≡ L.parts }
     requires one { blank.parts ≡ 1 }
     ensures kinds { ⟦<Kit as Boxes>⟧.HasKinds kit.new }
+    ensures plan { IfOk result.0 (IsPlan (rulebook ctx.now) cur.now goal.now) }
 {
-    let Situation { ctx, cur, goal, .. } = situation;
     let (book, share) = blank.open::<L>();
     let mut steps = Steps::new(book, share);
     let found = search(alloc, ctx, kit, cur, goal, budget, &mut steps);
-    *expanded = steps.count();
-    found
+    (found, steps.count())
 }
