@@ -1,0 +1,110 @@
+-- The budget of a command is no greater than the greatest.
+use Rattle.std.proofs.Common.{◌≡◌, ◌≤◌, ℕ, List, [], ◌∷◌, Bool, true, false, cond, Option, Some, None, refl, arith}
+use Rattle.std.specs.Prelude.{codes, nat_le, ◌&&◌, ◌==◌, option_map, option_and_then}
+use Rattle.std.specs.Char.{is_ascii_digit}
+use Rattle.std.specs.List.{list_all}
+use Rattle.std.proofs.lemmas.Bool.Decides.{nat_tests}
+use Rattle.patch_core.specs.Indexes.{digit_0, number}
+use Rattle.plan_options.specs.Decimals.{number_within}
+use Rattle.plan_options.specs.Demos.{demo_of, Demo}
+use Rattle.plan_options.specs.Options.{Options, budget_in, budget_word, dry_run_word, most_budget, options, with_budget}
+use Rattle.plan_options.specs.Targets.{Target, target_of}
+use Rattle.plan_options.specs.Words.{is_positional, is_word}
+use Rattle.gcu_requests.specs.Form.{Form, change, check, delete_checkpoint, demo, form, form_of_demo, form_of_plan, list_checkpoints, plan, planned, preview, save_checkpoint}
+
+-- ---- options
+
+abbrev IsWithin : Option ℕ → Type 0
+IsWithin None = Unit {0}
+IsWithin (Some n) = n ≤ most_budget
+
+abbrev AreWithin : Option Options → Type 0
+AreWithin None = Unit {0}
+AreWithin (Some given) = given.budget ≤ most_budget
+
+number_is_within : (ds : List ℕ) → IsWithin (number_within most_budget ds)
+number_is_within ds = by (list_all is_ascii_digit ds) (nat_le (number ds) most_budget) refl
+  where
+    by : (a b : Bool) → nat_le (number ds) most_budget ≡ b → IsWithin (cond (a && b) (Some (number ds)) None)
+    by true true e = grind (arith, nat_tests)
+    by true false e = tt
+    by false b e = tt
+
+budget_is_within : (word : List ℕ) → IsWithin (budget_in word)
+budget_is_within [] = tt
+budget_is_within (d ∷ ds) =
+    elim (d == digit_0) as (λ b. IsWithin (cond b None (number_within most_budget (d ∷ ds)))) [ true ↦ tt | false ↦ number_is_within (d ∷ ds) ]
+
+with_is_within : (dry_run : Bool) (word : List ℕ) → AreWithin (with_budget dry_run word)
+with_is_within dry_run word = by (budget_in word) (budget_is_within word)
+  where
+    by : (o : Option ℕ) → IsWithin o → AreWithin (option_map (λ n. record { dry_run = dry_run; budget = n }) o)
+    by None h = tt
+    by (Some n) h = h
+
+either_within : (b : Bool) (x y : Option Options) → AreWithin x → AreWithin y → AreWithin (cond b x y)
+either_within true x y h k = h
+either_within false x y h k = k
+
+options_are_within : (ws : List (List ℕ)) → AreWithin (options ws)
+options_are_within [] = omega arith
+options_are_within (a ∷ []) =
+    either_within (is_word a dry_run_word) (Some (record { dry_run = true; budget = 2000 })) None (omega arith) tt
+options_are_within (a ∷ b ∷ []) = either_within (is_word a budget_word) (with_budget false b) None (with_is_within false b) tt
+options_are_within (a ∷ b ∷ c ∷ []) =
+    either_within (is_word a dry_run_word && is_word b budget_word) (with_budget true c)
+    (cond (is_word a budget_word && is_word c dry_run_word) (with_budget true b) None) (with_is_within true c)
+    (either_within (is_word a budget_word && is_word c dry_run_word) (with_budget true b) None (with_is_within true b) tt)
+options_are_within (a ∷ b ∷ c ∷ d ∷ ws) = tt
+
+-- ---- forms
+
+-- a plan is asked for with such a budget
+abbrev pub IsBudgeted : Option Form → Type 0
+IsBudgeted (Some (plan target budget)) = budget ≤ most_budget
+IsBudgeted (Some (change target budget)) = budget ≤ most_budget
+IsBudgeted other = Unit {0}
+
+either_budgeted : (b : Bool) (x y : Option Form) → IsBudgeted x → IsBudgeted y → IsBudgeted (cond b x y)
+either_budgeted true x y h k = h
+either_budgeted false x y h k = k
+
+planned_budgeted : (target : Target) (o : Option Options) → AreWithin o → IsBudgeted (option_map (planned target) o)
+planned_budgeted target None h = tt
+planned_budgeted target (Some given) h =
+    elim given.dry_run as (λ b. IsBudgeted (Some (cond b (plan target given.budget) (change target given.budget)))) [ true ↦ h | false ↦ h ]
+
+plan_budgeted : (command word : List ℕ) (ws : List (List ℕ)) → IsBudgeted (form_of_plan command word ws)
+plan_budgeted command word ws = by (target_of command word)
+  where
+    by : (o : Option Target) → IsBudgeted (option_and_then (λ target. option_map (planned target) (options ws)) o)
+    by None = tt
+    by (Some target) = planned_budgeted target (options ws) (options_are_within ws)
+
+demo_budgeted : (seed : List ℕ) (ws : List (List ℕ)) → IsBudgeted (form_of_demo seed ws)
+demo_budgeted seed [] = tt
+demo_budgeted seed (ports ∷ []) = by (demo_of seed ports)
+  where
+    by : (o : Option Demo) → IsBudgeted (option_map (λ d. demo d.seed d.ports) o)
+    by None = tt
+    by (Some d) = tt
+demo_budgeted seed (a ∷ b ∷ ws) = tt
+
+-- the forms of two words that come after the first one
+abbrev deleting : (a b : List ℕ) → Option Form
+deleting a b = cond (is_word a (codes "delete-checkpoint") && is_positional b) (Some (delete_checkpoint b)) (form_of_plan a b [])
+
+abbrev saving : (a b : List ℕ) → Option Form
+saving a b = cond (is_word a (codes "checkpoint") && is_positional b) (Some (save_checkpoint b)) (deleting a b)
+
+pub form_is_budgeted : (ws : List (List ℕ)) → IsBudgeted (form ws)
+form_is_budgeted [] = tt
+form_is_budgeted (a ∷ []) =
+    either_budgeted (is_word a (codes "check")) (Some check) (cond (is_word a (codes "list-checkpoints")) (Some list_checkpoints) None) tt
+    (either_budgeted (is_word a (codes "list-checkpoints")) (Some list_checkpoints) None tt tt)
+form_is_budgeted (a ∷ b ∷ []) =
+    either_budgeted (is_word a (codes "preview") && is_positional b) (Some (preview b)) (saving a b) tt
+    (either_budgeted (is_word a (codes "checkpoint") && is_positional b) (Some (save_checkpoint b)) (deleting a b) tt
+    (either_budgeted (is_word a (codes "delete-checkpoint") && is_positional b) (Some (delete_checkpoint b)) (form_of_plan a b []) tt (plan_budgeted a b [])))
+form_is_budgeted (a ∷ b ∷ c ∷ ws) =
+    either_budgeted (is_word a (codes "demo")) (form_of_demo b (c ∷ ws)) (form_of_plan a b (c ∷ ws)) (demo_budgeted b (c ∷ ws)) (plan_budgeted a b (c ∷ ws))

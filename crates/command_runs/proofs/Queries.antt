@@ -1,0 +1,200 @@
+-- What a command that does no plan was asked, and what it printed: nothing is acknowledged.
+use Rattle.std.proofs.Common.{◌≡◌, ◌≤◌, ◌<◌, ◌^◌, ◌⊎◌, inl, inr, ℕ, List, [], ◌∷◌, ◌++◌, length, append-nil, Option, Some, None, Ok, refl, sym, ap, ◌∙◌, subst, arith}
+use Rattle.std.specs.FinMap.{get, keys}
+use Rattle.host_core.specs.Counts.{Counts}
+use Rattle.host_core.specs.State.{State}
+use Rattle.json.specs.Layout.{pretty_from}
+use Rattle.conf_doc.specs.Texts.{file_text}
+use Rattle.conf_doc.specs.declared.configuration.Config.{Config}
+use Rattle.checkpoints.specs.Points.{Held, points}
+use Rattle.move_core.specs.Operations.{plan_text}
+use Rattle.move_core.specs.declared.moves.Move.{Move}
+use Rattle.plan_options.specs.Options.{most_budget}
+use Rattle.gcu_output.specs.Lines.{last_line}
+use Rattle.gcu_output.specs.declared.outcomes.Outcome.{Outcome}
+use Rattle.gcu_output.specs.declared.outcomes.Outcome.TheVariants.{Done, Memory, InputFault, DiskFault, PrintFault, ServiceFault, Unorderable, Budget}
+use Rattle.gcu_requests.specs.Asked.{absent_answer, form_asked, there_answer}
+use Rattle.gcu_requests.specs.Asking.{Asking}
+use Rattle.gcu_requests.specs.Form as forms
+use Rattle.gcu_requests.specs.Form.{Form}
+use Rattle.gcu_requests.specs.PlanAsked.{planning_asked}
+use Rattle.plan_options.specs.Targets.{Target}
+use Rattle.gcu_requests.specs.Request as request
+use Rattle.gcu_requests.specs.Request.{Planning, Request}
+use Rattle.host_core.specs.Answers.{map_ok}
+use Rattle.gcu_engine.specs.Answers.{IsDoneOutput, IsUntouched, LeavesDone, LeavesStopped, Prints, Says}
+use Rattle.gcu_engine.specs.Plannings.{IsPlanFor}
+use Rattle.command_runs.specs.Works.{FitTheirPlaces, IsWork}
+use Rattle.command_runs.proofs.Acked as acked
+use Rattle.command_runs.proofs.Acked.{Quiet, silent}
+use Rattle.command_runs.proofs.Budgets.{IsBudgeted}
+use Rattle.command_runs.proofs.CompactTold.{heads, tails}
+use Rattle.command_runs.proofs.Fitting.{way_fits}
+use Rattle.command_runs.proofs.LastLines.{last_line_is_quiet}
+use Rattle.command_runs.proofs.PointNames.{lines_have_none}
+use Rattle.command_runs.proofs.WorksTold.{HasNone, front_of_plan, none_in_front, quiet_has_none, unplanned}
+
+-- ---- what is asked
+
+-- what a command may be asked that does no plan
+pub data Query (s : State) : Request → Type 0 where
+  previews : (c : Config) → Query s (request.preview c)
+  checks : Query s request.check
+  lists : Query s (request.list_checkpoints (keys (points s.files)))
+  saves : (name : List ℕ) (c : Config) → Query s (request.save_checkpoint name c)
+  deletes : (name : List ℕ) → Query s (request.delete_checkpoint name)
+  plans : (p : Planning) → p.budget ≤ most_budget → Query s (request.plan p)
+  demos : (p : Planning) (ports : ℕ) → Query s (request.demo p ports)
+
+-- a plan is asked for with the budget of the words
+pub planning_budget : (from : Target) (budget : ℕ) (s : State) (p : Planning) → (planning_asked from budget s).Gives (Ok p) → p.budget ≡ budget
+planning_budget from budget s p (inl never) = absurd never
+planning_budget from budget s p (inr (ctx, g, inl never)) = absurd never
+planning_budget from budget s p (inr (ctx, g, inr (start, h, inl never))) = absurd never
+planning_budget from budget s p (inr (ctx, g, inr (start, h, inr (goal, k, e)))) =
+    let same : record { ctx = ctx; start = start; goal = goal; budget = budget } ≡ p = cc in
+    sym (ap (λ (q : Planning). q.budget) same)
+
+-- no plan is done
+abbrev pub IsNoChange : Option Form → Type 0
+IsNoChange (Some (forms.change target budget)) = ⊥
+IsNoChange other = Unit {0}
+
+saved : (s : State) (name : List ℕ) (c : Config) (r : Request) (o : Option Held) → absent_answer name c o ≡ Ok r → Query s r
+saved s name c r None e = let same : request.save_checkpoint name c ≡ r = cc in subst (Query s) same (saves name c)
+saved s name c r (Some held) e = absurd cc
+
+deleted : (s : State) (name : List ℕ) (r : Request) (o : Option Held) → map_ok request.delete_checkpoint (there_answer name o) ≡ Ok r → Query s r
+deleted s name r None e = absurd cc
+deleted s name r (Some held) e = let same : request.delete_checkpoint name ≡ r = cc in subst (Query s) same (deletes name)
+
+pub query_given : (o : Option Form) → IsNoChange o → IsBudgeted o → (s : State) (r : Request) → (form_asked o s).Gives (Ok r) → Query s r
+query_given None none few s r e = absurd cc
+query_given (Some (forms.preview path)) none few s r (inl never) = absurd never
+query_given (Some (forms.preview path)) none few s r (inr (c, g, e)) =
+    let same : request.preview c ≡ r = cc in subst (Query s) same (previews c)
+query_given (Some forms.check) none few s r (inl never) = absurd never
+query_given (Some forms.check) none few s r (inr (models, g, inl never)) = absurd never
+query_given (Some forms.check) none few s r (inr (models, g, inr (start, h, judged))) = subst (Query s) (sym judged.1) checks
+query_given (Some forms.list_checkpoints) none few s r e =
+    let same : request.list_checkpoints (keys (points s.files)) ≡ r = cc in subst (Query s) same lists
+query_given (Some (forms.save_checkpoint word)) none few s r (inl never) = absurd never
+query_given (Some (forms.save_checkpoint word)) none few s r (inr (name, g, inl never)) = absurd never
+query_given (Some (forms.save_checkpoint word)) none few s r (inr (name, g, inr (u, h, inl never))) = absurd never
+query_given (Some (forms.save_checkpoint word)) none few s r (inr (name, g, inr (u, h, inr (q, k, inl never)))) = absurd never
+query_given (Some (forms.save_checkpoint word)) none few s r (inr (name, g, inr (u, h, inr (q, k, inr (start, l, e))))) =
+    saved s name start r (get (points s.files) name) e
+query_given (Some (forms.delete_checkpoint word)) none few s r (inl never) = absurd never
+query_given (Some (forms.delete_checkpoint word)) none few s r (inr (name, g, inl never)) = absurd never
+query_given (Some (forms.delete_checkpoint word)) none few s r (inr (name, g, inr (u, h, e))) =
+    deleted s name r (get (points s.files) name) e
+query_given (Some (forms.plan target budget)) none few s r (inl never) = absurd never
+query_given (Some (forms.plan target budget)) none few s r (inr (from, g, inl never)) = absurd never
+query_given (Some (forms.plan target budget)) none few s r (inr (from, g, inr (p, h, e))) =
+    let same : request.plan p ≡ r = cc in
+    subst (Query s) same (plans p (subst (λ (n : ℕ). n ≤ most_budget) (sym (planning_budget from budget s p h)) few))
+query_given (Some (forms.change target budget)) none few s r g = absurd none
+query_given (Some (forms.demo seed ports)) none few s r (inl never) = absurd never
+query_given (Some (forms.demo seed ports)) none few s r (inr (p, g, e)) =
+    let same : request.demo p ports ≡ r = cc in subst (Query s) same (demos p ports)
+
+-- ---- what is printed
+
+-- no plan, or the text of one with a last line behind it
+abbrev Told : List ℕ → Type 0
+Told text =
+    HasNone text
+    ⊎ ((ms : List Move) × FitTheirPlaces ms × (length ms < 2 ^ 64) × (text ≡ plan_text ms ++ last_line Done))
+
+-- its front acknowledges nothing
+told_front : (part rest : List ℕ) → Told (part ++ rest) → (ms : List Move) × IsWork part ms 0
+told_front part rest (inl none) = ([], unplanned part (none_in_front part rest none))
+told_front part rest (inr (ms, fit, few, e)) = front_of_plan ms (last_line Done) part rest (last_line_is_quiet Done) fit few e
+
+last_told : (text : List ℕ) (e : Outcome) → text ≡ last_line e → Told text
+last_told text e is = inl (quiet_has_none text (subst Quiet (sym is) (last_line_is_quiet e)))
+
+-- the plan of a search for one
+pub plan_fits : (p : Planning) (ms : List Move) → IsPlanFor p ms → FitTheirPlaces ms
+plan_fits p ms is = way_fits _ p.goal p.start ms p.goal is.0
+
+pub plan_is_short : (p : Planning) (ms : List Move) → p.budget ≤ most_budget → IsPlanFor p ms → length ms < 2 ^ 64
+plan_is_short p ms few is = let less = is.1 in omega (arith, few, less)
+
+brace_first : (c : Config) (behind : List ℕ) → (more : List ℕ) × (file_text c ++ behind ≡ 123 ∷ more)
+unfolding pretty_from
+brace_first c behind = (_, refl)
+
+query_told : (s : State) (r : Request) (text : List ℕ) → Query s r → IsDoneOutput r text → Told text
+query_told s _ text (previews c) out =
+    let h = brace_first c (last_line Done) in
+    inl (quiet_has_none text (subst Quiet (sym (out ∙ h.1)) (acked.other 123 h.0 (omega arith) (omega arith))))
+query_told s _ text checks out = last_told text Done out
+query_told s _ text lists out = inl (subst HasNone (sym out) (lines_have_none s.files (last_line Done) (last_line_is_quiet Done)))
+query_told s _ text (saves name c) out = last_told text Done out
+query_told s _ text (deletes name) out = last_told text Done out
+query_told s _ text (plans p few) (ms, is, e) = inr (ms, plan_fits p ms is, plan_is_short p ms few is, e)
+query_told s _ text (demos p ports) (ms, is, e) =
+    inl (λ ns (rest, same).
+    let twice : 111 ≡ 108 = heads 111 108 _ _ (tails 112 112 _ _ (sym e ∙ same)) in omega (arith, twice))
+
+-- ---- what is left before it
+
+leaves_output : (s now : State) (r : Request) → Query s r → LeavesDone r s now → now.output ≡ s.output
+leaves_output s now _ (previews c) h = ap (λ (t : State). t.output) h
+leaves_output s now _ checks h = ap (λ (t : State). t.output) h
+leaves_output s now _ lists h = ap (λ (t : State). t.output) h
+leaves_output s now _ (saves name c) h = ap (λ (t : State). t.output) h.1
+leaves_output s now _ (deletes name) h = ap (λ (t : State). t.output) h.1
+leaves_output s now _ (plans p few) h = ap (λ (t : State). t.output) h
+leaves_output s now _ (demos p ports) h = ap (λ (t : State). t.output) h
+
+stopped_output : (s now : State) (r : Request) (step : ℕ) → Query s r → LeavesStopped r step s now → now.output ≡ s.output
+stopped_output s now _ step (previews c) h = absurd h
+stopped_output s now _ step checks h = absurd h
+stopped_output s now _ step lists h = absurd h
+stopped_output s now _ step (saves name c) h = h.1.output
+stopped_output s now _ step (deletes name) h = h.1.output
+stopped_output s now _ step (plans p few) h = absurd h
+stopped_output s now _ step (demos p ports) h = absurd h
+
+no_change : (s : State) (p : Planning) (r : Request) → r ≡ request.change p → Query s r → ⊥
+no_change s p _ e (previews c) = cc
+no_change s p _ e checks = cc
+no_change s p _ e lists = cc
+no_change s p _ e (saves name c) = cc
+no_change s p _ e (deletes name) = cc
+no_change s p _ e (plans q few) = cc
+no_change s p _ e (demos q ports) = cc
+
+module _ (s now : State) (asking : Asking Request) (query : (r : Request) → asking.Gives (Ok r) → Query s r) where
+  untouched_output : IsUntouched asking s now → now.output ≡ s.output
+  untouched_output (inl same) = ap (λ (t : State). t.output) same
+  untouched_output (inr (reads, same)) = ap (λ (t : State). t.output) same
+
+  says_told : (e : Outcome) (text : List ℕ) → Says asking s now e text → Told text × (now.output ≡ s.output)
+  says_told Done text (r, given, leaves, out) =
+      let q = query r given in (query_told s r text q out, leaves_output s now r q leaves)
+  says_told Memory text h = (last_told text Memory h.1, untouched_output h.0)
+  says_told InputFault text h = (last_told text InputFault h.2, untouched_output h.1)
+  says_told (DiskFault step) text (reads, inl (first, same), is) = (last_told text (DiskFault step) is, untouched_output same)
+  says_told (DiskFault step) text (reads, inr (r, given, stopped), is) =
+      (last_told text (DiskFault step) is, stopped_output s now r step (query r given) stopped)
+  says_told (PrintFault step) text never = absurd never
+  says_told (ServiceFault step service) text (p, given, halted, is) = absurd (no_change s p (request.change p) refl (query (request.change p) given))
+  says_told Unorderable text h = (last_told text Unorderable h.2, untouched_output h.1)
+  says_told (Budget n) text h = (last_told text (Budget n) h.2, untouched_output h.1)
+  says_told other text h = (last_told text other h.2, untouched_output h.1)
+
+  whole_told : (e : Outcome) (text : List ℕ) → Says asking s now e text → ((ms : List Move) × IsWork text ms 0) × (now.output ≡ s.output)
+  whole_told e text says =
+      let h = says_told e text says in
+      (told_front text [] (subst Told (sym (append-nil text)) h.0), h.1)
+
+  -- what was printed acknowledges nothing
+  pub prints_told : (old new : Counts) (e : Outcome) (text : List ℕ) → Prints asking s now old new e text
+      → ((ms : List Move) × IsWork text ms 0) × (now.output ≡ s.output)
+  prints_told old new (PrintFault step) text (inl (acked, (answer, rest, cause, says))) =
+      let h = says_told answer (text ++ rest) says in (told_front text rest h.0, h.1)
+  prints_told old new (PrintFault step) text (inr (p, given, cut)) = absurd (no_change s p (request.change p) refl (query (request.change p) given))
+  prints_told old new other text says = whole_told other text says
