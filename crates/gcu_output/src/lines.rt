@@ -133,6 +133,7 @@ fn said(alloc: Global, outcome: &Outcome) -> Result<String, AllocError>
             let why = stored_why_text(alloc, *why)?;
             format!(in alloc; "bad stored {why}")
         }
+        Outcome::SequenceFull => String::from_str(alloc, "sequence full"),
     }
 }
 

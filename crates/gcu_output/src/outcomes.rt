@@ -74,6 +74,8 @@ pub enum Outcome {
     Budget { n: u32 },
     /// The folder stands for no configuration.
     BadStored { why: StoredWhy },
+    /// The greatest sequence number of checkpoints is taken.
+    SequenceFull,
 }
 
 impl Outcome {
@@ -108,6 +110,7 @@ impl Outcome {
             Outcome::Unorderable => 20,
             Outcome::Budget { .. } => 21,
             Outcome::BadStored { .. } => 25,
+            Outcome::SequenceFull => 29,
         }
     }
 }
