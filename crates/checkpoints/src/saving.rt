@@ -88,11 +88,7 @@ fn prepare_point<H: Host>(
 }
 
 /// The text of the next checkpoint's file.
-fn next_bytes<H: Host>(
-    alloc: Global,
-    host: &mut H,
-    config: &Config,
-) -> Result<Vec<u8>, PointError>
+fn next_bytes<H: Host>(alloc: Global, host: &mut H, config: &Config) -> Result<Vec<u8>, PointError>
     requires { longest_plain_name ≤ H.longest_name }
     ensures full { IfSome (H.told host.old) (λ s. TellsFull s.files result) }
     ensures text { IfOk result (λ b. IfSome (H.told host.old)

@@ -28,7 +28,10 @@ fn point_tree(alloc: Global, config: &Config, number: u32) -> Result<Tree, Memor
     let _ = config.len();
     let mut members = Members::new(alloc);
     members.set(Txt::new(alloc, CONFIG)?, tree_of(alloc, config)?)?;
-    members.set(Txt::new(alloc, FORMAT)?, Tree::Text(Txt::new(alloc, FORMAT_2)?))?;
+    members.set(
+        Txt::new(alloc, FORMAT)?,
+        Tree::Text(Txt::new(alloc, FORMAT_2)?),
+    )?;
     let digits = format!(in alloc; "{number}")?;
     members.set(Txt::new(alloc, SEQUENCE)?, Tree::Text(Txt::from(digits)))?;
     Ok(Tree::Map(members))

@@ -89,6 +89,7 @@ fn shown(alloc: Global, all: &[Numbered]) -> Result<Vec<u8>, Memory>
 }
 
 /// Appends the line of a checkpoint.
+#[tactic(auto, using(std::proofs::Common::append_assoc))]
 fn push_point(alloc: Global, text: &mut Vec<u8>, numbered: &Numbered) -> Result<(), Memory>
     ensures { OnOk result (text.new.items
         ≡ text.old.items ++ named_number (numbered_view numbered.now) ++ line_feed) }
@@ -98,6 +99,7 @@ fn push_point(alloc: Global, text: &mut Vec<u8>, numbered: &Numbered) -> Result<
 }
 
 /// The line of a checkpoint, without the line feed.
+#[tactic(auto, using(std::proofs::Common::append_assoc))]
 fn line_of(alloc: Global, numbered: &Numbered) -> Result<String, AllocError>
     ensures { IfOk result (λ t. string_bytes t ≡ named_number (numbered_view numbered.now)) }
 {
