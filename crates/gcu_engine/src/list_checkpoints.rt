@@ -99,7 +99,6 @@ fn push_point(alloc: Global, text: &mut Vec<u8>, numbered: &Numbered) -> Result<
 }
 
 /// The line of a checkpoint, without the line feed.
-#[tactic(auto, using(std::proofs::Common::append_assoc))]
 fn line_of(alloc: Global, numbered: &Numbered) -> Result<String, AllocError>
     ensures { IfOk result (λ t. string_bytes t ≡ named_number (numbered_view numbered.now)) }
 {
