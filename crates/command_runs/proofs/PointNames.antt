@@ -13,7 +13,7 @@ use Rattle.std.specs.Ordering.{is_eq, nat_cmp, ordering_then}
 use Rattle.std.specs.declared.cmp.Ordering.{Ordering}
 use Rattle.std.specs.declared.cmp.Ordering.TheVariants.{Less, Equal, Greater}
 use Rattle.host_core.specs.Names.{name_cmp}
-use Rattle.host_core.specs.State.{Files, IsFront}
+use Rattle.host_core.specs.State.{Files}
 use Rattle.checkpoints.specs.Names.{is_good_name, is_name_character, is_point_file, point_name}
 use Rattle.checkpoints.specs.Numbers.{numbered_points, with_its_number}
 use Rattle.checkpoints.specs.Points.{Held, held, point, points}
@@ -22,6 +22,7 @@ use Rattle.gcu_output.specs.declared.outcomes.Outcome.TheVariants.{Done}
 use Rattle.gcu_engine.specs.PointLines.{named_number, number_or_broken, point_lines}
 use Rattle.move_core.specs.Operations.{plan_lines, plan_text}
 use Rattle.move_core.specs.declared.moves.Move.{Move}
+use Rattle.command_runs.proofs.Acked.{not_empty}
 use Rattle.command_runs.proofs.CompactTold.{heads}
 use Rattle.command_runs.proofs.LastLines.{last_line_is_quiet}
 use Rattle.command_runs.proofs.Lines.{IsOneLine, decimal_is_one_line, first_lines, one_line-append}
@@ -103,7 +104,7 @@ first_true true b e = refl
 first_true false b e = absurd cc
 
 -- no byte of it is this one
-Lacks : ℕ → List ℕ → Type 0
+abbrev Lacks : ℕ → List ℕ → Type 0
 Lacks c [] = Unit {0}
 Lacks c (b ∷ bs) = (b ≢ c) × Lacks c bs
 
@@ -167,9 +168,11 @@ data IsLate : List ℕ → Type 0 where
   late : (c : ℕ) (text : List ℕ) → c ≢ 49 → c ≢ 97 → IsLate (c ∷ text)
 
 no_step : (text more : List ℕ) → IsLate text → text ≡ 49 ∷ more → ⊥
+no_step [] more is e = not_empty 49 more e
 no_step (c ∷ text) more (late _ _ n m) e = n (heads c 49 text more e)
 
 no_ack : (text more : List ℕ) → IsLate text → text ≡ 97 ∷ more → ⊥
+no_ack [] more is e = not_empty 97 more e
 no_ack (c ∷ text) more (late _ _ n m) e = m (heads c 97 text more e)
 
 -- a name that comes later than `plan`

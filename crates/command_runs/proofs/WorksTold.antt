@@ -79,10 +79,10 @@ front_of_no_steps part rest few = by (begins (plan_text []) part)
         };
       }),
     )
-    by (inr other) = ([], unplanned part none)
+    by (inr isnt) = ([], unplanned part none)
       where
         none : HasNone part
-        none [] (more, e) = other more e
+        none [] (more, e) = isnt more e
         none (m ∷ ms) (more, e) =
             few.none m ms (more ++ rest, ap (λ (t : List ℕ). t ++ rest) e ∙ append_assoc (plan_text (m ∷ ms)) more rest)
 
