@@ -12,10 +12,12 @@ use Rattle.conf_check.specs.declared.violations.Rule.{Rule}
 use Rattle.conf_check.specs.declared.violations.Rule.TheVariants as rules
 use Rattle.move_core.specs.declared.errors.RulesWhy.{RulesWhy}
 use Rattle.move_core.specs.declared.errors.RulesWhy.TheVariants as rules_file
+use Rattle.plan_check.specs.declared.errors.NoWhy.{NoWhy}
+use Rattle.plan_check.specs.declared.errors.NoWhy.TheVariants as plans
 use Rattle.yang_text.specs.declared.errors.ModelWhy.{ModelWhy}
 use Rattle.yang_text.specs.declared.errors.ModelWhy.TheVariants as models
 use Rattle.gcu_output.specs.declared.outcomes.Outcome.{Outcome}
-use Rattle.gcu_output.specs.declared.outcomes.Outcome.TheVariants.{Done, Memory, Usage, InputFault, DiskFault, PrintFault, ServiceFault, NoInput, TooBig, BadJson, BadConfig, BadModels, BadRules, BadPatch, PatchFailed, TargetShape, CurrentInvalid, TargetInvalid, NoModel, EmptyTable, Unorderable, Budget, NoCheckpoint, CheckpointExists, BadName, BadStored}
+use Rattle.gcu_output.specs.declared.outcomes.Outcome.TheVariants.{Done, Memory, Usage, InputFault, DiskFault, PrintFault, ServiceFault, NoInput, TooBig, BadJson, BadConfig, BadModels, BadRules, BadPatch, PatchFailed, TargetShape, CurrentInvalid, TargetInvalid, NoModel, EmptyTable, Unorderable, Budget, NoCheckpoint, CheckpointExists, BadName, BadStored, BadPlan, PlanRejected}
 use Rattle.gcu_output.specs.declared.outcomes.PointWhy.{PointWhy}
 use Rattle.gcu_output.specs.declared.outcomes.PointWhy.TheVariants as point
 
@@ -47,6 +49,8 @@ number (EmptyTable table) = 19
 number Unorderable = 20
 number (Budget n) = 21
 number (BadStored why) = 25
+number (BadPlan path line) = 30
+number (PlanRejected n why) = 31
 
 -- what is wrong with an operation
 abbrev pub patch_why : PatchWhy → List ℕ
@@ -119,6 +123,18 @@ abbrev pub point_why : PointWhy → List ℕ
 point_why point.Absent = codes "Absent"
 point_why point.NotConfig = codes "NotConfig"
 
+-- what is wrong with a step of a plan
+abbrev pub no_why : NoWhy → List ℕ
+no_why plans.NotDefined = codes "NotDefined"
+no_why plans.NotListed = codes "NotListed"
+no_why plans.Same = codes "Same"
+no_why plans.Rule1 = codes "Rule1"
+no_why plans.Rule2 = codes "Rule2"
+no_why plans.Rule3 = codes "Rule3"
+no_why plans.Rule4 = codes "Rule4"
+no_why plans.Rule5 = codes "Rule5"
+no_why plans.WrongEnd = codes "WrongEnd"
+
 -- a text in a line, as a compact JSON text
 abbrev pub quoted : List ℕ → List ℕ
 quoted s = compact (text s)
@@ -162,6 +178,8 @@ said (EmptyTable table) = codes "empty table " ++ quoted table
 said Unorderable = codes "unorderable"
 said (Budget n) = codes "budget " ++ decimal n
 said (BadStored why) = codes "bad stored " ++ stored_why why
+said (BadPlan path line) = codes "bad plan " ++ quoted path ++ space ++ decimal line
+said (PlanRejected n why) = codes "no plan " ++ decimal n ++ space ++ no_why why
 
 -- each text as a line
 abbrev pub lines : List (List ℕ) → List ℕ

@@ -7,6 +7,7 @@ use conf_store::StoredWhy;
 use host_core::{Memory, Txt};
 use move_core::RulesWhy;
 use patch_core::{FailWhy, PatchWhy};
+use plan_check::NoWhy;
 use yang_text::ModelWhy;
 
 /// Why there is no such checkpoint.
@@ -74,6 +75,10 @@ pub enum Outcome {
     Budget { n: u32 },
     /// The folder stands for no configuration.
     BadStored { why: StoredWhy },
+    /// The file of a plan isn't the text of one: this line, counted from 1, is the first at fault.
+    BadPlan { path: Txt, line: u32 },
+    /// The moves of the file are no plan: this step, counted from 1, is the first at fault, and why.
+    PlanRejected { step: u32, why: NoWhy },
 }
 
 impl Outcome {
@@ -108,6 +113,8 @@ impl Outcome {
             Outcome::Unorderable => 20,
             Outcome::Budget { .. } => 21,
             Outcome::BadStored { .. } => 25,
+            Outcome::BadPlan { .. } => 30,
+            Outcome::PlanRejected { .. } => 31,
         }
     }
 }
