@@ -46,14 +46,10 @@ abbrev pub form_of_demo : List ℕ → List (List ℕ) → Option Form
 form_of_demo seed (ports ∷ []) = option_map (λ d. demo d.seed d.ports) (demo_of seed ports)
 form_of_demo seed other = None
 
--- the check of a plan, where both words are paths
-abbrev pub check_of : List ℕ → List ℕ → Option Form
-check_of patch plan =
-    if is_positional patch && is_positional plan then Some (check_plan patch plan) else None
-
 -- the check of a plan that the path of a patch and that of the plan are
 abbrev pub form_of_check : List ℕ → List (List ℕ) → Option Form
-form_of_check patch (plan ∷ []) = check_of patch plan
+form_of_check patch (plan ∷ []) =
+    if is_positional patch && is_positional plan then Some (check_plan patch plan) else None
 form_of_check patch other = None
 
 -- the command that a word, a second one and more are

@@ -1,7 +1,7 @@
 //! Which words are a command.
-ghost use Rattle.std.specs.Prelude.{◌≡◌, Some};
+ghost use Rattle.std.specs.Prelude.{◌≡◌, ◌∷◌, [], Some};
 ghost use Rattle.plan_options.specs.Views.{options_view, target_view};
-ghost use Rattle.gcu_requests.specs.Form.{check_of, form, form_of_check, form_of_demo, form_of_more, form_of_one, form_of_plan, form_of_two, planned};
+ghost use Rattle.gcu_requests.specs.Form.{form, form_of_check, form_of_demo, form_of_more, form_of_one, form_of_plan, form_of_two, planned};
 ghost use Rattle.gcu_requests.specs.FormView.{form_view};
 
 use host_core::Txt;
@@ -121,14 +121,14 @@ fn form_of_check<'a>(patch: &'a Txt, words: &'a [Txt]) -> Form<'a>
     ensures { form_view result ≡ form_of_check patch.now words.now }
 {
     match words {
-        [plan] => check_of(patch, plan),
+        [plan] => check_of_two(patch, plan),
         _ => Form::Unknown,
     }
 }
 
 /// The check of a plan, where both words are paths.
-fn check_of<'a>(patch: &'a Txt, plan: &'a Txt) -> Form<'a>
-    ensures { form_view result ≡ check_of patch.now plan.now }
+fn check_of_two<'a>(patch: &'a Txt, plan: &'a Txt) -> Form<'a>
+    ensures { form_view result ≡ form_of_check patch.now (plan.now ∷ []) }
 {
     if is_positional(patch) && is_positional(plan) {
         return Form::CheckPlan { patch, plan };
