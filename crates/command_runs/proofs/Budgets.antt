@@ -92,7 +92,7 @@ demo_budgeted seed (a ∷ b ∷ ws) = tt
 
 check_budgeted : (patch : List ℕ) (ws : List (List ℕ)) → IsBudgeted (form_of_check patch ws)
 check_budgeted patch [] = tt
-check_budgeted patch (plan ∷ []) = either_budgeted (is_positional patch && is_positional plan) (Some (check_plan patch plan)) None tt tt
+check_budgeted patch (saved ∷ []) = either_budgeted (is_positional patch && is_positional saved) (Some (check_plan patch saved)) None tt tt
 check_budgeted patch (a ∷ b ∷ ws) = tt
 
 -- the forms of three words or more that come after the first one

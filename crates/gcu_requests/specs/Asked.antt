@@ -87,7 +87,7 @@ form_asked (Some (delete_checkpoint name)) s = delete_asked name s
 form_asked (Some (plan goal budget)) s = dry_run_asked goal budget s
 form_asked (Some (change goal budget)) s = change_asked goal budget s
 form_asked (Some (demo seed ports)) s = demo_asked seed ports s
-form_asked (Some (check_plan patch plan)) s = check_plan_asked patch plan s
+form_asked (Some (check_plan patch saved)) s = check_plan_asked patch saved s
 
 -- what the words ask of a host in this state
 abbrev pub asked : List (List ℕ) → State → Asking Request

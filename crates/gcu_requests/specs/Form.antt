@@ -48,8 +48,8 @@ form_of_demo seed other = None
 
 -- the check of a plan that the path of a patch and that of the plan are
 abbrev pub form_of_check : List ℕ → List (List ℕ) → Option Form
-form_of_check patch (plan ∷ []) =
-    if is_positional patch && is_positional plan then Some (check_plan patch plan) else None
+form_of_check patch (saved ∷ []) =
+    if is_positional patch && is_positional saved then Some (check_plan patch saved) else None
 form_of_check patch other = None
 
 -- the command that a word, a second one and more are

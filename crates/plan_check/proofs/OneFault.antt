@@ -1,5 +1,5 @@
 -- Moves have at most one first fault.
-use Rattle.std.proofs.Common.{◌≡◌, ◌+◌, ◌<◌, ℕ, suc, List, [], ◌∷◌, ◌++◌, length, inl, inr, refl, sym, ap, ◌∙◌, subst, arith}
+use Rattle.std.proofs.Common.{◌≡◌, ◌+◌, ◌<◌, ℕ, zero, suc, List, [], ◌∷◌, ◌++◌, length, inl, inr, refl, sym, ap, ◌∙◌, subst, arith}
 use Rattle.std.proofs.lemmas.Bool.{cases_lt}
 use Rattle.conf_doc.specs.WellFormed.{IsConfig}
 use Rattle.conf_doc.specs.declared.configuration.Config.{Config}
@@ -17,14 +17,14 @@ use Rattle.plan_check.proofs.Accepted.{all_met, no_break}
 
 -- the cause of a rank
 abbrev cause_of : ℕ → NoWhy
-cause_of 0 = NotDefined
-cause_of 1 = NotListed
-cause_of 2 = Same
-cause_of 3 = Rule1
-cause_of 4 = Rule2
-cause_of 5 = Rule3
-cause_of 6 = Rule4
-cause_of 7 = Rule5
+cause_of zero = NotDefined
+cause_of (suc zero) = NotListed
+cause_of (suc (suc zero)) = Same
+cause_of (suc (suc (suc zero))) = Rule1
+cause_of (suc (suc (suc (suc zero)))) = Rule2
+cause_of (suc (suc (suc (suc (suc zero))))) = Rule3
+cause_of (suc (suc (suc (suc (suc (suc zero)))))) = Rule4
+cause_of (suc (suc (suc (suc (suc (suc (suc zero))))))) = Rule5
 cause_of n = WrongEnd
 
 ranked : (w : NoWhy) → cause_of (rank w) ≡ w

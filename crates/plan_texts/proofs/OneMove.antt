@@ -15,7 +15,7 @@ use Rattle.move_core.specs.Operations.{op}
 use Rattle.move_core.specs.declared.moves.Move.{Move}
 use Rattle.move_core.specs.declared.moves.Move.TheVariants.{Add, Remove, Replace}
 use Rattle.plan_texts.specs.Moves.{move_text}
-use Rattle.plan_texts.specs.Parts.{IsOfKind, wrap}
+use Rattle.plan_texts.specs.Parts.{IsOfKind, IsShapedAs, wrap}
 use Rattle.plan_texts.specs.PlanTexts.{IsMove, IsPart}
 use Rattle.plan_texts.proofs.MoveTexts.{shallow_move, sound_move}
 use Rattle.plan_texts.proofs.OneElement.{one_read}
@@ -29,7 +29,7 @@ module _ (n : ℕ) (wrapping : Document → Document) (found : Config → Option
   one_part : (p q : Part) → IsOfKind n p → IsOfKind n q → IsPart p → IsPart q → part_tree p ≡ part_tree q → p ≡ q
   one_part p q kind like is are same =
       let d = part_tree p in
-      let shaped = (shaped_around n d (wrapping d) found (wrapped d) inside p kind is refl, around_formed p is) in
+      let shaped : IsShapedAs (wrapping d) (Some (around p)) = (shaped_around n d (wrapping d) found (wrapped d) inside p kind is refl, around_formed p is) in
       let shapes = found_part n d (wrapping d) found (wrapped d) inside (around p) shaped (Some p) (sym (inside p kind)) (kind, is) in
       let somes : Some p ≡ Some q = shapes.all q like are same in
       let one : p ≡ q = cc in one

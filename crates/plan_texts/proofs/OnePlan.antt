@@ -74,10 +74,11 @@ module _ (text : List ℕ) where
 
   -- a plan, with what stands behind its moves
   whole : (ms : List Move) → IsPlanText text ms → (y : List ℕ) × Begins text (length ms) ms y × ((y ≡ []) ⊎ (y ≡ done_line))
-  whole ms is = elim is.written [
-    | inl all ↦ ([], record { count = is.count; moves = is.moves; written = all ∙ sym (append-nil (plan_text ms)) }, inl refl)
-    | inr done ↦ (done_line, record { count = is.count; moves = is.moves; written = done }, inr refl)
-  ]
+  whole ms is = by is.written
+    where
+      by : (text ≡ plan_text ms) ⊎ (text ≡ plan_text ms ++ done_line) → (y : List ℕ) × Begins text (length ms) ms y × ((y ≡ []) ⊎ (y ≡ done_line))
+      by (inl all) = ([], record { count = is.count; moves = is.moves; written = all ∙ sym (append-nil (plan_text ms)) }, inl refl)
+      by (inr done) = (done_line, record { count = is.count; moves = is.moves; written = done }, inr refl)
 
   -- ---- faults
 
