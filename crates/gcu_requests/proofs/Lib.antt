@@ -4,5 +4,7 @@ mod DemoFinding
 mod FirstBreaches
 mod ModelTexts
 mod OneAnswer
+mod OnePlanAnswer
+mod PlanCheckFinding
 mod PlanFinding
 mod Words

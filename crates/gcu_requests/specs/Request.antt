@@ -28,3 +28,5 @@ pub data Request : Type 0 where
   change : Planning → Request
   -- say of how many moves such a plan is, with so many ports
   demo : Planning → ℕ → Request
+  -- say that moves are a plan, of so many steps
+  accept_plan : ℕ → Request

@@ -1,7 +1,7 @@
 //! Which words are a command.
-ghost use Rattle.std.specs.Prelude.{◌≡◌, Some};
+ghost use Rattle.std.specs.Prelude.{◌≡◌, ◌∷◌, [], Some};
 ghost use Rattle.plan_options.specs.Views.{options_view, target_view};
-ghost use Rattle.gcu_requests.specs.Form.{form, form_of_demo, form_of_more, form_of_one, form_of_plan, form_of_two, planned};
+ghost use Rattle.gcu_requests.specs.Form.{form, form_of_check, form_of_demo, form_of_more, form_of_one, form_of_plan, form_of_two, planned};
 ghost use Rattle.gcu_requests.specs.FormView.{form_view};
 
 use host_core::Txt;
@@ -40,6 +40,11 @@ pub enum Form<'a> {
     /// Counts the steps of a plan between generated configurations.
     Demo {
         size: Demo,
+    },
+    /// Says whether an input holds a plan for the patch of another one.
+    CheckPlan {
+        patch: &'a Txt,
+        plan: &'a Txt,
     },
 }
 
@@ -86,11 +91,14 @@ fn form_of_two<'a>(command: &'a Txt, word: &'a Txt) -> Form<'a>
 }
 
 /// The command that a word, a second one and more are.
-fn form_of_more<'a>(command: &Txt, word: &'a Txt, words: &[Txt]) -> Form<'a>
+fn form_of_more<'a>(command: &Txt, word: &'a Txt, words: &'a [Txt]) -> Form<'a>
     ensures { form_view result ≡ form_of_more command.now word.now words.now }
 {
     if command.as_str() == "demo" {
         return form_of_demo(word, words);
+    }
+    if command.as_str() == "check-plan" {
+        return form_of_check(word, words);
     }
     form_of_plan(command, word, words)
 }
@@ -106,6 +114,26 @@ fn form_of_demo<'a>(seed: &Txt, words: &[Txt]) -> Form<'a>
         },
         _ => Form::Unknown,
     }
+}
+
+/// The check of a plan that the path of a patch and that of the plan are.
+fn form_of_check<'a>(patch: &'a Txt, words: &'a [Txt]) -> Form<'a>
+    ensures { form_view result ≡ form_of_check patch.now words.now }
+{
+    match words {
+        [plan] => check_of_two(patch, plan),
+        _ => Form::Unknown,
+    }
+}
+
+/// The check of a plan, where both words are paths.
+fn check_of_two<'a>(patch: &'a Txt, plan: &'a Txt) -> Form<'a>
+    ensures { form_view result ≡ form_of_check patch.now (plan.now ∷ []) }
+{
+    if is_positional(patch) && is_positional(plan) {
+        return Form::CheckPlan { patch, plan };
+    }
+    Form::Unknown
 }
 
 /// The command that a word, a second one and options are.
