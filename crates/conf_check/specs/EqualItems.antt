@@ -9,10 +9,14 @@ use Rattle.host_core.specs.Names.{name_cmp}
 abbrev pub slot_count : ℕ
 slot_count = 16384
 
+-- what a slot is multiplied by before a byte
+abbrev pub slot_factor : ℕ
+slot_factor = 31
+
 -- the slot of a text whose bytes so far have one
 abbrev pub slot_from : ℕ → List ℕ → ℕ
 slot_from n [] = n
-slot_from n (b ∷ bs) = slot_from ((n * 31 + b) % slot_count) bs
+slot_from n (b ∷ bs) = slot_from ((n * slot_factor + b) % slot_count) bs
 
 -- the slot of a text
 abbrev pub slot : List ℕ → ℕ

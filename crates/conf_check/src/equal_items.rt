@@ -14,6 +14,9 @@ const GROUP: usize = 128;
 /// How many slots there are.
 const SLOTS: usize = 16_384;
 
+/// What a slot is multiplied by before a byte.
+const FACTOR: usize = 31;
+
 /// The slots of texts.
 #[derive(Drop)]
 struct Marks {
@@ -27,7 +30,7 @@ fn slot_of(text: &str) -> usize
 {
     let mut slot = 0;
     for byte in text.as_bytes() {
-        slot = (slot * 31 + *byte as usize) % SLOTS;
+        slot = (slot * FACTOR + *byte as usize) % SLOTS;
     }
     slot
 }
