@@ -7,6 +7,7 @@ mod EntryBreaches
 mod EntryFaults
 mod EntryNodes
 mod EntryPlaces
+mod EqualItems
 mod FalseMusts
 mod FirstFaults
 mod Found

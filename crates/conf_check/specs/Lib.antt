@@ -10,6 +10,7 @@ pub mod WantRuns
 pub mod Wants
 -- What only private clauses cite.
 pub mod EntryShapes
+pub mod EqualItems
 pub mod Faults
 pub mod NodeTrees
 pub mod Verdicts

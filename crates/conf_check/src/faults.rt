@@ -1,5 +1,5 @@
 //! What is wrong with the key and the fields of an entry: the first rule that they break.
-ghost use Rattle.std.specs.Prelude.{◌↔◌, IsTrue, Any, Contains};
+ghost use Rattle.std.specs.Prelude.{◌↔◌, IsTrue, Any};
 ghost use Rattle.conf_check.specs.Faults.{
   IsFirst,
   IsFirstFault,
@@ -11,10 +11,11 @@ ghost use Rattle.conf_check.specs.Faults.{
   ValueBreaks,
   IsMissingAt,
 };
-ghost use Rattle.conf_check.specs.Validity.{IsRefused, AreSomeEqual, IsMissing};
+ghost use Rattle.conf_check.specs.Validity.{IsRefused, IsMissing};
 ghost use Rattle.yang_types.specs.DataTypes.{data_type};
 
 use crate::acceptance::judge;
+use crate::equal_items::has_equal;
 use crate::rows::rule_of_field;
 use crate::violations::Rule;
 use conf_doc::{Config, Entry, Value};
@@ -66,27 +67,6 @@ fn has_refused(models: &Models, config: &Config, ty: &Ty, texts: &[Txt]) -> bool
         if is_refused(models, config, ty, text.as_str()) {
             return true;
         }
-    }
-    false
-}
-
-/// Whether a text is among some texts.
-fn is_among(text: &str, texts: &[Txt]) -> bool
-    ensures { IsTrue result ↔ Contains texts.now text.now }
-{
-    texts.iter().any(|other| other.as_str() == text)
-}
-
-/// Whether a text and one behind it are equal.
-fn has_equal(texts: &[Txt]) -> bool
-    ensures { IsTrue result ↔ AreSomeEqual texts.now }
-{
-    let mut rest = texts;
-    while let Some((text, behind)) = rest.split_first() {
-        if is_among(text.as_str(), behind) {
-            return true;
-        }
-        rest = behind;
     }
     false
 }

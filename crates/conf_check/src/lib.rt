@@ -6,6 +6,7 @@ mod belongings;
 mod checking;
 mod children;
 mod config_nodes;
+mod equal_items;
 mod faults;
 mod first_wants;
 mod laws;

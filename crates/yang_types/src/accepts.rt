@@ -11,26 +11,41 @@ use crate::types::{Ty, Types};
 use host_core::Txt;
 
 /// Whether a type accepts a text by itself: a leafref accepts what the type of the leaf that it names
-/// accepts. It takes no memory, and walks over the text once for each part of the type.
+/// accepts. It takes no memory, and walks over the text once for each part of the type. What restricts another
+/// type is passed in a loop.
 #[cycle(accepting)]
 pub fn accepts_plain(ty: &Ty, text: &str) -> bool
     ensures { IsTrue result ↔ Accepts (data_type ty.now) text.now }
 {
-    match ty {
-        Ty::Text => true,
-        Ty::Number(bounds) => is_number_within(text, bounds),
-        Ty::Length(inner, parts) => {
-            accepts_plain(inner.ty(), text) && has_length_within_any(text, parts.items())
+    let mut at = ty;
+    loop {
+        match at {
+            Ty::Text => return true,
+            Ty::Number(bounds) => return is_number_within(text, bounds),
+            Ty::Length(inner, parts) => {
+                if !has_length_within_any(text, parts.items()) {
+                    return false;
+                }
+                at = inner.ty();
+            }
+            Ty::Range(inner, parts) => {
+                if !is_number_within_any(text, parts.items()) {
+                    return false;
+                }
+                at = inner.ty();
+            }
+            Ty::Match(inner, pattern) => {
+                if !pattern.matches(text) {
+                    return false;
+                }
+                at = inner.ty();
+            }
+            Ty::OneOf(names) => return has_name(names.items(), text),
+            Ty::Truth => return text == "true" || text == "false",
+            Ty::Builtin(builtin) => return is_builtin(*builtin, text),
+            Ty::Ref(_, inner) => at = inner.ty(),
+            Ty::Union(types) => return accepts_any(types, text),
         }
-        Ty::Range(inner, parts) => {
-            accepts_plain(inner.ty(), text) && is_number_within_any(text, parts.items())
-        }
-        Ty::Match(inner, pattern) => accepts_plain(inner.ty(), text) && pattern.matches(text),
-        Ty::OneOf(names) => has_name(names.items(), text),
-        Ty::Truth => text == "true" || text == "false",
-        Ty::Builtin(builtin) => is_builtin(*builtin, text),
-        Ty::Ref(_, inner) => accepts_plain(inner.ty(), text),
-        Ty::Union(types) => accepts_any(types, text),
     }
 }
 

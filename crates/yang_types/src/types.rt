@@ -36,7 +36,6 @@ pub enum Builtin {
 }
 
 /// A type (RFC 7950, section 9). Contracts see it as its `data_type`.
-#[derive(Drop)]
 #[cycle(ty)]
 pub enum Ty {
     /// Every text.
@@ -73,6 +72,43 @@ pub struct TyBox {
 #[cycle(ty)]
 pub struct Types {
     types: Vec<Ty>,
+}
+
+/// A type that restricts another one may be the last of a long chain, so what is given up goes down there
+/// in a loop.
+impl Drop for Ty {
+    #[cycle(ty)]
+    fn drop(mut self) {
+        loop {
+            match self {
+                Ty::Length(inner, parts) => {
+                    drop(parts);
+                    self = inner.into_ty();
+                }
+                Ty::Range(inner, parts) => {
+                    drop(parts);
+                    self = inner.into_ty();
+                }
+                Ty::Match(inner, pattern) => {
+                    drop(pattern);
+                    self = inner.into_ty();
+                }
+                Ty::Ref(target, inner) => {
+                    drop(target);
+                    self = inner.into_ty();
+                }
+                Ty::OneOf(names) => {
+                    drop(names);
+                    return;
+                }
+                Ty::Union(types) => {
+                    drop(types);
+                    return;
+                }
+                Ty::Text | Ty::Number(_) | Ty::Truth | Ty::Builtin(_) => return,
+            }
+        }
+    }
 }
 
 impl Model for TyBox {
@@ -124,6 +160,14 @@ impl TyBox {
             Ok(ty) => Ok(TyBox { ty }),
             Err(_) => Err(Memory),
         }
+    }
+
+    /// The type, out of its box.
+    fn into_ty(self) -> Ty
+        ensures { data_type result ≡ self }
+    {
+        let TyBox { ty } = self;
+        Box::into_inner(ty)
     }
 
     /// The type itself.

@@ -10,18 +10,21 @@ use yang_scope::{Fault, note};
 use yang_text::{ModelWhy, Statement};
 use yang_types::{Ty, Types, accepts_plain};
 
-/// Whether a type is a leafref or holds one.
+/// Whether a type is a leafref or holds one. What restricts another type is passed in a loop.
 #[cycle(holding)]
 pub(crate) fn has_leafref(ty: &Ty) -> bool
     ensures { result ≡ has_leafref (data_type ty.now) }
 {
-    match ty {
-        Ty::Text | Ty::Number(_) | Ty::OneOf(_) | Ty::Truth | Ty::Builtin(_) => false,
-        Ty::Length(inner, _) => has_leafref(inner.ty()),
-        Ty::Range(inner, _) => has_leafref(inner.ty()),
-        Ty::Match(inner, _) => has_leafref(inner.ty()),
-        Ty::Ref(..) => true,
-        Ty::Union(types) => have_leafref(types),
+    let mut at = ty;
+    loop {
+        match at {
+            Ty::Text | Ty::Number(_) | Ty::OneOf(_) | Ty::Truth | Ty::Builtin(_) => return false,
+            Ty::Length(inner, _) => at = inner.ty(),
+            Ty::Range(inner, _) => at = inner.ty(),
+            Ty::Match(inner, _) => at = inner.ty(),
+            Ty::Ref(..) => return true,
+            Ty::Union(types) => return have_leafref(types),
+        }
     }
 }
 

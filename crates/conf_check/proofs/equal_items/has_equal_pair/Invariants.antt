@@ -1,6 +1,6 @@
 use Rattle.std.proofs.Common.{length}
 use Rattle.conf_check.specs.Validity.{AreSomeEqual}
-use Rattle.conf_check.proofs.faults.has_equal.Given as goal
+use Rattle.conf_check.proofs.equal_items.has_equal_pair.Given as goal
 
 abbrev pub invariant-loop-text : goal.invariant-loop-text
 invariant-loop-text l = record {
