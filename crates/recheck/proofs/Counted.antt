@@ -1,13 +1,11 @@
 -- Entries that are gone through, and how many of them are counted.
-use Rattle.std.proofs.Common.{◌≡◌, ◌⊎◌, ◌<◌, ◌≤◌, ◌+◌, ◌-◌, ℕ, zero, suc, Bool, true, false, cond, ◌&&◌, IsTrue, List, [], ◌∷◌, ◌++◌, map, take, drop, length, insert, Option, Some, None, is_some, slice_get, max, min, refl, sym, ap, ◌∙◌, subst, inl, inr, add-one, append_assoc, length-append, arith}
-use Rattle.std.proofs.lemmas.Option.{slice_get-get_or, slice_get_within}
+use Rattle.std.proofs.Common.{◌≡◌, ◌<◌, ◌≤◌, ◌+◌, ◌-◌, ℕ, zero, suc, Bool, true, false, cond, ◌&&◌, IsTrue, List, [], ◌∷◌, ◌++◌, map, take, drop, length, insert, Option, Some, None, is_some, slice_get, min, refl, sym, ap, ◌∙◌, subst, inl, inr, add-one, length-append, arith}
 use Rattle.std.proofs.lemmas.List.{take-append-drop}
 use Rattle.std.specs.Prelude.{if◌then◌else◌}
 use Rattle.std.specs.Bool.{OnFalse, OnTrue}
 use Rattle.std.specs.Str.{bytes_eq}
 use Rattle.std.proofs.lemmas.Slice.Eq.{bytes_eq-Decides}
 use Rattle.conf_doc.specs.declared.configuration.Config.{Config}
-use Rattle.conf_doc.specs.declared.configuration.Entry.{Entry}
 use Rattle.conf_doc.specs.declared.configuration.Table.{Table}
 use Rattle.move_core.specs.Moves.{place}
 use Rattle.move_core.specs.declared.moves.Move.{Move}

@@ -1,8 +1,7 @@
 -- Verdicts that are left where only those are dropped that a change may turn.
-use Rattle.std.proofs.Common.{◌≡◌, ◌⊎◌, ◌<◌, ◌≤◌, ◌+◌, ℕ, Bool, true, false, not, ◌&&◌, IsTrue, List, [], map, filter, length, get_or, Option, Some, None, option_map, option_and_then, is_some, slice_get, Contains, refl, sym, ap, ◌∙◌, subst, inl, inr, arith}
+use Rattle.std.proofs.Common.{◌≡◌, ◌⊎◌, ◌<◌, ℕ, Bool, true, false, not, IsTrue, List, map, filter, length, get_or, Option, Some, None, option_map, option_and_then, is_some, slice_get, refl, sym, ap, ◌∙◌, subst, inl, inr, arith}
 use Rattle.std.specs.Prelude.{IfSome}
 use Rattle.std.proofs.lemmas.Bool.{and_parts}
-use Rattle.std.proofs.lemmas.List.Elements.{All-contains}
 use Rattle.std.proofs.lemmas.Option.{none-some, slice_get_within}
 use Rattle.std.proofs.lemmas.Slice.Eq.{bytes_eq-Decides}
 use denote.Ref.{Bor}
@@ -16,10 +15,10 @@ use Rattle.yang_model.specs.Belongs.{Belongs}
 use Rattle.yang_model.specs.ModelSets.{ModelSet, shapes_of}
 use Rattle.conf_check.specs.Rows.{IsEntryAt}
 use Rattle.ref_index.specs.Agreements.{entry_of}
-use Rattle.ref_index.specs.Referrers.{HasWant, want_for}
+use Rattle.ref_index.specs.Referrers.{want_for}
 use Rattle.ref_index.specs.declared.places.Place.{Place}
-use Rattle.recheck.specs.Changes.{AreUntouched, HasText, IsHandled, IsOnOne, MayWantPart}
-use Rattle.recheck.specs.Turned.{IsOn, IsSame, IsTurned, IsTurnedByEntry, MayTouch, most_parts}
+use Rattle.recheck.specs.Changes.{AreUntouched, IsHandled, IsOnOne, MayWantPart}
+use Rattle.recheck.specs.Turned.{IsOn, IsTurned, MayTouch}
 use Rattle.recheck.specs.Verdicts.{is_elsewhere}
 use Rattle.recheck.specs.Within.{IsLeft}
 use Rattle.recheck.specs.declared.verdicts.Verdict.{Verdict}

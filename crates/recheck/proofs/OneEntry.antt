@@ -1,5 +1,5 @@
 -- Two configurations that agree but for one entry.
-use Rattle.std.proofs.Common.{◌≡◌, ◌≢◌, ◌⊎◌, ◌<◌, ◌≤◌, ◌+◌, ◌-◌, ℕ, Bool, false, List, Option, Some, None, is_some, IsTrue, option_and_then, map, length, slice_get, refl, sym, ap, ◌∙◌, subst, inl, inr, arith}
+use Rattle.std.proofs.Common.{◌≡◌, ◌≢◌, ◌⊎◌, ◌<◌, ◌≤◌, ◌+◌, ◌-◌, ℕ, List, Option, Some, None, is_some, IsTrue, option_and_then, map, length, slice_get, refl, sym, ap, ◌∙◌, subst, inl, inr, arith}
 use Rattle.std.proofs.lemmas.Bool.{cases_lt}
 use Rattle.std.proofs.lemmas.Option.{none-some, slice_get_within}
 use Rattle.conf_doc.specs.Pairs.{IsRising, find}
@@ -12,7 +12,7 @@ use Rattle.conf_check.specs.Rows.{IsEntryAt}
 use Rattle.ref_index.specs.Agreements.{AgreeBut, entry_of}
 use Rattle.ref_index.proofs.Agreements.{by_name, same_or_one}
 use Rattle.recheck.specs.Agreements.{AgreeAt, AreSameBut, AreSameFrom}
-use Rattle.recheck.specs.Changes.{AreAmong, AreUnread, AreUntouched, IsHandled, IsTableHandled}
+use Rattle.recheck.specs.Changes.{AreAmong, IsHandled, IsTableHandled}
 use Rattle.recheck.specs.Verdicts.{AreSound, IsSound}
 use Rattle.recheck.specs.declared.verdicts.Verdict.{Verdict}
 use Rattle.recheck.proofs.Changed.{all_sound}

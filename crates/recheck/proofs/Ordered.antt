@@ -1,5 +1,5 @@
 -- Verdicts stand in the order of the entries, whichever configuration these are of.
-use Rattle.std.proofs.Common.{◌≡◌, ◌⊎◌, ℕ, zero, suc, Bool, true, false, cond, ◌&&◌, IsTrue, List, [], ◌∷◌, ◌++◌, map, Option, Some, None, is_some, slice_get, Contains, Less, Equal, refl, sym, ap, ◌∙◌, subst, inl, inr}
+use Rattle.std.proofs.Common.{◌≡◌, ◌⊎◌, ℕ, zero, suc, Bool, true, false, cond, ◌&&◌, List, [], ◌∷◌, Some, is_some, slice_get, Less, Equal, refl, sym, ap, ◌∙◌, subst, inl, inr}
 use Rattle.std.specs.FinMap.Entries.{below_all}
 use Rattle.std.specs.Str.{bytes_eq}
 use Rattle.std.proofs.lemmas.Bool.{and_parts}
@@ -13,7 +13,6 @@ use Rattle.conf_doc.specs.declared.configuration.Config.{Config}
 use Rattle.conf_doc.specs.declared.configuration.Entry.{Entry}
 use Rattle.conf_doc.specs.declared.configuration.Table.{Table}
 use Rattle.yang_model.specs.ModelSets.{ModelSet, table_named}
-use Rattle.conf_check.specs.Rows.{IsEntryAt}
 use Rattle.recheck.specs.Entries.{AreWithin, entries_in, entries_of, entries_with_model, is_of}
 use Rattle.recheck.specs.Verdicts.{AreSound, IsSound}
 use Rattle.recheck.specs.Within.{IsLeft}

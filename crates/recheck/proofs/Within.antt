@@ -1,7 +1,7 @@
 -- Lists gone through beside longer ones.
-use Rattle.std.proofs.Common.{◌≡◌, ◌⊎◌, ◌≤◌, ◌+◌, ℕ, zero, suc, Bool, true, false, IsTrue, List, [], ◌∷◌, ◌++◌, map, take, drop, length, filter, Some, slice_get, Contains, refl, sym, ap, ◌∙◌, subst, inl, inr, arith, Less, Equal, Ordering}
+use Rattle.std.proofs.Common.{◌≡◌, ◌⊎◌, suc, Bool, true, false, IsTrue, List, [], ◌∷◌, ◌++◌, length, filter, Contains, refl, sym, ◌∙◌, subst, inl, inr, arith}
 use Rattle.std.specs.Prelude.{if◌then◌else◌}
-use Rattle.std.specs.List.{All, items_where_true}
+use Rattle.std.specs.List.{items_where_true}
 use Rattle.std.specs.List.Retain.{IsFiltered, ReturnsInTurn}
 use Rattle.recheck.specs.Within.{is_within, IsLeft}
 
@@ -217,9 +217,12 @@ module _ {V E : Type 0} (on : E → V → Bool) where
             vs rise.0 has.1)
         within_by v vs y es false is rise before has now later =
             let mine : Has es (at v) = not_first y es v (finds y v is) has.0 in
-            later (mine, each_two (λ w. R (at v) (at w)) (λ w. Has (y ∷ es) (at w)) (λ w. Has es (at w))
-            (λ w after here. not_first y es w (λ same. not_both (at v) y (subst (λ z. R (at v) z) same after) (has_each (R y) es (at v) before mine)) here)
-            vs rise.0 has.1)
+            later (
+              mine,
+              each_two (λ w. R (at v) (at w)) (λ w. Has (y ∷ es) (at w)) (λ w. Has es (at w))
+                  (λ w after here. not_first y es w (λ same. not_both (at v) y (subst (λ z. R (at v) z) same after) (has_each (R y) es (at v) before mine)) here)
+                  vs rise.0 has.1,
+            )
 
         -- items that rise stand in their order in a list that rises and has them
         pub within_rising : (vs : List V) (es : List E) → Rises (λ v w. R (at v) (at w)) vs → Rises R es → Each (λ v. Has es (at v)) vs → Within vs es

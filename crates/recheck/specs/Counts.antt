@@ -30,7 +30,7 @@ pub record AreChecked (models : ModelSet) (old : Option Kept) (next : Config) (k
   pub counts : count + length left ≡ length (entries_of models next)
   pub noted : IsTrue valid
       → (length kept.verdicts.items ≡ length (entries_of models next))
-        ⊎ (4096 ≤ length kept.verdicts.items)
+      ⊎ (4096 ≤ length kept.verdicts.items)
 
 -- an entry is looked at before anything else, which a move at a field never asks
 abbrev pub IsOneLooked : Move → ℕ → Type 0

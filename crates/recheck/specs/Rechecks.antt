@@ -59,4 +59,4 @@ pub record AreWalked (entries : List (List ℕ × List ℕ)) (old : List Verdict
   pub longer : length old ≤ length new
   pub noted : IsTrue valid
       → (length (take behind' new) ≡ length (take behind old) + length entries)
-        ⊎ (4096 ≤ length new)
+      ⊎ (4096 ≤ length new)

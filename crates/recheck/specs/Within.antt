@@ -1,5 +1,5 @@
 -- Lists gone through beside longer ones.
-use Rattle.std.specs.Prelude.{◌≡◌, ◌⊎◌, ℕ, List, [], ◌∷◌, Bool, true, false, if◌then◌else◌, IsTrue}
+use Rattle.std.specs.Prelude.{◌≡◌, ◌⊎◌, List, [], ◌∷◌, Bool, true, false, if◌then◌else◌}
 
 module _ {V E : Type 0} (on : E → V → Bool) where
   -- the items of the first stand for items of the second, in their order

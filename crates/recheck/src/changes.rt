@@ -47,7 +47,7 @@ fn drop_part(
         → AreElsewhere p verdicts.new.items }
     ensures left { let config = index.now.config in
         IsLeft (MayWant index.now.models config table.now shape part text.now)
-            verdicts.old.items verdicts.new.items }
+        verdicts.old.items verdicts.new.items }
 {
     match u32::try_from(part) {
         Ok(part) => drop_places(verdicts, index.referrers(table, shape, part, text)),
@@ -71,7 +71,7 @@ fn drop_part_of(
         → AreElsewhere p verdicts.new.items }
     ensures left { let config = index.now.config in
         IsLeft (MayWantPart index.now.models config table.now shape key.now part)
-            verdicts.old.items verdicts.new.items }
+        verdicts.old.items verdicts.new.items }
 {
     if let Some(text) = key.part(part) {
         drop_part(verdicts, index, table, shape, part, text);
@@ -87,8 +87,8 @@ fn drop_parts(verdicts: &mut Vec<Verdict>, index: &RefIndex, table: &str, shape:
         → AreElsewhere p verdicts.new.items }
     ensures left { let config = index.now.config in
         IsLeft (λ v. (part : ℕ)
-                × MayWantPart index.now.models config table.now shape key.now part v)
-            verdicts.old.items verdicts.new.items }
+        × MayWantPart index.now.models config table.now shape key.now part v)
+        verdicts.old.items verdicts.new.items }
 {
     for i in 0..key.parts() {
         drop_part_of(verdicts, index, table, shape, key, i);
@@ -154,8 +154,8 @@ fn drop_unless_same(
         ⊎ AreUntouched models.now index.now.config table.now key.now verdicts.new.items }
     ensures left { let config = index.now.config in
         IsLeft (λ v. (¬ (option_map (λ e. e.now) other.entry ≡ Some entry.now))
-                × MayTouch models.now config table.now key.now v)
-            verdicts.old.items verdicts.new.items }
+        × MayTouch models.now config table.now key.now v)
+        verdicts.old.items verdicts.new.items }
 {
     if is_entry(other, entry) {
         return;
@@ -312,7 +312,15 @@ fn drop_if_there(
     let Some(entry) = index.config().entry(table, key) else {
         return;
     };
-    drop_unless_same(verdicts, models, index, next.entry(table, key), table, key, entry);
+    drop_unless_same(
+        verdicts,
+        models,
+        index,
+        next.entry(table, key),
+        table,
+        key,
+        entry,
+    );
 }
 
 /// Drops the verdicts that may turn where another configuration agrees but for one entry, and no others. Those

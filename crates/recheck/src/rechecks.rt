@@ -48,7 +48,7 @@ fn check_at(
     ensures rises { checked.old ≤ checked.new }
     ensures walked { let before = walk.old.verdicts.items in let after = walk.new.verdicts.items in
         IfOk result (AreWalked ((table.now, key.now) ∷ []) before walk.old.behind
-            after walk.new.behind checked.old checked.new) }
+        after walk.new.behind checked.old checked.new) }
 {
     if walk.passes(table, key) {
         return Ok(true);
@@ -77,7 +77,7 @@ fn check_keys(
     ensures walked { let before = walk.old.verdicts.items in let after = walk.new.verdicts.items in
         (p : List ℕ × Table) → slice_get config.now table ≡ Some p →
         IfOk result (AreWalked (entries_in p) before walk.old.behind
-            after walk.new.behind checked.old checked.new) }
+        after walk.new.behind checked.old checked.new) }
 {
     let name = config.name_at(table);
     let entries = config.part_at(table);
@@ -105,7 +105,7 @@ fn check_table(
     ensures walked { let before = walk.old.verdicts.items in let after = walk.new.verdicts.items in
         (p : List ℕ × Table) → slice_get config.now table ≡ Some p →
         IfOk result (AreWalked (entries_with_model models.now p) before walk.old.behind
-            after walk.new.behind checked.old checked.new) }
+        after walk.new.behind checked.old checked.new) }
 {
     if models.modelled(config.name_at(table)) {
         check_keys(walk, checked, models, config, table)
@@ -127,7 +127,7 @@ pub(crate) fn check_rest(
     ensures rises { checked.old ≤ checked.new }
     ensures walked { let before = walk.old.verdicts.items in let after = walk.new.verdicts.items in
         IfOk result (AreWalked (entries_of models.now config.now) before walk.old.behind
-            after walk.new.behind checked.old checked.new) }
+        after walk.new.behind checked.old checked.new) }
 {
     let mut valid = true;
     for table in 0..config.len() {

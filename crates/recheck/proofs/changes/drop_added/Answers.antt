@@ -1,4 +1,4 @@
-use Rattle.std.proofs.Common.{◌≡◌, None, Some, sym, ◌∙◌, arith}
+use Rattle.std.proofs.Common.{◌≡◌, None, arith}
 use Rattle.conf_doc.specs.Pairs.{find}
 use Rattle.recheck.specs.Turned.{IsTurnedByTable, Reads}
 use Rattle.recheck.proofs.Dropped.{among_among, among_itself, names_added}

@@ -1,6 +1,5 @@
-use Rattle.std.proofs.Common.{◌≡◌, Option, Some, None, is_some, option_map, sym, ap, ◌∙◌, subst, inl, inr}
+use Rattle.std.proofs.Common.{ap, ◌∙◌}
 use Rattle.conf_doc.specs.declared.configuration.Config.{Config}
-use Rattle.conf_doc.specs.declared.configuration.Entry.{Entry}
 use Rattle.ref_index.specs.Agreements.{entry_of}
 use Rattle.recheck.proofs.Dropped.{among_itself}
 use Rattle.recheck.proofs.Left.{one_handled, one_turns, there_none}

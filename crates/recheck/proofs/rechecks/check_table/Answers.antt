@@ -1,5 +1,5 @@
-use Rattle.std.proofs.Common.{◌≡◌, Some, map, slice_get, sym, ◌∙◌}
-use Rattle.recheck.proofs.Counted.{modelled, unmodelled_none}
+use Rattle.std.proofs.Common.{sym, ◌∙◌}
+use Rattle.recheck.proofs.Counted.{unmodelled_none}
 use Rattle.recheck.proofs.Pairs.{left_at, some_same}
 use Rattle.recheck.proofs.rechecks.check_table.Goals as goal
 

@@ -1,4 +1,4 @@
-use Rattle.std.proofs.Common.{◌≡◌, sym, subst, arith}
+use Rattle.std.proofs.Common.{sym, subst, arith}
 use Rattle.ref_index.specs.Referrers.{Indexed}
 use Rattle.yang_model.specs.ModelSets.{ModelSet}
 use Rattle.recheck.specs.Entries.{AreWithin, entries_of}
