@@ -5,7 +5,7 @@ use Rattle.move_core.specs.Moves.{place}
 use Rattle.move_core.specs.declared.moves.Move.{Move}
 use Rattle.yang_model.specs.ModelSets.{ModelSet}
 use Rattle.recheck.specs.Turned.{IsTurned}
-use Rattle.recheck.specs.Entries.{entries_of, raised}
+use Rattle.recheck.specs.Entries.{entries_of, most_verdicts, raised}
 use Rattle.recheck.specs.Within.{IsLeft}
 use Rattle.recheck.specs.declared.kept.Kept.{Kept}
 use Rattle.recheck.specs.declared.verdicts.Verdict.{Verdict}
@@ -30,7 +30,7 @@ pub record AreChecked (models : ModelSet) (old : Option Kept) (next : Config) (k
   pub counts : count + length left ≡ length (entries_of models next)
   pub noted : IsTrue valid
       → (length kept.verdicts.items ≡ length (entries_of models next))
-      ⊎ (4096 ≤ length kept.verdicts.items)
+      ⊎ (most_verdicts ≤ length kept.verdicts.items)
 
 -- an entry is looked at before anything else, which a move at a field never asks
 abbrev pub IsOneLooked : Move → ℕ → Type 0

@@ -34,6 +34,10 @@ AreWithin verdicts entries = IsTrue (is_within is_of verdicts entries)
 abbrev pub AreOrdered : Indexed → List Verdict → Type 0
 AreOrdered index verdicts = AreWithin verdicts (entries_of index.models index.config)
 
+-- how many verdicts are kept at most
+abbrev pub most_verdicts : ℕ
+most_verdicts = 4096
+
 -- the greatest number that is counted
 abbrev pub greatest : ℕ
 greatest = 18446744073709551615

@@ -4,7 +4,7 @@ use Rattle.std.specs.List.{Contains, insert}
 use Rattle.conf_doc.specs.declared.configuration.Config.{Config}
 use Rattle.conf_check.specs.Validity.{Breach, IsBreach}
 use Rattle.yang_model.specs.ModelSets.{ModelSet}
-use Rattle.recheck.specs.Entries.{AreWithin, raised}
+use Rattle.recheck.specs.Entries.{AreWithin, most_verdicts, raised}
 use Rattle.recheck.specs.Verdicts.{is_on}
 use Rattle.recheck.specs.declared.verdicts.Verdict.{Verdict}
 
@@ -43,7 +43,7 @@ abbrev pub IsNotedAt :
     List ℕ → List ℕ → List Verdict → ℕ → List Verdict → ℕ → Type 0
 IsNotedAt table key old behind new behind' =
     ((new ≡ insert old behind (record { table = table; key = key })) × (behind' ≡ behind + 1))
-    ⊎ ((new ≡ old) × (behind' ≡ behind) × (4096 ≤ length old))
+    ⊎ ((new ≡ old) × (behind' ≡ behind) × (most_verdicts ≤ length old))
 
 -- what some entries leave that are gone through: of the verdicts on them, of which some are behind, so many
 -- are behind then; as many entries were counted as had none; where all are valid each has one
@@ -59,4 +59,4 @@ pub record AreWalked (entries : List (List ℕ × List ℕ)) (old : List Verdict
   pub longer : length old ≤ length new
   pub noted : IsTrue valid
       → (length (take behind' new) ≡ length (take behind old) + length entries)
-      ⊎ (4096 ≤ length new)
+      ⊎ (most_verdicts ≤ length new)

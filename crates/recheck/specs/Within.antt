@@ -11,4 +11,5 @@ module _ {V E : Type 0} (on : E → V → Bool) where
 -- the second is the first without some items, of each of which D holds
 abbrev pub IsLeft : {V : Type 0} → (V → Type 0) → List V → List V → Type 0
 IsLeft D [] new = new ≡ []
-IsLeft {V = V} D (v ∷ old) new = (D v × IsLeft D old new) ⊎ ((rest : List V) × (new ≡ v ∷ rest) × IsLeft D old rest)
+IsLeft {V = V} D (v ∷ old) new =
+    (D v × IsLeft D old new) ⊎ ((rest : List V) × (new ≡ v ∷ rest) × IsLeft D old rest)

@@ -52,7 +52,8 @@ impl Walk {
             (IsNext self.old.verdicts.items self.old.behind table.now key.now) }
         ensures other { OnFalse result
             (¬ IsNext self.old.verdicts.items self.old.behind table.now key.now) }
-        ensures behind { self.new.behind ≡ (if result then self.old.behind + 1 else self.old.behind) }
+        ensures behind { self.new.behind
+            ≡ (if result then self.old.behind + 1 else self.old.behind) }
     {
         if self.behind >= self.verdicts.len() {
             return false;
@@ -67,8 +68,8 @@ impl Walk {
     /// Adds a verdict on that entry before the next one, unless there are as many as are kept.
     pub(crate) fn note(&mut self, table: &str, key: &str) -> Result<(), Memory>
         ensures noted { IsNoted table.now key.now self.old.verdicts.items self.new.verdicts.items }
-        ensures at { OnOk result (IsNotedAt table.now key.now self.old.verdicts.items self.old.behind
-            self.new.verdicts.items self.new.behind) }
+        ensures at { OnOk result (IsNotedAt table.now key.now
+            self.old.verdicts.items self.old.behind self.new.verdicts.items self.new.behind) }
     {
         if self.verdicts.len() >= MOST_VERDICTS {
             return Ok(());
