@@ -7,18 +7,13 @@ ghost use Rattle.std.specs.declared.io.ErrorKind.TheVariants.{OutOfMemory as no_
 use crate::reading::is_kind;
 use host_core::{Memory, Names, Sequence, Txt};
 use std::alloc::Global;
-use std::env::{Args, Env};
+use std::env::Args;
+use std::io;
 use std::io::ErrorKind;
-use std::{env, io};
 
-/// The words after the program's name, or none where one of them is no UTF-8.
-pub fn words<R: Env + AllocGlobal>(rt: &R) -> Result<Names, Memory> {
-    words_of(rt.alloc(), env::args(rt))
-}
-
-/// The words of a command line: those after the first one, or none where they could not be read for
-/// another reason than memory.
-pub(crate) fn words_of(alloc: Global, line: io::Result<Args>) -> Result<Names, Memory>
+/// The words of a command line: those after the program's name, or none where they could not be read for
+/// another reason than memory, as where one of them is no UTF-8.
+pub fn words(alloc: Global, line: io::Result<Args>) -> Result<Names, Memory>
     ensures read { IfOk line
         (λ all. IfOk result (λ words. words ≡ map string_bytes (drop 1 (into_iter_items all)))) }
     ensures unread { OnErr line (IfOk result (λ words. words ≡ [])) }

@@ -4,7 +4,7 @@ ghost use Rattle.std.specs.Prelude.{◌≤◌, length};
 ghost use Rattle.host_core.specs.Names.{longest_file_name};
 
 use crate::as_host::RealHost;
-use crate::command_line::{words, words_of};
+use crate::command_line::words;
 use crate::reading::{read_in_turns, read_input};
 use host_core::{Failed, Host, HostError, Input, Memory, Names, Txt};
 use std::alloc::{Allocator, Global};
@@ -207,7 +207,8 @@ impl Env for CommandLine<'_> {
 
 // Whether these words are found on a command line.
 fn finds(alloc: Global, line: &[&[u8]], want: &[&str]) -> bool {
-    are_words(&words(&(CommandLine { words: line }, alloc)), want)
+    let line = env::args(&(CommandLine { words: line }, alloc));
+    are_words(&words(alloc, line), want)
 }
 
 fn are_words(found: &Result<Names, Memory>, want: &[&str]) -> bool {
@@ -246,7 +247,7 @@ fn words_are_those_behind_the_name(rt: HostRuntime) {
 
 #[test]
 fn without_memory_for_the_words_there_are_none(rt: HostRuntime) {
-    let answer = words_of(rt.alloc(), Err(io::Error::from(ErrorKind::OutOfMemory)));
+    let answer = words(rt.alloc(), Err(io::Error::from(ErrorKind::OutOfMemory)));
     assert!(rt; answer.is_err());
 }
 

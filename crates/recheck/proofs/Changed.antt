@@ -13,7 +13,8 @@ use Rattle.conf_check.specs.Belongings.{AreBelongings, Belongings}
 use Rattle.conf_check.specs.MustReads.{AgreeOn, HasOneTruth, HaveEntry}
 use Rattle.conf_check.specs.Validity.{Breach, Breaks, IsBreach, IsBreachAt, IsFalse}
 use Rattle.ref_index.specs.Agreements.{entry_of}
-use Rattle.recheck.specs.Changes.{IsHandled, IsSame, IsTableHandled, IsTouched, Reads}
+use Rattle.recheck.specs.Changes.{IsHandled, IsTableHandled}
+use Rattle.recheck.specs.Turned.{IsSame, IsTouched, Reads}
 use Rattle.recheck.specs.Verdicts.{IsSound}
 use Rattle.recheck.specs.declared.verdicts.Verdict.{Verdict}
 use Rattle.recheck.proofs.Known.{belongings_known}

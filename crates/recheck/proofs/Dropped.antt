@@ -26,7 +26,8 @@ use Rattle.conf_check.specs.Rows.{Row, row_of, IsEntryAt, texts_of, typed_text}
 use Rattle.conf_check.specs.Wants.{Want, IsWantAt, IsWantedText, field_name}
 use Rattle.ref_index.specs.Referrers.{HasWant, want_for}
 use Rattle.ref_index.specs.declared.places.Place.{Place}
-use Rattle.recheck.specs.Changes.{AreAmong, AreElsewhere, AreHandled, AreKeysHandled, AreTablesHandled, AreUnread, AreUntouched, IsHandled, IsOn, IsSame, IsTableHandled, IsTableHandledAt, IsTouched, Reads, Wants}
+use Rattle.recheck.specs.Changes.{AreAmong, AreElsewhere, AreHandled, AreKeysHandled, AreTablesHandled, AreUnread, AreUntouched, IsHandled, IsTableHandled, IsTableHandledAt}
+use Rattle.recheck.specs.Turned.{IsOn, IsSame, IsTouched, Reads, Wants}
 use Rattle.recheck.specs.Verdicts.{AreSound, IsSound, is_elsewhere}
 use Rattle.recheck.specs.declared.verdicts.Verdict.{Verdict}
 use Rattle.recheck.proofs.Changed.{all_sound}
@@ -268,51 +269,42 @@ pub still_unread : (models : ModelSet) (name : List ℕ) (old new : List Verdict
 still_unread models name old new among unread = among_all (λ v. ¬ Reads models name v) old new among.each unread
 
 -- one more name whose readers are dropped
-pub between_more : (models : ModelSet) (config : Config) (old new : List Verdict) (from u : ℕ) (name : List ℕ)
-    → ((k : ℕ) (n : List ℕ) → from ≤ k → k < u → slice_get (map (λ p. p.0) config) k ≡ Some n → AreUnread models n old) → AreAmong old new
-    → slice_get (map (λ p. p.0) config) u ≡ Some name → AreUnread models name new
-    → (k : ℕ) (n : List ℕ) → from ≤ k → k < u + 1 → slice_get (map (λ p. p.0) config) k ≡ Some n → AreUnread models n new
-between_more models config old new from u name before among named unread k n le lt at =
+pub names_added : (models : ModelSet) (config next : Config) (old new : List Verdict) (u : ℕ) (name : List ℕ)
+    → ((k : ℕ) (n : List ℕ) → k < u → slice_get (map (λ p. p.0) next) k ≡ Some n → find n config ≡ None → AreUnread models n old) → AreAmong old new
+    → slice_get (map (λ p. p.0) next) u ≡ Some name → (find name config ≡ None → AreUnread models name new)
+    → (k : ℕ) (n : List ℕ) → k < u + 1 → slice_get (map (λ p. p.0) next) k ≡ Some n → find n config ≡ None → AreUnread models n new
+names_added models config next old new u name before among named unread k n lt at lacks =
     elim (cases_lt k u) [
-      | inl less ↦ still_unread models n old new among (before k n le less at)
+      | inl less ↦ still_unread models n old new among (before k n less at lacks)
       | inr more ↦
           let same : k ≡ u = omega arith in
-          subst (λ x. AreUnread models x new) (some_same name n (sym named ∙ subst (λ j. slice_get (map (λ p. p.0) config) j ≡ Some n) same at)) unread
+          let is : name ≡ n = some_same name n (sym named ∙ subst (λ j. slice_get (map (λ p. p.0) next) j ≡ Some n) same at) in
+          subst (λ x. AreUnread models x new) is (unread (subst (λ (x : List ℕ). find x config ≡ None) (sym is) lacks))
     ]
 
 pub names_start : (models : ModelSet) (config next : Config) (verdicts : List Verdict) (of : Config) → AreTablesHandled models config next verdicts of 0
 names_start models config next verdicts of t lt name at = absurd (omega (arith, lt))
 
--- those of a configuration from a place to another
-pub names_more : (models : ModelSet) (config next : Config) (old new : List Verdict) (of : Config) (from end : ℕ) → AreTablesHandled models config next old of from → AreAmong old new
-    → ((u : ℕ) → from ≤ u → u < end → IsTableHandledAt models config next new of u) → AreTablesHandled models config next new of end
-names_more models config next old new of from end before among more u lt name at =
-    elim (cases_lt u from) [ inl less ↦ still_table models config next old new name among (before u less name at) | inr past ↦ more u (omega arith) lt name at ]
-
--- the name that stands at a place of the second, where it is one at a place of the first
-pub past_name : (models : ModelSet) (config next : Config) (verdicts : List Verdict) (t : ℕ) (first name : List ℕ) (u : ℕ) → IsTableHandledAt models config next verdicts config t
-    → slice_get (map (λ p. p.0) config) t ≡ Some first → slice_get (map (λ p. p.0) next) u ≡ Some first → slice_get (map (λ p. p.0) next) u ≡ Some name
-    → IsTableHandled models config next verdicts name
-past_name models config next verdicts t first name u handled here there at =
-    subst (λ n. IsTableHandled models config next verdicts n) (some_same first name (sym there ∙ at)) (handled first here)
-
 -- one more
 pub names_step : (models : ModelSet) (config next : Config) (old new : List Verdict) (of : Config) (t : ℕ) → AreTablesHandled models config next old of t → AreAmong old new
     → IsTableHandledAt models config next new of t → AreTablesHandled models config next new of (t + 1)
-names_step models config next old new of t before among here =
-    names_more models config next old new of t (t + 1) before among
-    (λ u le lt. let same : t ≡ u = omega (arith, le, lt) in subst (λ j. IsTableHandledAt models config next new of j) same here)
+names_step models config next old new of t before among here u lt name at =
+    elim (cases_lt u t) [
+      | inl less ↦ still_table models config next old new name among (before u less name at)
+      | inr past ↦ let same : u ≡ t = omega arith in here name (subst (λ j. slice_get (map (λ p. p.0) of) j ≡ Some name) same at)
+    ]
 
 -- none more
 pub names_past : (models : ModelSet) (config next : Config) (old new : List Verdict) (of : Config) (t n : ℕ) → AreTablesHandled models config next old of t → AreAmong old new
     → n ≤ t → AreTablesHandled models config next new of n
-names_past models config next old new of t n before among past =
-    names_more models config next old new of t n before among (λ u le lt. absurd (omega (arith, le, lt, past)))
+names_past models config next old new of t n before among past u lt name at =
+    still_table models config next old new name among (before u (omega (arith, lt, past)) name at)
 
 -- past the last name of both each name is handled
 all_names : (models : ModelSet) (config next : Config) (verdicts : List Verdict) → AreTablesHandled models config next verdicts config (length config)
-    → AreTablesHandled models config next verdicts next (length next) → (name : List ℕ) → IsTableHandled models config next verdicts name
-all_names models config next verdicts firsts seconds name = by (find name config) refl (find name next) refl
+    → ((u : ℕ) (n : List ℕ) → u < length next → slice_get (map (λ p. p.0) next) u ≡ Some n → find n config ≡ None → AreUnread models n verdicts)
+    → (name : List ℕ) → IsTableHandled models config next verdicts name
+all_names models config next verdicts firsts added name = by (find name config) refl (find name next) refl
   where
     by : (o : Option Table) → find name config ≡ o → (p : Option Table) → find name next ≡ p → IsTableHandled models config next verdicts name
     by (Some e) is p also =
@@ -320,7 +312,7 @@ all_names models config next verdicts firsts seconds name = by (find name config
         firsts at.0 (slice_get_within config at.0 (name, e) at.1) name (left_at config at.0 (name, e) at.1)
     by None is (Some e) also =
         let at = found_there next name e also in
-        seconds at.0 (slice_get_within next at.0 (name, e) at.1) name (left_at next at.0 (name, e) at.1)
+        inr (added at.0 name (slice_get_within next at.0 (name, e) at.1) (left_at next at.0 (name, e) at.1) is)
     by None is None also = inl (is ∙ sym also)
 
 -- models of files with which nothing is wrong have musts of one truth
@@ -331,10 +323,11 @@ one_truth models have law = subst (λ m. HasOneTruth m) (sym have.are) (law have
 -- past the last table the verdicts that are left stay true
 pub tables_end : (models : ModelSet) (config next : Config) (old new : List Verdict) → IsConfig config → IsConfig next → HasOneTruth models → AreAmong old new
     → AreHandled models config next new (length config) → AreTablesHandled models config next new config (length config)
-    → AreTablesHandled models config next new next (length next) → AreSound models config old → AreSound models next new
-tables_end models config next old new formed_config formed_next truth among all firsts seconds sound =
+    → ((u : ℕ) (n : List ℕ) → u < length next → slice_get (map (λ p. p.0) next) u ≡ Some n → find n config ≡ None → AreUnread models n new)
+    → AreSound models config old → AreSound models next new
+tables_end models config next old new formed_config formed_next truth among all firsts added sound =
     all_sound models config next formed_config formed_next new
     (λ table key t k is. all table key t k is (slice_get_within config t (table, is.entries) is.at))
-    (all_names models config next new firsts seconds)
+    (all_names models config next new firsts added)
     truth
     (among_all (IsSound models config) old new among.each sound)

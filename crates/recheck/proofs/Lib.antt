@@ -1,11 +1,15 @@
 pub mod Changed
 pub mod Checked
+pub mod Counted
 pub mod Dropped
 pub mod Known
+pub mod Left
 pub mod Lists
 pub mod OneEntry
+pub mod Ordered
 pub mod Pairs
 pub mod Readers
 pub mod Rows
 pub mod Survival
 pub mod Walked
+pub mod Within

@@ -1,5 +1,5 @@
 -- Two configurations that agree but for one entry.
-use Rattle.std.proofs.Common.{◌≡◌, ◌≢◌, ◌⊎◌, ◌<◌, ◌≤◌, ◌+◌, ◌-◌, ℕ, Bool, false, List, Option, Some, None, is_some, IsTrue, option_and_then, map, length, slice_get, refl, sym, ap, ◌∙◌, subst, inl, inr, arith}
+use Rattle.std.proofs.Common.{◌≡◌, ◌≢◌, ◌⊎◌, ◌<◌, ◌≤◌, ◌+◌, ◌-◌, ℕ, List, Option, Some, None, is_some, IsTrue, option_and_then, map, length, slice_get, refl, sym, ap, ◌∙◌, subst, inl, inr, arith}
 use Rattle.std.proofs.lemmas.Bool.{cases_lt}
 use Rattle.std.proofs.lemmas.Option.{none-some, slice_get_within}
 use Rattle.conf_doc.specs.Pairs.{IsRising, find}
@@ -12,7 +12,7 @@ use Rattle.conf_check.specs.Rows.{IsEntryAt}
 use Rattle.ref_index.specs.Agreements.{AgreeBut, entry_of}
 use Rattle.ref_index.proofs.Agreements.{by_name, same_or_one}
 use Rattle.recheck.specs.Agreements.{AgreeAt, AreSameBut, AreSameFrom}
-use Rattle.recheck.specs.Changes.{AreAmong, AreUnread, AreUntouched, IsHandled, IsTableHandled}
+use Rattle.recheck.specs.Changes.{AreAmong, IsHandled, IsTableHandled}
 use Rattle.recheck.specs.Verdicts.{AreSound, IsSound}
 use Rattle.recheck.specs.declared.verdicts.Verdict.{Verdict}
 use Rattle.recheck.proofs.Changed.{all_sound}
@@ -154,14 +154,11 @@ module _ (first second : Config) (table key : List ℕ) (formed : IsConfig first
 
 -- ---- verdicts
 
-pub not_there : (b x : Bool) → b ≡ false → b ≡ x → IsTrue x → ⊥
-not_there b x none is there = cc
-
 -- the verdicts that are left stay true where the others are dropped that a change of the one entry may turn
 pub one_sound : (models : ModelSet) (config next : Config) (old new : List Verdict) (table key : List ℕ) → IsConfig config → IsConfig next → HasOneTruth models
-    → AgreeBut config next table key → AreAmong old new → (IsTrue (is_some (entry_of table key config)) → AreUntouched models config table key new)
-    → AreUnread models table new → AreSound models config old → AreSound models next new
-one_sound models config next old new table key formed well truth agree among untouched unread sound =
+    → AgreeBut config next table key → AreAmong old new → (IsTrue (is_some (entry_of table key config)) → IsHandled models config next new table key)
+    → IsTableHandled models config next new table → AreSound models config old → AreSound models next new
+one_sound models config next old new table key formed well truth agree among here_handled table_handled sound =
     all_sound models config next formed well new handled names truth (among_all (IsSound models config) old new among.each sound)
   where
     handled : (t k : List ℕ) (i j : ℕ) → IsEntryAt config t k i j → IsHandled models config next new t k
@@ -171,10 +168,10 @@ one_sound models config next old new table key formed well truth agree among unt
           let there : IsTrue (is_some (entry_of t k config)) = ap is_some (entry_found config t k i j formed is) in
           let here : IsTrue (is_some (entry_of table key config)) =
           subst (λ u. IsTrue (is_some (entry_of u key config))) one.0 (subst (λ l. IsTrue (is_some (entry_of t l config))) one.1 there) in
-          inr (subst (λ u. AreUntouched models config u k new) (sym one.0) (subst (λ l. AreUntouched models config table l new) (sym one.1) (untouched here)))
+          subst (λ u. IsHandled models config next new u k) (sym one.0) (subst (λ l. IsHandled models config next new table l) (sym one.1) (here_handled here))
     ]
 
     names : (name : List ℕ) → IsTableHandled models config next new name
     names name = by_name name table (IsTableHandled models config next new name)
-        (λ same. inr (subst (λ n. AreUnread models n new) (sym same) unread))
+        (λ same. subst (λ n. IsTableHandled models config next new n) (sym same) table_handled)
         (λ other. inl (agree.tables name other))

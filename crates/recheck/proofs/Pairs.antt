@@ -46,7 +46,7 @@ holder_at (p ∷ ps) (suc i) a at = holder_at ps i a at
 
 -- ---- names that rise
 
-less_is : (c : Ordering) → is_lt c ≡ true → c ≡ Less
+pub less_is : (c : Ordering) → is_lt c ≡ true → c ≡ Less
 less_is Less e = refl
 less_is Equal e = cc
 less_is Greater e = cc

@@ -11,7 +11,8 @@ use Rattle.yang_model.specs.Belongs.{Belongs, Belongs-once}
 use Rattle.yang_model.specs.ModelSets.{ModelSet, TableModel, shape_of, shapes_of, table_named}
 use Rattle.yang_model.specs.declared.shapes.Shape.{Shape}
 use Rattle.conf_check.specs.Rows.{IsShapeOf}
-use Rattle.recheck.specs.Changes.{AreNoReaders, AreUnread, HaveNoReaders, IsOfLast, Reads, is_reader}
+use Rattle.recheck.specs.Changes.{AreNoReaders, AreUnread, HaveNoReaders, IsOfLast, is_reader}
+use Rattle.recheck.specs.Turned.{Reads}
 use Rattle.recheck.specs.declared.verdicts.Verdict.{Verdict}
 use Rattle.recheck.proofs.Pairs.{at_contained, some_same}
 use Rattle.recheck.proofs.Rows.{shape_once}
@@ -27,6 +28,15 @@ any_at p (y ∷ ys) (suc i) x at is = ap (λ b. p y || b) (any_at p ys i x at is
 
 any_has : {X : Type 0} (p : X → Bool) (xs : List X) (x : X) → Contains xs x → p x ≡ true → list_any p xs ≡ true
 any_has p xs x has is = any_at p xs has.0 x (at_contained xs x has) is
+
+any_by : {X : Type 0} (p : X → Bool) (y : X) (ys : List X) (b : Bool) → p y ≡ b → (b || list_any p ys) ≡ true
+    → (list_any p ys ≡ true → (x : X) × Contains ys x × (p x ≡ true)) → (x : X) × Contains (y ∷ ys) x × (p x ≡ true)
+any_by p y ys true here is more = (y, (0, omega arith, refl), here)
+any_by p y ys false here is more = let m = more is in (m.0, (suc m.1.0, omega (arith, m.1.1), m.1.2), m.2)
+
+any_from : {X : Type 0} (p : X → Bool) (xs : List X) → list_any p xs ≡ true → (x : X) × Contains xs x × (p x ≡ true)
+any_from p [] is = cc
+any_from p (y ∷ ys) is = any_by p y ys (p y) refl is (any_from p ys)
 
 -- ---- the shapes of a table
 
@@ -96,6 +106,21 @@ module _ (models : ModelSet) (table : List ℕ) (v : Verdict) where
       subst (λ x. Belongs (shapes_of v.table models) x None) is_k (subst (λ x. Belongs (shapes_of x models) k None) is_t nowhere) in
       let e : None ≡ Some reads.shaped.place = Belongs-once (shapes_of v.table models) v.key None (Some reads.shaped.place) none reads.shaped.belongs in
       cc
+
+  -- and one whose shape has one reads the table
+  pub reads_by : (t k : List ℕ) (b : Bool) (shape : Shape) → t ≡ v.table → k ≡ v.key → IsShapeOf models t k shape → b ≡ list_any (is_reader table) shape.musts
+      → OnFalse (not b) (Reads models table v)
+  reads_by t k true shape is_t is_k shaped is =
+      let m = any_from (is_reader table) shape.musts (sym is) in
+      let r = any_from (λ name. bytes_eq name table) m.0.reads m.2 in
+      record {
+        shape = shape;
+        shaped = subst (λ x. IsShapeOf models v.table x shape) is_k (subst (λ x. IsShapeOf models x k shape) is_t shaped);
+        must = m.0;
+        of_shape = m.1;
+        reads = subst (λ n. Contains m.0.reads n) ((bytes_eq-Decides r.0 table).0 r.2) r.1;
+      }
+  reads_by t k false shape is_t is_k shaped is = tt
 
 -- ---- verdicts gone through
 

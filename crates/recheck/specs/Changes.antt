@@ -1,45 +1,21 @@
--- Which verdicts a change of the configuration may turn.
+-- Which verdicts are dropped, and which may be left.
 use Rattle.std.specs.Prelude.{◌≡◌, ◌⊎◌, ◌<◌, ◌≤◌, ℕ, suc, Bool, false, List, Some, length, map, slice_get}
 use Rattle.std.specs.List.{All, Contains, list_any}
 use Rattle.std.specs.Str.{bytes_eq}
 use Rattle.conf_doc.specs.Pairs.{find}
 use Rattle.conf_doc.specs.declared.configuration.Config.{Config}
 use Rattle.key_split.specs.Key.{key_parts}
-use Rattle.conf_check.specs.Rows.{IsEntryAt, IsShapeOf}
-use Rattle.conf_check.specs.Wants.{Want, IsWantAt}
-use Rattle.conf_check.specs.declared.want_iter.WantPlace.{WantPlace}
-use Rattle.yang_model.specs.Belongs.{Belongs}
+use Rattle.conf_check.specs.Rows.{IsEntryAt}
+use Rattle.conf_check.specs.Wants.{Want}
 use Rattle.yang_model.specs.ModelSets.{ModelSet, shapes_of}
 use Rattle.yang_model.specs.declared.shapes.MustRule.{MustRule}
 use Rattle.yang_model.specs.declared.shapes.Shape.{Shape}
-use Rattle.ref_index.specs.Agreements.{entry_of}
+use Rattle.ref_index.specs.Referrers.{HasWant, want_for}
 use Rattle.ref_index.specs.declared.places.Place.{Place}
 use Rattle.recheck.specs.declared.verdicts.Verdict.{Verdict}
+use Rattle.recheck.specs.Turned.{most_parts, IsOn, IsTouched, Reads, IsSame}
 
--- the entry has the wanted text as the wanted part of its key
-pub record Meets (models : ModelSet) (table key : List ℕ) (w : Want) : Type 0 where
-  pub in_table : w.target.table ≡ table
-  pub belongs : Belongs (shapes_of table models) key (Some w.target.shape)
-  pub part : slice_get (key_parts key) w.target.part ≡ Some w.text
-
--- the verdict's entry has a want that the entry of that key of the table meets
-pub record Wants (models : ModelSet) (config : Config) (table key : List ℕ)
-    (v : Verdict) : Type 0 where
-  pub place : WantPlace
-  pub want : Want
-  pub at : IsEntryAt config v.table v.key place.table place.key
-  pub wanted : IsWantAt models config place want
-  pub meets : Meets models table key want
-
--- the verdict is on that entry
-abbrev pub IsOn : List ℕ → List ℕ → Verdict → Type 0
-IsOn table key v = (v.table ≡ table) × (v.key ≡ key)
-
--- a verdict that a change of that entry may turn
-abbrev pub IsTouched : ModelSet → Config → List ℕ → List ℕ → Verdict → Type 0
-IsTouched models config table key v = IsOn table key v ⊎ Wants models config table key v
-
--- none of the verdicts is
+-- no change of that entry may turn one of the verdicts
 abbrev pub AreUntouched : ModelSet → Config → List ℕ → List ℕ → List Verdict → Type 0
 AreUntouched models config table key verdicts =
     All (λ v. ¬ IsTouched models config table key v) verdicts
@@ -48,7 +24,7 @@ AreUntouched models config table key verdicts =
 abbrev pub is_reader : List ℕ → MustRule → Bool
 is_reader table must = list_any (λ name. bytes_eq name table) must.reads
 
--- no shape of a table of that name has one, among those before a position
+-- no shape of a table of that name has a must that does, among those before a position
 abbrev pub AreNoReaders : ModelSet → List ℕ → List ℕ → ℕ → Type 0
 AreNoReaders models name table n =
     (place : ℕ) (shape : Shape) → place < n → slice_get (shapes_of name models) place ≡ Some shape
@@ -70,15 +46,7 @@ pub record IsOfLast (verdicts : List Verdict) (i : ℕ) : Type 0 where
   pub at : slice_get verdicts i ≡ Some here
   pub same : before.table ≡ here.table
 
--- a must of the shape of the verdict's entry reads that table
-pub record Reads (models : ModelSet) (table : List ℕ) (v : Verdict) : Type 0 where
-  pub shape : Shape
-  pub shaped : IsShapeOf models v.table v.key shape
-  pub must : MustRule
-  pub of_shape : Contains shape.musts must
-  pub reads : Contains must.reads table
-
--- no must of the verdicts' entries does
+-- no must of the verdicts' entries reads that table
 abbrev pub AreUnread : ModelSet → List ℕ → List Verdict → Type 0
 AreUnread models table verdicts = All (λ v. ¬ Reads models table v) verdicts
 
@@ -90,10 +58,6 @@ pub record AreAmong (old new : List Verdict) : Type 0 where
 -- no verdict is on the entry of a place
 abbrev pub AreElsewhere : Place → List Verdict → Type 0
 AreElsewhere place verdicts = All (λ v. ¬ IsOn place.table place.key v) verdicts
-
--- the entry is the same in both
-abbrev pub IsSame : Config → Config → List ℕ → List ℕ → Type 0
-IsSame config next table key = entry_of table key next ≡ entry_of table key config
 
 -- the entry is the same in both, or no verdict that its change may turn is left
 abbrev pub IsHandled :
@@ -131,3 +95,27 @@ abbrev pub AreTablesHandled :
     ModelSet → Config → Config → List Verdict → Config → ℕ → Type 0
 AreTablesHandled models config next verdicts of n =
     (t : ℕ) → t < n → IsTableHandledAt models config next verdicts of t
+
+-- ---- which verdicts are dropped at most
+
+-- the verdict is on the entry of one of some places
+abbrev pub IsOnOne : List Place → Verdict → Type 0
+IsOnOne places v = (p : Place) × Contains places p × IsOn p.table p.key v
+
+-- a text of the verdict's entry has that want
+abbrev pub HasText : ModelSet → Config → Want → Verdict → Type 0
+HasText models config want v =
+    (p : Place) × HasWant models config want p × IsOn p.table p.key v
+
+-- one has that of a text as a part of a key, or the part has a number that no want has
+abbrev pub MayWant :
+    ModelSet → Config → List ℕ → ℕ → ℕ → List ℕ → Verdict → Type 0
+MayWant models config table shape part text v =
+    HasText models config (want_for table shape part text) v ⊎ (most_parts ≤ part)
+
+-- the same of what a key has as that part
+abbrev pub MayWantPart :
+    ModelSet → Config → List ℕ → ℕ → List ℕ → ℕ → Verdict → Type 0
+MayWantPart models config table shape key part v =
+    (text : List ℕ) × (slice_get (key_parts key) part ≡ Some text)
+    × MayWant models config table shape part text v

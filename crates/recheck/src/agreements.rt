@@ -1,10 +1,16 @@
 //! Whether two configurations have the same but for one entry. They are gone through side by side.
-ghost use Rattle.std.specs.Prelude.{◌≡◌, ◌<◌, ◌≤◌, ◌+◌, ℕ, length, map, Some, IsTrue, slice_get};
+ghost use Rattle.std.specs.Prelude.{◌≡◌, ◌↔◌, ◌<◌, ◌≤◌, ◌+◌, ℕ, length, map, Some, IsTrue, slice_get};
 ghost use Rattle.recheck.specs.Agreements.{AgreeAt, AreSameBut, AreSameFrom};
 ghost use Rattle.ref_index.specs.Agreements.{AgreeBut};
 
-use crate::places::is_same_name;
 use conf_doc::{Config, Table};
+
+/// Whether two names are the same.
+fn is_same_name(left: &str, right: &str) -> bool
+    ensures { IsTrue result ↔ (left.now ≡ right.now) }
+{
+    left == right
+}
 
 /// The place behind the entry at a place of a table, where it has that key, else the place itself.
 fn entry_after(table: &Table, at: usize, key: &str) -> usize

@@ -1,6 +1,9 @@
 //! What is kept between calls: an index of referrers with its configuration, and verdicts on entries of it.
-ghost use Rattle.std.specs.Prelude.{◌≡◌, ◌≤◌, length, IfOk};
+ghost use Rattle.std.specs.Prelude.{◌≡◌, ◌≤◌, [], length, IfOk};
+ghost use Rattle.recheck.specs.Turned.{IsTurned};
+ghost use Rattle.recheck.specs.Entries.{AreOrdered};
 ghost use Rattle.recheck.specs.Verdicts.{AreKept};
+ghost use Rattle.recheck.specs.Within.{IsLeft};
 ghost use Rattle.ref_index.specs.Agreements.{AgreeBut};
 ghost use Rattle.std.proofs.Props.{props};
 
@@ -20,14 +23,16 @@ pub(crate) struct Kept {
     pub(crate) index: RefIndex,
     pub(crate) verdicts: Vec<Verdict>,
     pub(crate) ghost sound: { AreKept index verdicts.items } by { Prim.hlevel props },
+    pub(crate) ghost ordered: { AreOrdered index verdicts.items } by { Prim.hlevel props },
     pub(crate) ghost few: { length verdicts.items ≤ 4096 },
 }
 
 impl Kept {
     /// The index of a configuration, with no verdict.
     pub(crate) fn build(alloc: Global, models: &Models, config: &Config) -> Result<Kept, Memory>
-        ensures { IfOk result
+        ensures index { IfOk result
             (λ k. k.index ≡ record { models = models.now; config = config.now }) }
+        ensures none { IfOk result (λ k. k.verdicts.items ≡ []) }
     {
         Ok(Kept {
             index: RefIndex::build(alloc, models, config)?,
@@ -38,8 +43,10 @@ impl Kept {
     /// The index moved to another configuration, with the verdicts that stay true there.
     fn move_to(self, alloc: Global, models: &Models, next: &Config) -> Result<Kept, Memory>
         requires { self.index.models ≡ models.now }
-        ensures { IfOk result
+        ensures index { IfOk result
             (λ k. k.index ≡ record { models = models.now; config = next.now }) }
+        ensures left { IfOk result (λ k. IsLeft (IsTurned models.now self.index.config next.now)
+            self.verdicts.items k.verdicts.items) }
     {
         let Kept {
             mut index,
@@ -61,8 +68,10 @@ impl Kept {
     ) -> Result<Kept, Memory>
         requires models { self.index.models ≡ models.now }
         requires agree { AgreeBut self.index.config next.now table.now key.now }
-        ensures { IfOk result
+        ensures index { IfOk result
             (λ k. k.index ≡ record { models = models.now; config = next.now }) }
+        ensures left { IfOk result (λ k. IsLeft (IsTurned models.now self.index.config next.now)
+            self.verdicts.items k.verdicts.items) }
     {
         let Kept {
             mut index,
@@ -83,8 +92,10 @@ impl Kept {
         mv: &Move,
     ) -> Result<Kept, Memory>
         requires { self.index.models ≡ models.now }
-        ensures { IfOk result
+        ensures index { IfOk result
             (λ k. k.index ≡ record { models = models.now; config = next.now }) }
+        ensures left { IfOk result (λ k. IsLeft (IsTurned models.now self.index.config next.now)
+            self.verdicts.items k.verdicts.items) }
     {
         let place = mv.place();
         if place.len() < 2 {

@@ -6,7 +6,6 @@ mod changes;
 mod kept;
 mod losses;
 mod musts;
-mod places;
 mod rechecks;
 mod rule;
 mod verdicts;

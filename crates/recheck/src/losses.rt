@@ -1,5 +1,8 @@
 //! Where an entry may have lost what it wants: the entry to look at before anything else. Which one it is
-//! steers only how soon an invalid configuration is told, and no contract speaks of it.
+//! steers only how soon an invalid configuration is told.
+ghost use Rattle.std.specs.Prelude.{◌≤◌, length, IfSome};
+ghost use Rattle.move_core.specs.Moves.{place};
+
 use conf_doc::{Config, Table};
 use key_split::KeyView;
 use move_core::Move;
@@ -104,7 +107,9 @@ pub(crate) fn first_loser<'a>(
     models: &Models,
     next: &Config,
     mv: &Move,
-) -> Option<&'a Place> {
+) -> Option<&'a Place>
+    ensures { IfSome result (λ _. length (place mv.now) ≤ 2) }
+{
     let place = mv.place();
     match place.len() {
         1 => referrer_of_gone_key(index, models, next, place.name_at(0)),

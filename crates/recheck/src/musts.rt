@@ -5,7 +5,9 @@ ghost use Rattle.std.specs.List.{list_any};
 ghost use Rattle.conf_check.specs.Rows.{IsShapeOf};
 ghost use Rattle.yang_model.specs.Belongs.{Belongs};
 ghost use Rattle.yang_model.specs.ModelSets.{shapes_of};
-ghost use Rattle.recheck.specs.Changes.{AreAmong, AreNoReaders, AreUnread, HaveNoReaders, IsOfLast, Reads, is_reader};
+ghost use Rattle.recheck.specs.Changes.{AreAmong, AreNoReaders, AreUnread, HaveNoReaders, IsOfLast, is_reader};
+ghost use Rattle.recheck.specs.Turned.{Reads};
+ghost use Rattle.recheck.specs.Within.{IsLeft};
 
 use crate::verdicts::Verdict;
 use key_split::KeyView;
@@ -58,7 +60,8 @@ fn may_read(models: &Models, name: &str, table: &str) -> bool
 
 /// Whether no must of a verdict's entry reads a table.
 fn ignores(models: &Models, verdict: &Verdict, table: &str) -> bool
-    ensures { IsTrue result → ¬ Reads models.now table.now verdict.now }
+    ensures ignores { IsTrue result → ¬ Reads models.now table.now verdict.now }
+    ensures reads { OnFalse result (Reads models.now table.now verdict.now) }
 {
     let name = verdict.table.as_str();
     let key = verdict.key.as_str();
@@ -107,6 +110,7 @@ fn one_may_read(models: &Models, verdicts: &[Verdict], table: &str) -> bool
 pub(crate) fn drop_readers(verdicts: &mut Vec<Verdict>, models: &Models, table: &str)
     ensures among { AreAmong verdicts.old.items verdicts.new.items }
     ensures dropped { AreUnread models.now table.now verdicts.new.items }
+    ensures left { IsLeft (Reads models.now table.now) verdicts.old.items verdicts.new.items }
 {
     if !one_may_read(models, verdicts.as_slice(), table) {
         return;

@@ -1,7 +1,9 @@
 //! The entries of a configuration gone through in order, and those without a verdict checked.
-ghost use Rattle.std.specs.Prelude.{◌≡◌, ◌↔◌, ◌<◌, ◌≤◌, length, IfOk, IsTrue, is_some};
+ghost use Rattle.std.specs.Prelude.{◌≡◌, ◌↔◌, ◌<◌, ◌≤◌, ℕ, List, [], ◌∷◌, length, IfOk, IsTrue, Some, is_some, slice_get};
+ghost use Rattle.conf_doc.specs.declared.configuration.Table.{Table};
 ghost use Rattle.conf_check.specs.Validity.{IsValid, IsValidAt};
-ghost use Rattle.recheck.specs.Rechecks.{IsTableValid};
+ghost use Rattle.recheck.specs.Entries.{entries_in, entries_of, entries_with_model};
+ghost use Rattle.recheck.specs.Rechecks.{AreWalked, IsTableValid};
 ghost use Rattle.recheck.specs.Verdicts.{AreSound};
 ghost use Rattle.ref_index.specs.Agreements.{entry_of};
 
@@ -44,6 +46,9 @@ fn check_at(
         (λ b. IsTrue b ↔ IsValidAt models.now config.now table.now key.now) }
     ensures sound { AreSound models.now config.now walk.new.verdicts.items }
     ensures rises { checked.old ≤ checked.new }
+    ensures walked { let before = walk.old.verdicts.items in let after = walk.new.verdicts.items in
+        IfOk result (AreWalked ((table.now, key.now) ∷ []) before walk.old.behind
+        after walk.new.behind checked.old checked.new) }
 {
     if walk.passes(table, key) {
         return Ok(true);
@@ -69,6 +74,10 @@ fn check_keys(
     ensures valid { IfOk result (λ b. IsTrue b ↔ IsTableValid models.now config.now table) }
     ensures sound { AreSound models.now config.now walk.new.verdicts.items }
     ensures rises { checked.old ≤ checked.new }
+    ensures walked { let before = walk.old.verdicts.items in let after = walk.new.verdicts.items in
+        (p : List ℕ × Table) → slice_get config.now table ≡ Some p →
+        IfOk result (AreWalked (entries_in p) before walk.old.behind
+        after walk.new.behind checked.old checked.new) }
 {
     let name = config.name_at(table);
     let entries = config.part_at(table);
@@ -93,6 +102,10 @@ fn check_table(
     ensures valid { IfOk result (λ b. IsTrue b ↔ IsTableValid models.now config.now table) }
     ensures sound { AreSound models.now config.now walk.new.verdicts.items }
     ensures rises { checked.old ≤ checked.new }
+    ensures walked { let before = walk.old.verdicts.items in let after = walk.new.verdicts.items in
+        (p : List ℕ × Table) → slice_get config.now table ≡ Some p →
+        IfOk result (AreWalked (entries_with_model models.now p) before walk.old.behind
+        after walk.new.behind checked.old checked.new) }
 {
     if models.modelled(config.name_at(table)) {
         check_keys(walk, checked, models, config, table)
@@ -112,6 +125,9 @@ pub(crate) fn check_rest(
     ensures valid { IfOk result (λ b. IsTrue b ↔ IsValid models.now config.now) }
     ensures sound { AreSound models.now config.now walk.new.verdicts.items }
     ensures rises { checked.old ≤ checked.new }
+    ensures walked { let before = walk.old.verdicts.items in let after = walk.new.verdicts.items in
+        IfOk result (AreWalked (entries_of models.now config.now) before walk.old.behind
+        after walk.new.behind checked.old checked.new) }
 {
     let mut valid = true;
     for table in 0..config.len() {

@@ -1,8 +1,11 @@
 //! The rule that each step leads to a valid configuration, with what it keeps between calls.
-ghost use Rattle.std.specs.Prelude.{◌≡◌, ◌↔◌, ◌≤◌, IfOk, IfSome, IsTrue};
+ghost use Rattle.std.specs.Prelude.{◌≡◌, ◌↔◌, ◌≤◌, ◌+◌, ℕ, IfOk, IfSome, IsTrue, length, min};
 ghost use Rattle.conf_check.specs.Validity.{IsValid};
 ghost use Rattle.move_core.specs.Contexts.{rulebook};
+ghost use Rattle.move_core.specs.Moves.{place};
 ghost use Rattle.move_core.specs.Rules.{Passes};
+ghost use Rattle.recheck.specs.Counts.{AreChecked, AreLeft, IsCount, IsOneLooked, IsRaised, number_of};
+ghost use Rattle.recheck.specs.Entries.{greatest, raised};
 
 use crate::kept::Kept;
 use crate::losses::first_loser;
@@ -27,7 +30,9 @@ pub struct RecheckRule {
 }
 
 /// How many entries a configuration has, or the greatest number.
-fn count_entries(config: &Config) -> u64 {
+fn count_entries(config: &Config) -> u64
+    ensures { result ≡ min (number_of config.now) greatest }
+{
     let mut count: u64 = 0;
     for i in 0..config.len() {
         count = count.saturating_add(config.part_at(i).len() as u64);
@@ -54,7 +59,9 @@ fn keep(
     mv: &Move,
 ) -> Result<Kept, Memory>
     requires { IfSome kept (λ k. k.index.models ≡ models.now) }
-    ensures { IfOk result (λ k. k.index ≡ record { models = models.now; config = config.now }) }
+    ensures index { IfOk result
+        (λ k. k.index ≡ record { models = models.now; config = config.now }) }
+    ensures left { IfOk result (λ k. AreLeft models.now kept config.now k.verdicts.items) }
 {
     match kept {
         Some(kept) => kept.follow(alloc, models, config, mv),
@@ -75,6 +82,8 @@ fn recheck(
     ensures valid { IfOk result (λ r. IsTrue r.0 ↔ IsValid models.now config.now) }
     ensures models { IfOk result (λ r. r.1.index.models ≡ models.now) }
     ensures rises { checked.old ≤ checked.new }
+    ensures counts { IfOk result (λ r. IsRaised checked.old checked.new
+        (λ count. AreChecked models.now kept config.now r.1 count r.0)) }
 {
     let Kept { index, verdicts } = keep(alloc, kept, models, config, mv)?;
     let mut walk = Walk::new(alloc, verdicts);
@@ -94,6 +103,9 @@ fn is_told_invalid(
 ) -> bool
     ensures invalid { IsTrue result → ¬ IsValid models.now next.now }
     ensures rises { checked.old ≤ checked.new }
+    ensures counts { IsRaised checked.old checked.new (IsOneLooked mv.now) }
+    ensures told { IsTrue result → (length (place mv.now) ≤ 2)
+        × (checked.new ≡ raised checked.old 1) }
 {
     let Some(kept) = kept else {
         return false;
@@ -153,6 +165,8 @@ impl MoveRule for RecheckRule {
         ensures kind { ⟦<RecheckRule as MoveRule>⟧.rule_kind self.new
             ≡ ⟦<RecheckRule as MoveRule>⟧.rule_kind self.old }
         ensures checked { self.old.checked ≤ self.new.checked }
+        ensures counts { IsRaised self.old.checked self.new.checked
+            (IsCount ctx.now.models self.old.kept self.new.kept next.now mv.now result) }
     {
         if is_told_invalid(&mut self.checked, &self.kept, &ctx.models, next, mv) {
             return false;

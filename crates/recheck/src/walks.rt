@@ -1,7 +1,7 @@
 //! Verdicts in the order of the entries that they are on, gone through beside the entries.
-ghost use Rattle.std.specs.Prelude.{◌≡◌, ◌≤◌, length};
-ghost use Rattle.std.specs.Bool.{OnTrue};
-ghost use Rattle.recheck.specs.Rechecks.{HasVerdict, IsNoted};
+ghost use Rattle.std.specs.Prelude.{◌≡◌, ◌≤◌, ◌+◌, if◌then◌else◌, length, OnOk};
+ghost use Rattle.std.specs.Bool.{OnFalse, OnTrue};
+ghost use Rattle.recheck.specs.Rechecks.{HasVerdict, IsNext, IsNotedAt, IsNoted};
 
 use crate::verdicts::{MOST_VERDICTS, Verdict, is_on};
 use host_core::{Memory, Txt};
@@ -12,7 +12,7 @@ use std::alloc::Global;
 pub(crate) struct Walk {
     alloc: Global,
     pub(crate) verdicts: Vec<Verdict>,
-    behind: usize,
+    pub(crate) behind: usize,
     pub(crate) ghost within: { behind ≤ length verdicts.items },
     pub(crate) ghost few: { length verdicts.items ≤ 4096 },
 }
@@ -21,7 +21,8 @@ impl Walk {
     /// The verdicts before the first entry.
     pub(crate) fn new(alloc: Global, verdicts: Vec<Verdict>) -> Walk
         requires { length verdicts.items ≤ 4096 }
-        ensures { result.verdicts.items ≡ verdicts.items }
+        ensures verdicts { result.verdicts.items ≡ verdicts.items }
+        ensures behind { result.behind ≡ 0 }
     {
         Walk {
             alloc,
@@ -47,6 +48,12 @@ impl Walk {
     pub(crate) fn passes(&mut self, table: &str, key: &str) -> bool
         ensures verdicts { self.new.verdicts.items ≡ self.old.verdicts.items }
         ensures found { OnTrue result (HasVerdict table.now key.now self.old.verdicts.items) }
+        ensures next { OnTrue result
+            (IsNext self.old.verdicts.items self.old.behind table.now key.now) }
+        ensures other { OnFalse result
+            (¬ IsNext self.old.verdicts.items self.old.behind table.now key.now) }
+        ensures behind { self.new.behind
+            ≡ (if result then self.old.behind + 1 else self.old.behind) }
     {
         if self.behind >= self.verdicts.len() {
             return false;
@@ -60,7 +67,9 @@ impl Walk {
 
     /// Adds a verdict on that entry before the next one, unless there are as many as are kept.
     pub(crate) fn note(&mut self, table: &str, key: &str) -> Result<(), Memory>
-        ensures { IsNoted table.now key.now self.old.verdicts.items self.new.verdicts.items }
+        ensures noted { IsNoted table.now key.now self.old.verdicts.items self.new.verdicts.items }
+        ensures at { OnOk result (IsNotedAt table.now key.now
+            self.old.verdicts.items self.old.behind self.new.verdicts.items self.new.behind) }
     {
         if self.verdicts.len() >= MOST_VERDICTS {
             return Ok(());

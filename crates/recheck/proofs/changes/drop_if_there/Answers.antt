@@ -1,16 +1,31 @@
-use Rattle.std.proofs.Common.{is_some, ap, ◌∙◌}
-use Rattle.recheck.proofs.OneEntry.{not_there}
-use Rattle.recheck.proofs.Dropped.{among_itself}
+use Rattle.std.proofs.Common.{ap, ◌∙◌}
+use Rattle.conf_doc.specs.declared.configuration.Config.{Config}
 use Rattle.ref_index.specs.Agreements.{entry_of}
+use Rattle.recheck.proofs.Dropped.{among_itself}
+use Rattle.recheck.proofs.Left.{one_handled, one_turns, there_none}
+use Rattle.recheck.proofs.Within.{left_for, left_itself}
 use Rattle.recheck.proofs.changes.drop_if_there.Goals as goal
 
-pub returns-then-not-has_entry-clause-among : goal.returns-then-not-has_entry-clause-among
-returns-then-not-has_entry-clause-among c = among_itself c.args.verdicts.now.items
+pub returns-in_default-clause-among : goal.returns-in_default-clause-among
+returns-in_default-clause-among c = among_itself c.args.verdicts.now.items
 
-pub returns-then-not-has_entry-clause-dropped : goal.returns-then-not-has_entry-clause-dropped
-returns-then-not-has_entry-clause-dropped c = λ there.
-    absurd (not_there c.has_entry.result _ c.if-not-has_entry.true
-    (c.has_entry.ensures ∙ ap (λ d. is_some (entry_of c.args.table.now c.args.key.now d)) c.config.ensures) there)
+pub returns-in_default-clause-handled : goal.returns-in_default-clause-handled
+returns-in_default-clause-handled c = λ there.
+    absurd (there_none (entry_of c.args.table.now c.args.key.now c.args.index.now.config)
+    (c.in_default.ensures.entry ∙ ap (λ (x : Config). entry_of c.args.table.now c.args.key.now x) c.config.ensures) there)
 
-pub returns-clause-dropped : goal.returns-clause-dropped
-returns-clause-dropped c = λ _. c.drop_touched.ensures.dropped
+pub returns-in_default-clause-left : goal.returns-in_default-clause-left
+returns-in_default-clause-left c = left_itself _ c.args.verdicts.now.items
+
+pub returns-clause-handled : goal.returns-clause-handled
+returns-clause-handled c = λ _.
+    one_handled c.args.models.now c.args.index.now.config c.args.next.now c.args.table.now c.args.key.now c.in-Some.entry.now c.entry-2.result
+    (c.in-Some.ensures.entry ∙ ap (λ (x : Config). entry_of c.args.table.now c.args.key.now x) c.config.ensures)
+    c.entry-2.ensures.entry c.drop_unless_same.new.verdicts.items c.drop_unless_same.ensures.handled
+
+pub returns-clause-left : goal.returns-clause-left
+returns-clause-left c =
+    left_for _ _
+    (one_turns c.args.models.now c.args.index.now.config c.args.next.now c.args.table.now c.args.key.now c.in-Some.entry.now c.entry-2.result
+    (c.in-Some.ensures.entry ∙ ap (λ (x : Config). entry_of c.args.table.now c.args.key.now x) c.config.ensures) c.entry-2.ensures.entry)
+    c.args.verdicts.now.items c.drop_unless_same.new.verdicts.items c.drop_unless_same.ensures.left

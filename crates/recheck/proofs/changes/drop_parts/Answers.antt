@@ -3,12 +3,14 @@ use Rattle.std.proofs.lemmas.Option.{slice_get_within}
 use Rattle.key_split.specs.Key.{key_parts}
 use Rattle.ref_index.specs.Referrers.{HasWant, want_for}
 use Rattle.ref_index.specs.declared.places.Place.{Place}
-use Rattle.recheck.specs.Changes.{AreElsewhere}
+use Rattle.recheck.specs.Changes.{AreElsewhere, MayWantPart}
 use Rattle.recheck.proofs.Dropped.{among_among, among_itself, still_elsewhere}
+use Rattle.recheck.proofs.Within.{left_itself, left_then}
+use Rattle.recheck.specs.declared.verdicts.Verdict.{Verdict}
 use Rattle.recheck.proofs.changes.drop_parts.Goals as goal
 
 pub loop-i-init : goal.loop-i-init
-loop-i-init c = record { among = among_itself c.args.verdicts.now.items; dropped = λ k lt text p at has. absurd (omega (arith, lt)) }
+loop-i-init c = record { among = among_itself c.args.verdicts.now.items; left = left_itself _ c.args.verdicts.now.items; dropped = λ k lt text p at has. absurd (omega (arith, lt)) }
 
 pub loop-i-preserved : goal.loop-i-preserved
 loop-i-preserved c =
@@ -16,6 +18,10 @@ loop-i-preserved c =
     let new = c.drop_part_of.new.verdicts.items in
     record {
       among = among_among c.args.verdicts.now.items old new c.loop-i.invariant.among c.drop_part_of.ensures.among;
+      left =
+          let D : ℕ → Verdict → Type 0 = λ part v. MayWantPart c.args.index.now.models c.args.index.now.config c.args.table.now c.args.shape c.args.key.now part v in
+          left_then (λ v. (part : ℕ) × D part v) (D c.loop-i.i) (λ v. (part : ℕ) × D part v) (λ v is. is) (λ v is. (c.loop-i.i, is))
+          c.args.verdicts.now.items old new c.loop-i.invariant.left c.drop_part_of.ensures.left;
       dropped =
           below_more
           (λ k. (text : List ℕ) (p : Place) → slice_get (key_parts c.args.key.now) k ≡ Some text

@@ -1,12 +1,15 @@
-use Rattle.std.proofs.Common.{◌≡◌, Some, None, slice_get, sym, subst}
+use Rattle.std.proofs.Common.{◌≡◌, ℕ, Some, None, slice_get, sym, subst, inl}
 use Rattle.key_split.specs.Key.{key_parts}
 use Rattle.yang_model.specs.Belongs.{Belongs}
 use Rattle.yang_model.specs.ModelSets.{shapes_of}
 use Rattle.ref_index.specs.Referrers.{HasWant, want_for}
-use Rattle.recheck.specs.Changes.{IsOn}
+use Rattle.recheck.specs.Changes.{MayWantPart}
+use Rattle.recheck.specs.Turned.{IsOn, MayTouch}
 use Rattle.recheck.specs.Verdicts.{is_elsewhere}
 use Rattle.recheck.proofs.Dropped.{among_among, among_filter, none_on, none_touched, not_left, not_wanted}
 use Rattle.recheck.proofs.Lists.{among_all}
+use Rattle.recheck.proofs.Left.{on_by, touched_by}
+use Rattle.recheck.proofs.Within.{left_filter, left_then}
 use Rattle.recheck.proofs.changes.drop_touched.Goals as goal
 
 pub returns-in-Some-clause-among : goal.returns-in-Some-clause-among
@@ -43,3 +46,27 @@ returns-in_default-clause-dropped c =
     none_touched c.args.models.now config table key new (none_on table key c.args.verdicts.now.items new c.drop_at.ensures.rest)
     (λ v has. not_wanted c.args.models.now config table key
     (subst (λ k. Belongs (shapes_of table c.args.models.now) k None) c.new-view.ensures c.in_default.ensures) v)
+
+pub returns-in-Some-clause-left : goal.returns-in-Some-clause-left
+returns-in-Some-clause-left c =
+    let config = c.args.index.now.config in
+    let table = c.args.table.now in
+    let key = c.args.key.now in
+    let mid = c.drop_at.new.verdicts.items in
+    let new = c.drop_parts.new.verdicts.items in
+    let shape = c.in-Some.shape in
+    let belongs = subst (λ k. Belongs (shapes_of table c.args.models.now) k (Some shape)) c.new-view.ensures c.in-Some.ensures in
+    left_then (IsOn table key) (λ v. (part : ℕ) × MayWantPart c.args.index.now.models config table shape c.new-view.result part v)
+    (MayTouch c.args.models.now config table key) (λ v on. inl (inl on))
+    (λ v is. touched_by c.args.models.now config table key shape is.0 v belongs
+    (subst (λ m. MayWantPart m config table shape key is.0 v) c.requires
+    (subst (λ k. MayWantPart c.args.index.now.models config table shape k is.0 v) c.new-view.ensures is.1)))
+    c.args.verdicts.now.items mid new (left_filter (is_elsewhere table key) (IsOn table key) (on_by table key) c.args.verdicts.now.items mid c.drop_at.ensures.rest)
+    c.drop_parts.ensures.left
+
+pub returns-in_default-clause-left : goal.returns-in_default-clause-left
+returns-in_default-clause-left c =
+    let table = c.args.table.now in
+    let key = c.args.key.now in
+    left_filter (is_elsewhere table key) (MayTouch c.args.models.now c.args.index.now.config table key) (λ v e. inl (inl (on_by table key v e)))
+    c.args.verdicts.now.items c.drop_at.new.verdicts.items c.drop_at.ensures.rest

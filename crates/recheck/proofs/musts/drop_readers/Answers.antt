@@ -1,9 +1,11 @@
 use Rattle.std.proofs.Common.{Contains, rules, arith}
 use Rattle.std.proofs.lemmas.Fn.{All-from_retain}
 use Rattle.std.proofs.lemmas.List.Elements.{All-contains_itself}
-use Rattle.recheck.specs.Changes.{Reads}
+use Rattle.recheck.specs.Turned.{Reads}
 use Rattle.recheck.proofs.Dropped.{among_itself}
 use Rattle.recheck.proofs.Lists.{all_kept}
+use Rattle.recheck.proofs.Within.{left_itself, left_retained}
+use Rattle.recheck.proofs.Walked.{when_false}
 use Rattle.recheck.proofs.musts.drop_readers.Goals as goal
 
 pub returns-clause-among : goal.returns-clause-among
@@ -17,3 +19,10 @@ returns-clause-dropped c = All-from_retain _ (λ v. ¬ Reads c.args.models.now c
 
 pub returns-then-not-one_may_read-clause-among : goal.returns-then-not-one_may_read-clause-among
 returns-then-not-one_may_read-clause-among c = among_itself c.args.verdicts.now.items
+
+pub returns-clause-left : goal.returns-clause-left
+returns-clause-left c =
+    left_retained _ (Reads c.args.models.now c.args.table.now) _ (λ x b f' k. search (rules, when_false)) _ _ c.retain.ensures.filtered
+
+pub returns-then-not-one_may_read-clause-left : goal.returns-then-not-one_may_read-clause-left
+returns-then-not-one_may_read-clause-left c = left_itself _ c.args.verdicts.now.items

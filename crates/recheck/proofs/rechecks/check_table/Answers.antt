@@ -1,0 +1,9 @@
+use Rattle.std.proofs.Common.{sym, ◌∙◌}
+use Rattle.recheck.proofs.Counted.{unmodelled_none}
+use Rattle.recheck.proofs.Pairs.{left_at, some_same}
+use Rattle.recheck.proofs.rechecks.check_table.Goals as goal
+
+pub returns-else-modelled-clause-walked : goal.returns-else-modelled-clause-walked
+returns-else-modelled-clause-walked c = λ p at.
+    unmodelled_none c.args.models.now p c.name_at.result.now c.modelled.result c.args.walk.now.verdicts.items c.args.walk.now.behind c.args.checked.now
+    (some_same c.name_at.result.now p.0 (sym c.name_at.ensures ∙ left_at c.args.config.now c.args.table p at)) c.modelled.ensures c.if-modelled.false

@@ -1,0 +1,73 @@
+-- How many entries a call of the rule counts.
+use Rattle.std.specs.Prelude.{◌≡◌, ◌⊎◌, ◌≤◌, ◌+◌, ℕ, List, [], ◌∷◌, Option, Some, None, Bool, false, IsTrue, length}
+use Rattle.conf_doc.specs.declared.configuration.Config.{Config}
+use Rattle.move_core.specs.Moves.{place}
+use Rattle.move_core.specs.declared.moves.Move.{Move}
+use Rattle.yang_model.specs.ModelSets.{ModelSet}
+use Rattle.recheck.specs.Turned.{IsTurned}
+use Rattle.recheck.specs.Entries.{entries_of, most_verdicts, raised}
+use Rattle.recheck.specs.Within.{IsLeft}
+use Rattle.recheck.specs.declared.kept.Kept.{Kept}
+use Rattle.recheck.specs.declared.verdicts.Verdict.{Verdict}
+
+-- how many entries a configuration has, those of tables without a model too
+abbrev pub number_of : Config → ℕ
+number_of [] = 0
+number_of (t ∷ config) = length t.1 + number_of config
+
+-- of what is kept the verdicts are left but some that a difference of the configurations may turn
+abbrev pub AreLeft : ModelSet → Option Kept → Config → List Verdict → Type 0
+AreLeft models None next left = left ≡ []
+AreLeft models (Some kept) next left =
+    IsLeft (IsTurned models kept.index.config next) kept.verdicts.items left
+
+-- so many entries have no verdict that is left; where none has a violation, each has one then, or there are
+-- as many as are kept
+pub record AreChecked (models : ModelSet) (old : Option Kept) (next : Config) (kept : Kept)
+    (count : ℕ) (valid : Bool) : Type 0 where
+  pub left : List Verdict
+  pub are : AreLeft models old next left
+  pub counts : count + length left ≡ length (entries_of models next)
+  pub noted : IsTrue valid
+      → (length kept.verdicts.items ≡ length (entries_of models next))
+      ⊎ (most_verdicts ≤ length kept.verdicts.items)
+
+-- an entry is looked at before anything else, which a move at a field never asks
+abbrev pub IsOneLooked : Move → ℕ → Type 0
+IsOneLooked mv count = (count ≡ 0) ⊎ ((count ≡ 1) × (length (place mv) ≤ 2))
+
+-- that entry told that the configuration is invalid
+pub record IsToldFirst (old new : Option Kept) (mv : Move) (count : ℕ) (valid : Bool)
+    : Type 0 where
+  pub invalid : valid ≡ false
+  pub kept : new ≡ old
+  pub one : count ≡ 1
+  pub at : length (place mv) ≤ 2
+
+-- the entries without a verdict that is left were counted, each once, and the one looked at before
+pub record IsRechecked (models : ModelSet) (old new : Option Kept) (next : Config) (mv : Move)
+    (count : ℕ) (valid : Bool) : Type 0 where
+  pub first : ℕ
+  pub looked : IsOneLooked mv first
+  pub rest : ℕ
+  pub is : count ≡ first + rest
+  pub kept : Kept
+  pub keeps : new ≡ Some kept
+  pub checked : AreChecked models old next kept rest valid
+
+-- a growth was refused: nothing is kept, and all entries were counted, and maybe some before
+pub record IsRefused (new : Option Kept) (next : Config) (count : ℕ) : Type 0 where
+  pub none : new ≡ None
+  pub all : number_of next ≤ count
+
+-- how many entries a call counts
+abbrev pub IsCount :
+    ModelSet → Option Kept → Option Kept → Config → Move → Bool → ℕ → Type 0
+IsCount models old new next mv valid count =
+    IsToldFirst old new mv count valid
+    ⊎ IsRechecked models old new next mv count valid
+    ⊎ IsRefused new next count
+
+-- a number is raised by as many as are counted, up to the greatest
+abbrev pub IsRaised : ℕ → ℕ → (ℕ → Type 0) → Type 0
+IsRaised old new Is = (count : ℕ) × Is count × (new ≡ raised old count)
