@@ -1,5 +1,5 @@
 -- A checkpoint that is saved: what is found, and when it is right to save it.
-use Rattle.std.proofs.Common.{◌≡◌, ◌⊎◌, ◌++◌, ◌∷◌, inl, inr, Bool, true, false, List, ℕ, [], refl, sym, ap, subst, Option, Some, None, Result, Ok, Err, IfSome, option_map}
+use Rattle.std.proofs.Common.{◌≡◌, ◌⊎◌, ◌++◌, ◌∷◌, inl, inr, Bool, true, false, List, ℕ, [], refl, sym, subst, Option, Some, None, Result, Ok, Err, IfSome, option_map}
 use Rattle.std.specs.Prelude.{IsSome}
 use Rattle.std.specs.FinMap.{get}
 use Rattle.host_core.specs.State.{State, settled, with_pending}

@@ -1,4 +1,4 @@
-use Rattle.std.proofs.Common.{◌≡◌, IfOk, string_bytes, Option, Some, None, sym, subst, ℕ, append_assoc}
+use Rattle.std.proofs.Common.{◌≡◌, IfOk, string_bytes, Option, sym, subst, ℕ, append_assoc}
 use Rattle.std.proofs.lemmas.Result.{IfOk-weaker}
 use Rattle.gcu_engine.specs.PointLines.{named_number}
 use Rattle.gcu_engine.proofs.list_checkpoints.line_of.Goals as goal
