@@ -1,13 +1,27 @@
-//! The readers of YANG texts.
+//! The readers of lists of models, and of their texts.
 ghost use Rattle.std.specs.Prelude.{◌≤◌, length};
 ghost use Rattle.yang_model.specs.Sizes.{most_statements};
 ghost use Rattle.yang_text.specs.Declarations.{total_weight};
 
 use example_rows::Fail;
 use host_core::Txt;
+use model_list::read_list;
 use std::alloc::Global;
 use yang_model::{ModelError, compile};
 use yang_text::{ModelWhy, Statements, TextError, parse};
+
+/// How many bytes a list of files may have.
+const MOST_LISTED: usize = 65_536;
+
+pub fn read_as_list(alloc: Global, bytes: &[u8]) -> Result<&'static str, Fail> {
+    if bytes.len() > MOST_LISTED {
+        return Err(Fail::Row);
+    }
+    match read_list(alloc, bytes) {
+        Ok(_) => Ok("read"),
+        Err(error) => refusal_of_text(error),
+    }
+}
 
 pub fn read_as_statements(alloc: Global, bytes: &[u8]) -> Result<&'static str, Fail>
     requires { length bytes.now ≤ most_statements }
@@ -56,6 +70,7 @@ fn model_why(why: ModelWhy) -> &'static str {
         ModelWhy::Missing => "Missing",
         ModelWhy::BadArgument => "BadArgument",
         ModelWhy::UnknownName => "UnknownName",
+        ModelWhy::TooMany => "TooMany",
         _ => "another",
     }
 }

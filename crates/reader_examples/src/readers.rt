@@ -1,6 +1,6 @@
 //! What each reader answers, by name.
 use crate::documents::{read_as_config, read_as_document, read_as_patch, read_as_rules};
-use crate::model_files::{read_as_models, read_as_statements};
+use crate::model_files::{read_as_list, read_as_models, read_as_statements};
 use crate::texts::{read_as_expression, read_as_pattern, read_as_plan, read_as_pointer};
 use example_rows::Fail;
 use std::alloc::Global;
@@ -19,6 +19,7 @@ pub fn answer(alloc: Global, reader: &str, bytes: &[u8]) -> Result<&'static str,
         "patch" => read_as_patch(alloc, bytes),
         "rules" => read_as_rules(alloc, bytes),
         "plan" => read_as_plan(alloc, bytes),
+        "list" => read_as_list(alloc, bytes),
         "statements" => read_as_statements(alloc, bytes),
         "models" => read_as_models(alloc, bytes),
         _ => answer_text(alloc, reader, bytes),
