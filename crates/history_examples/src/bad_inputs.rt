@@ -1,10 +1,10 @@
 //! Inputs that no command takes.
 use crate::boxes::run_all;
 use crate::hosts::host_with;
-use crate::stops::{stop_with, words_of};
+use crate::stops::plain_stops;
 use command_runs::Ran;
 use example_rows::{Fail, Table, items_at, number_at, text_at, text_bytes, written_at};
-use host_core::{MemHost, Txt};
+use host_core::Txt;
 use serde_json::Value;
 use std::alloc::Global;
 
@@ -35,24 +35,33 @@ impl<'a> Table for BadInputs<'a> {
 impl<'a> BadInputs<'a> {
     /// Whether the command prints what the row says where the input is that.
     fn is_refused(&self, alloc: Global, row: &Value, bytes: &[u8]) -> Result<bool, Fail> {
-        let mut inputs = Vec::new(alloc);
-        let path = Txt::new(alloc, text_at(row, "path")?)?;
-        inputs.push((path, bytes.to_vec(alloc)?))?;
-        let host = host_with(alloc, self.shared, row, inputs)?;
-        let rans = run_row(alloc, row, host)?;
-        let ran = rans.first().ok_or(Fail::Row)?;
-        let said = written_at(alloc, row, "output")?;
-        Ok(ran.output.as_slice() == said.as_slice())
+        let rans = self.run_row(alloc, row, bytes)?;
+        print_output(alloc, row, &rans)
+    }
+
+    /// Runs the command of a row where the input is that.
+    fn run_row(&self, alloc: Global, row: &Value, bytes: &[u8]) -> Result<Vec<Ran>, Fail> {
+        let stops = plain_stops(alloc, items_at(row, "words")?)?;
+        let first = input_with(alloc, row, bytes)?;
+        let host = host_with(alloc, self.shared, row, first)?;
+        let (_host, rans) = run_all(alloc, stops, host)?;
+        Ok(rans)
     }
 }
 
-/// Runs the command of a row.
-fn run_row(alloc: Global, row: &Value, host: MemHost) -> Result<Vec<Ran>, Fail> {
-    let words = words_of(alloc, items_at(row, "words")?)?;
-    let mut stops = Vec::new(alloc);
-    stops.push(stop_with(alloc, words, None, false, None)?)?;
-    let (_host, rans) = run_all(alloc, stops, host)?;
-    Ok(rans)
+/// The input of a row, of these bytes.
+fn input_with(alloc: Global, row: &Value, bytes: &[u8]) -> Result<Vec<(Txt, Vec<u8>)>, Fail> {
+    let mut inputs = Vec::new(alloc);
+    let path = Txt::new(alloc, text_at(row, "path")?)?;
+    inputs.push((path, bytes.to_vec(alloc)?))?;
+    Ok(inputs)
+}
+
+/// Whether the first of the commands prints the `output` of the row.
+fn print_output(alloc: Global, row: &Value, rans: &[Ran]) -> Result<bool, Fail> {
+    let ran = rans.first().ok_or(Fail::Row)?;
+    let said = written_at(alloc, row, "output")?;
+    Ok(ran.output.as_slice() == said.as_slice())
 }
 
 /// The bytes of the input.

@@ -69,6 +69,14 @@ pub fn call_at(said: &Value, calls: u64) -> Option<u64> {
     }
 }
 
+/// A command by itself, of which nothing fails.
+pub fn plain_stops(alloc: Global, words: &[Value]) -> Result<Vec<Stop>, Fail> {
+    let words = words_of(alloc, words)?;
+    let mut stops = Vec::new(alloc);
+    stops.push(stop_with(alloc, words, None, false, None)?)?;
+    Ok(stops)
+}
+
 /// How many calls a command makes on the host of a row where nothing fails.
 pub fn count_calls(
     alloc: Global,
@@ -76,9 +84,7 @@ pub fn count_calls(
     row: &Value,
     words: &[Value],
 ) -> Result<u64, Fail> {
-    let words = words_of(alloc, words)?;
-    let mut stops = Vec::new(alloc);
-    stops.push(stop_with(alloc, words, None, false, None)?)?;
+    let stops = plain_stops(alloc, words)?;
     let host = host_at(alloc, shared, row)?;
     let (_host, rans) = run_all(alloc, stops, host)?;
     let ran = rans.first().ok_or(Fail::Row)?;
