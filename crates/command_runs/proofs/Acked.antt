@@ -1,10 +1,11 @@
 -- Acknowledgements at the head of a text: how many there are is one number.
-use Rattle.std.proofs.Common.{◌≡◌, ◌≢◌, ◌<◌, ◌⊎◌, inl, inr, ℕ, zero, suc, ◌+◌, List, [], ◌∷◌, ◌++◌, length, append-nil, append_assoc, length-append, refl, sym, ap, ◌∙◌, subst, arith}
+use Rattle.std.proofs.Common.{◌≡◌, ◌≢◌, ◌<◌, ◌≤◌, ◌⊎◌, inl, inr, ℕ, zero, suc, ◌+◌, List, [], ◌∷◌, ◌++◌, length, append-nil, append_assoc, length-append, refl, sym, ap, ◌∙◌, subst, arith}
 use Rattle.std.proofs.lemmas.List.{append_cancel_left}
 use Rattle.host_core.specs.State.{IsFront}
 use Rattle.change_apply.specs.Acknowledgements.{HasAcknowledged, ack, acks}
 use Rattle.command_runs.specs.Works.{AreAcknowledged}
-use Rattle.command_runs.proofs.CompactTold.{heads}
+use Rattle.command_runs.specs.OneWork.{HasOneNumber}
+use Rattle.command_runs.proofs.CompactTold.{heads, tails}
 
 pub three_ways : (d k : ℕ) → (d < k) ⊎ ((d ≡ k) ⊎ (k < d))
 three_ways zero zero = inr (inl refl)
@@ -59,6 +60,61 @@ acknowledged_is_one k j text a b = by (three_ways k j)
     by (inr (inl e)) = e
     by (inr (inr gt)) = absurd (not_below j k text b a gt)
 
+-- ---- there is such a number
+
+pub not_empty : (c : ℕ) (text : List ℕ) → [] ≡ c ∷ text → ⊥
+not_empty c text e = absurd cc
+
+-- whether a text begins with another
+begins_or_not : (part text : List ℕ) → IsFront part text ⊎ (¬ IsFront part text)
+begins_or_not [] text = inl (text, refl)
+begins_or_not (c ∷ part) [] = inr (λ (rest, e). not_empty c (part ++ rest) e)
+begins_or_not (c ∷ part) (d ∷ text) = by (three_ways c d) (begins_or_not part text)
+  where
+    other_head : (c ≡ d → ⊥) → IsFront (c ∷ part) (d ∷ text) ⊎ (¬ IsFront (c ∷ part) (d ∷ text))
+    other_head not = inr (λ (rest, e). not (sym (heads d c text (part ++ rest) e)))
+
+    by : (c < d) ⊎ ((c ≡ d) ⊎ (d < c)) → IsFront part text ⊎ (¬ IsFront part text)
+        → IsFront (c ∷ part) (d ∷ text) ⊎ (¬ IsFront (c ∷ part) (d ∷ text))
+    by (inl low) more = other_head (λ e. omega (arith, low, e))
+    by (inr (inr high)) more = other_head (λ e. omega (arith, high, e))
+    by (inr (inl same)) (inl (rest, e)) = inl (rest, λ i. (sym same i ∷ e i))
+    by (inr (inl same)) (inr none) = inr (λ (rest, e). none (rest, tails d c text (part ++ rest) e))
+
+longer : (k : ℕ) (rest more : List ℕ) → rest ≡ ack (suc k) ++ more → length more < length rest
+longer k rest more is =
+    let long : length rest ≡ length (ack (suc k)) + length more = ap (λ (t : List ℕ). length t) is ∙ length-append (ack (suc k)) more in
+    let some = some_length (ack (suc k)) (λ none. not_empty 97 _ (sym none)) in
+    omega (arith, long, some)
+
+-- behind so many: these are all, or there is one more
+count_on : (k : ℕ) (text rest : List ℕ) → text ≡ acks k ++ rest → IsFront (ack (suc k)) rest ⊎ (¬ IsFront (ack (suc k)) rest)
+    → ((more : List ℕ) → rest ≡ ack (suc k) ++ more → (j : ℕ) × AreAcknowledged j text) → (j : ℕ) × AreAcknowledged j text
+count_on k text rest e (inl (more, is)) further = further more is
+count_on k text rest e (inr none) further = (k, record { rest = rest; begins = e; no_more = none })
+
+-- the same, where the rest is no longer than that
+count_from : (most k : ℕ) (text rest : List ℕ) → text ≡ acks k ++ rest → length rest ≤ most → (j : ℕ) × AreAcknowledged j text
+count_from zero k text rest e short =
+    count_on k text rest e (begins_or_not (ack (suc k)) rest)
+    (λ more is. let low = longer k rest more is in absurd (omega (arith, low, short)))
+count_from (suc most) k text rest e short =
+    count_on k text rest e (begins_or_not (ack (suc k)) rest)
+    (λ more is.
+    let low = longer k rest more is in
+    count_from most (suc k) text more
+    (e ∙ ap (λ (t : List ℕ). acks k ++ t) is ∙ sym (append_assoc (acks k) (ack (suc k)) more)) (omega (arith, low, short)))
+
+-- each text has one number of them
+pub has_one_number : (text : List ℕ) → HasOneNumber text
+has_one_number text =
+    let found = count_from (length text) 0 text text refl (omega arith) in
+    record {
+      number = found.0;
+      acknowledged = found.1;
+      alone = λ k are. acknowledged_is_one k found.0 text are found.1;
+    }
+
 -- ---- nothing more is acknowledged
 
 -- a text that is empty or begins with another letter
@@ -69,9 +125,6 @@ pub data Quiet : List ℕ → Type 0 where
 pub quiet_front : (part rest : List ℕ) → Quiet (part ++ rest) → Quiet part
 quiet_front [] rest q = silent
 quiet_front (c ∷ part) rest (other _ _ n m) = other c part n m
-
-pub not_empty : (c : ℕ) (text : List ℕ) → [] ≡ c ∷ text → ⊥
-not_empty c text e = absurd cc
 
 quiet_has_no_ack : (text : List ℕ) → Quiet text → (k : ℕ) → ¬ IsFront (ack k) text
 quiet_has_no_ack [] silent k (rest, e) = not_empty 97 _ e

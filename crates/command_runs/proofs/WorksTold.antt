@@ -20,6 +20,13 @@ work_is_one reads output ms ns k j (inl a) (inr b) = absurd (b.none ms (a.rest, 
 work_is_one reads output ms ns k j (inr a) (inl b) = absurd (a.none ns (b.rest, b.begins))
 work_is_one reads output ms ns k j (inr a) (inr b) = (a.empty ∙ sym b.empty, a.nothing ∙ sym b.nothing)
 
+-- a plan is told by its text
+pub plans_are_told : ReadsTokens → (ms ns : List Move) → FitTheirPlaces ms → FitTheirPlaces ns → length ms < 2 ^ 64 → length ns < 2 ^ 64
+    → plan_text ms ≡ plan_text ns → ms ≡ ns
+plans_are_told reads ms ns fit fits few fewer e =
+    let h = plans_split reads ms ns [] [] fit fits few fewer (append-nil (plan_text ms) ∙ e ∙ sym (append-nil (plan_text ns))) in
+    h.0
+
 -- ---- outputs
 
 -- a text at whose head stands no whole plan

@@ -2,11 +2,13 @@
 #![tactic(auto)]
 
 mod faulty;
+mod laws;
 mod lists;
 mod noting;
 mod running;
 mod stops;
 
+pub use laws::outputs_tell_one_work;
 pub use lists::run_stops;
 pub use running::run_stop;
 pub use stops::{Ran, Stop};
