@@ -1,5 +1,5 @@
 -- A checkpoint's file put anew keeps all checkpoints and their numbers.
-use Rattle.std.proofs.Common.{◌≡◌, ℕ, List, true, cond, Option, Some, None, IfSome, inl, inr, ⊎_elim, refl, sym, ap, ◌∙◌, subst, option_map, slice_get}
+use Rattle.std.proofs.Common.{◌≡◌, ℕ, List, cond, Option, Some, None, IfSome, inl, inr, ⊎_elim, refl, sym, ap, ◌∙◌, subst, option_map, slice_get}
 use Rattle.std.specs.FinMap.{get}
 use Rattle.std.specs.Prelude.{option_and_then}
 use Rattle.host_core.specs.Crashes.{Left, LeavesOnly}
@@ -12,7 +12,7 @@ use Rattle.checkpoints.specs.Formats.{number_held}
 use Rattle.checkpoints.specs.Migrations.{IsDue, IsRewritten, IsRewrittenOrNot, KeepsOtherFormats, KeepsPoints, NewFile, old_held, old_point}
 use Rattle.checkpoints.specs.Names.{point_file}
 use Rattle.checkpoints.specs.Numbers.{number}
-use Rattle.checkpoints.specs.Points.{Points, points}
+use Rattle.checkpoints.specs.Points.{Points}
 use Rattle.checkpoints.proofs.Moments.{AtAnyMoment, changes_weaker}
 use Rattle.checkpoints.proofs.NamesOfFiles.{by_name, files_differ, is_name, other_name, same_name}
 use Rattle.checkpoints.proofs.NumbersPut.{files_same, number_behind, others_put, others_with, put_there}

@@ -1,14 +1,14 @@
 -- The numbers of checkpoints, and what a file that is put makes of them.
-use Rattle.std.proofs.Common.{◌≡◌, ◌≢◌, ℕ, suc, ◌+◌, ◌<◌, ◌≤◌, List, [], ◌∷◌, ◌++◌, All, true, false, cond, max, map, take, drop, length, get_or, Option, Some, None, Ok, IfSome, refl, sym, ap, ◌∙◌, subst, option_map, arith, length-append}
+use Rattle.std.proofs.Common.{◌≡◌, ◌≢◌, ℕ, List, cond, length, Option, Some, None, refl, sym, ap, ◌∙◌, arith, length-append}
 use Rattle.std.specs.Prelude.{option_and_then}
-use Rattle.std.specs.FinMap.{get, keys}
-use Rattle.host_core.specs.State.{Files, State, with_file}
+use Rattle.std.specs.FinMap.{get}
+use Rattle.host_core.specs.State.{Files, with_file}
 use Rattle.conf_store.specs.Files.{scratch, without_scratch}
 use Rattle.conf_store.specs.Puts.{IsSame, put}
 use Rattle.checkpoints.specs.Formats.{number_held}
 use Rattle.checkpoints.specs.Names.{point_end, point_file}
 use Rattle.checkpoints.specs.Numbers.{number}
-use Rattle.checkpoints.proofs.NamesOfFiles.{files_differ, is_name, other_name, same_name}
+use Rattle.checkpoints.proofs.NamesOfFiles.{files_differ, other_name, same_name}
 use Rattle.checkpoints.proofs.PointMaps.{get_with}
 
 -- no checkpoint's file is the scratch file, whatever its name

@@ -1,12 +1,12 @@
 -- Checkpoints of the old format, found one by one.
-use Rattle.std.proofs.Common.{◌≡◌, ℕ, zero, suc, ◌+◌, ◌<◌, ◌≤◌, List, [], ◌∷◌, ◌++◌, true, take, take_all, length, slice_get, Option, Some, None, Ok, IfSome, Vec, Global, option_map, refl, sym, ap, ◌∙◌, subst, append-nil, arith}
+use Rattle.std.proofs.Common.{◌≡◌, ℕ, ◌+◌, ◌≤◌, List, [], ◌∷◌, ◌++◌, true, take, take_all, length, slice_get, Option, Some, None, Ok, IfSome, Vec, Global, option_map, sym, ap, ◌∙◌, subst, append-nil}
 use Rattle.std.specs.FinMap.{get}
 use Rattle.std.specs.List.{cons_option, filter_map}
 use Rattle.std.specs.Option.{option_or}
 use Rattle.std.specs.Prelude.{All, option_and_then}
 use Rattle.std.specs.Result.{result_ok}
 use Rattle.std.proofs.lemmas.List.Elements.{All-nil, All-push, filter_map-append}
-use Rattle.host_core.specs.State.{Files, State}
+use Rattle.host_core.specs.State.{State}
 use Rattle.conf_doc.specs.Document.{Document}
 use Rattle.conf_doc.specs.Reading.{reading}
 use Rattle.conf_doc.specs.declared.configuration.Config.{Config}

@@ -1,4 +1,4 @@
-use Rattle.std.proofs.Common.{◌≡◌, ◌∙◌, ℕ, List, Option, option_map, subst}
+use Rattle.std.proofs.Common.{◌≡◌, ◌∙◌, ℕ, List, option_map, subst}
 use Rattle.std.proofs.lemmas.Result.{on_err_weaker, on_ok_weaker}
 use Rattle.conf_store.specs.Changes.{Changes}
 use Rattle.conf_store.specs.Puts.{IsPutOrNot, after_put}

@@ -1,8 +1,7 @@
-use Rattle.std.proofs.Common.{◌≡◌, ◌≤◌, None, Some, subst, arith}
+use Rattle.std.proofs.Common.{◌≤◌, subst, arith}
 use Rattle.std.proofs.lemmas.Result.{IfOk-weaker}
 use Rattle.doc_text.specs.Texts.{ReadsAs}
-use Rattle.checkpoints.specs.Formats.{content, greatest_number}
-use Rattle.checkpoints.specs.Migrations.{old_held}
+use Rattle.checkpoints.specs.Formats.{greatest_number}
 use Rattle.checkpoints.proofs.Written.{point_held, point_not_old}
 use Rattle.checkpoints.proofs.writing.point_bytes.Goals as goal
 
