@@ -62,6 +62,11 @@ not_old ms n e =
     let format = format_text (find format_member (pairs ms)) (and_parts (length (pairs ms) == 3) (option_map_or (bytes_eq format_2) (text_at format_member (pairs ms)) false) has).1 in
     not_tables format_member format.0 ms format.1
 
+pub not_numbered : (d : Document) (n : ℕ) → number_in (members_in d) ≡ Some n → config_of d ≡ None
+not_numbered (text s) n e = absurd cc
+not_numbered (list ds) n e = absurd cc
+not_numbered (object ms) n e = not_old ms n e
+
 -- ---- by the number
 
 -- what has a number is of format 2

@@ -2,6 +2,7 @@ mod Changed
 mod Contents
 mod Counting
 mod Decimals
+mod FilesAnew
 mod Moments
 mod NamesOfFiles
 mod NumbersListed
@@ -10,5 +11,6 @@ mod PointMaps
 mod ReadCalls
 mod Sorting
 mod StoredKept
+mod OldOnes
 mod OtherFiles
 mod Written

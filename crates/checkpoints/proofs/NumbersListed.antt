@@ -3,7 +3,7 @@ use Rattle.std.proofs.Common.{◌≡◌, ℕ, zero, suc, ◌+◌, ◌<◌, ◌�
 use Rattle.std.proofs.lemmas.Bool.{eqb-true}
 use Rattle.std.specs.FinMap.{get}
 use Rattle.std.specs.Prelude.{All, ◌==◌}
-use Rattle.host_core.specs.State.{Files, State}
+use Rattle.host_core.specs.State.{State}
 use Rattle.conf_doc.proofs.Lists.{map_more, take_more}
 use Rattle.conf_doc.specs.declared.configuration.Config.{Config}
 use Rattle.checkpoints.specs.Answers.{IsOfSaving, Lists, ListsNumbers, Saves, numbered_view}

@@ -164,3 +164,16 @@ module _ (name : List ℕ) (good : is_good_name name ≡ true) where
   pub points_without : (files : Files) → points (with_file (point_file name) None files) ≡ remove (points files) name
   points_without files = same_points _ _ (λ q.
       changed None files q ∙ sym (finmap.get-remove nat_list_cmp_total (points files) name q))
+
+  -- the same checkpoint in another file
+  pub points_anew : (bytes : List ℕ) (files : Files) → get (points files) name ≡ Some (held bytes)
+      → points (with_file (point_file name) (Some bytes) files) ≡ points files
+  points_anew bytes files there = same_points _ _ (λ q. changed (Some bytes) files q ∙ ⊎_elim (same q) (differ q) (by_name q name))
+    where
+      same : (q : List ℕ) → q ≡ name → cond (is_name q name) (Some (held bytes)) (get (points files) q) ≡ get (points files) q
+      same q e =
+          ap (λ b. cond b (Some (held bytes)) (get (points files) q)) (same_name q name e)
+          ∙ sym there ∙ ap (get (points files)) (sym e)
+
+      differ : (q : List ℕ) → (q ≡ name → ⊥) → cond (is_name q name) (Some (held bytes)) (get (points files) q) ≡ get (points files) q
+      differ q apart = ap (λ b. cond b (Some (held bytes)) (get (points files) q)) (other_name q name apart)

@@ -1,6 +1,6 @@
 -- Calls that only read, one after the other.
-use Rattle.std.proofs.Common.{◌≡◌, inl, inr, ⊎_elim, ℕ, Option, refl, ap, ◌∙◌, subst, arith}
-use Rattle.host_core.specs.Counts.{Counts, DiskMayRise}
+use Rattle.std.proofs.Common.{inl, inr, ⊎_elim, ℕ, Option, refl, ◌∙◌, subst, arith}
+use Rattle.host_core.specs.Counts.{Counts}
 use Rattle.host_core.specs.Crashes.{Elapses, Left, MayLeaveNow}
 use Rattle.host_core.specs.State.{State}
 use Rattle.conf_store.specs.Reads.{OnlyReads}

@@ -51,7 +51,7 @@ stored_with name good content files = stored_alike _ _ (λ q isnt _.
     ∙ ap (λ b. cond b content (get files q))
     (other_name q (point_file name) (λ e. let is : is_point_file q ≡ true = ap is_point_file e ∙ good_file name good in absurd cc)))
 
-stored_behind : (files : Files) → stored (without_scratch files) ≡ stored files
+pub stored_behind : (files : Files) → stored (without_scratch files) ≡ stored files
 stored_behind files = stored_alike _ _ (λ q _ other.
     get_with scratch None files q ∙ ap (λ b. cond b None (get files q)) (other_name q scratch other))
 

@@ -1,5 +1,5 @@
 -- What the text of a file of format 2 holds.
-use Rattle.std.proofs.Common.{◌≡◌, ℕ, zero, suc, ◌<◌, ◌≤◌, true, nat_lt, List, [], ◌∷◌, Option, Some, None, Result, Ok, IfOk, IsUtf8, refl, sym, ap, ◌∙◌, arith}
+use Rattle.std.proofs.Common.{◌≡◌, ℕ, zero, suc, ◌≤◌, true, nat_lt, List, [], ◌∷◌, Some, None, Result, IsUtf8, refl, ap, ◌∙◌, arith}
 use borrow.Author.Tests.{ltb-true}
 use Rattle.std.proofs.lemmas.Bool.{and_parts}
 use Rattle.std.proofs.lemmas.Str.{IsUtf8-from_ascii}
@@ -8,9 +8,7 @@ use Rattle.std.specs.List.{list_all}
 use Rattle.std.specs.Prelude.{decimal, option_and_then}
 use Rattle.std.specs.Str.{IsAscii}
 use Rattle.std.specs.Result.{result_ok}
-use Rattle.conf_doc.specs.Configuration.{tree}
 use Rattle.conf_doc.specs.Document.{Document, deepest, depth}
-use Rattle.conf_doc.specs.Reading.{reading}
 use Rattle.conf_doc.specs.Sound.{IsSound}
 use Rattle.conf_doc.specs.WellFormed.{IsConfig}
 use Rattle.conf_doc.specs.declared.configuration.Config.{Config}
@@ -18,9 +16,9 @@ use Rattle.conf_doc.specs.declared.errors.ReadError.{ReadError}
 use Rattle.conf_doc.proofs.ReadTree.{depth_tree, sound_tree}
 use Rattle.conf_doc.proofs.RoundTrip.{config_back}
 use Rattle.doc_text.specs.Texts.{ReadsAs}
-use Rattle.checkpoints.specs.Formats.{config_at, config_member, content, content_of, format_2, format_member, greatest_number, members_in, number_in, point_tree, sequence_member, with_number}
-use Rattle.checkpoints.specs.declared.content.Content.{Content}
-use Rattle.checkpoints.proofs.Contents.{numbered_is}
+use Rattle.checkpoints.specs.Formats.{config_member, config_of, content, content_of, format_2, format_member, greatest_number, members_in, number_in, point_tree, sequence_member, with_number}
+use Rattle.checkpoints.specs.Migrations.{old_held}
+use Rattle.checkpoints.proofs.Contents.{not_numbered, numbered_is}
 use Rattle.checkpoints.proofs.Decimals.{number_is}
 
 -- each byte is ASCII
@@ -62,3 +60,10 @@ pub point_held : (c : Config) (n : ℕ) → IsConfig c → n ≤ greatest_number
 point_held c n is most bytes reads =
     ap (λ (r : Result Document ReadError). option_and_then content_of (result_ok r)) (reads (sound_point c n is most) (shallow_point c n))
     ∙ point_content c n is most
+
+-- and isn't of the old format
+pub point_not_old : (c : Config) (n : ℕ) → IsConfig c → n ≤ greatest_number → (bytes : List ℕ) → ReadsAs bytes (point_tree c n) → old_held bytes ≡ None
+point_not_old c n is most bytes reads =
+    let number : number_in (members_in (point_tree c n)) ≡ Some n = number_is n (decimal n) most refl in
+    ap (λ (r : Result Document ReadError). option_and_then config_of (result_ok r)) (reads (sound_point c n is most) (shallow_point c n))
+    ∙ not_numbered (point_tree c n) n number

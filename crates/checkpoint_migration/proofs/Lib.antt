@@ -1,0 +1,4 @@
+mod Counting
+mod Moments
+mod PutFiles
+mod Stepping
