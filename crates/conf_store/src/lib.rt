@@ -29,3 +29,4 @@ pub use putting_steps::put_step;
 pub use settling::remove_file;
 pub use shapes::is_configuration;
 pub use step_files::step_name;
+pub use stored_files::read_config;
