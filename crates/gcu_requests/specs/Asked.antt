@@ -12,7 +12,8 @@ use Rattle.gcu_requests.specs.Asking.{Asking, a_file, asks, follows, settles_fir
 use Rattle.gcu_requests.specs.ChangeAsked.{change_asked}
 use Rattle.gcu_requests.specs.Checking.{check_asked}
 use Rattle.gcu_requests.specs.DemoAsked.{demo_asked}
-use Rattle.gcu_requests.specs.Form.{Form, change, check, delete_checkpoint, demo, form, list_checkpoints, plan, preview, save_checkpoint}
+use Rattle.gcu_requests.specs.Form.{Form, abandon, change, check, delete_checkpoint, demo, form, list_checkpoints, plan, preview, save_checkpoint, status}
+use Rattle.gcu_requests.specs.IntentAsked.{abandon_asked, status_asked, uninterrupted}
 use Rattle.gcu_requests.specs.PatchAsked.{patch_asked, target}
 use Rattle.gcu_requests.specs.PlanAsked.{dry_run_asked}
 use Rattle.gcu_requests.specs.PointAsked.{name_answer}
@@ -30,6 +31,7 @@ there_answer name (Some held) = Ok name
 -- the checkpoint of a name is to be deleted
 abbrev pub there_asked : List ℕ → State → Asking Request
 there_asked name s =
+    uninterrupted s >>> λ _.
     asks a_file (map_ok request.delete_checkpoint (there_answer name (get (points s.files) name)))
 
 -- a checkpoint that is there is refused, whatever it holds
@@ -45,11 +47,15 @@ absent_asked name config s =
 -- ---- the commands
 
 -- the configuration after a patch; the stored one is read before the patch
-abbrev pub target_asked : List ℕ → State → Asking Config
-target_asked path s =
+abbrev pub patching_asked : List ℕ → State → Asking Config
+patching_asked path s =
     stored_asked s >>> λ start.
     patch_asked path s >>> λ ops.
     follows (target ops start)
+
+-- the same, where no change is under way
+abbrev pub target_asked : List ℕ → State → Asking Config
+target_asked path s = uninterrupted s >>> λ _. patching_asked path s
 
 -- `preview PATH`: the configuration after the patch
 abbrev pub preview_asked : List ℕ → State → Asking Request
@@ -57,7 +63,9 @@ preview_asked path s = target_asked path s >>> λ c. follows (Ok (request.previe
 
 -- `list-checkpoints`: the names of all checkpoints
 abbrev pub list_asked : State → Asking Request
-list_asked s = asks a_file (Ok (request.list_checkpoints (keys (points s.files))))
+list_asked s =
+    uninterrupted s >>> λ _.
+    asks a_file (Ok (request.list_checkpoints (keys (points s.files))))
 
 -- `checkpoint NAME`: the name is looked at before the folder, and the stored configuration is to be valid
 abbrev pub save_asked : List ℕ → State → Asking Request
@@ -85,6 +93,8 @@ form_asked (Some (save_checkpoint name)) s = save_asked name s
 form_asked (Some (delete_checkpoint name)) s = delete_asked name s
 form_asked (Some (plan goal budget)) s = dry_run_asked goal budget s
 form_asked (Some (change goal budget)) s = change_asked goal budget s
+form_asked (Some status) s = status_asked s
+form_asked (Some abandon) s = abandon_asked s
 form_asked (Some (demo seed ports)) s = demo_asked seed ports s
 
 -- what the words ask of a host in this state

@@ -10,6 +10,12 @@ pub record Planning : Type 0 where
   pub goal : Config
   pub budget : ℕ
 
+-- the file of a change under way: it isn't there, it holds the goal's configuration, or it holds none
+pub data Intent : Type 0 where
+  none : Intent
+  whole : Intent
+  broken : Intent
+
 -- a command with all that it needs
 pub data Request : Type 0 where
   -- print this configuration
@@ -26,5 +32,9 @@ pub data Request : Type 0 where
   plan : Planning → Request
   -- print such a plan and do it
   change : Planning → Request
+  -- say whether a change is under way, and how many of its step files are applied
+  status : Intent → ℕ → Request
+  -- give up the change that was stopped
+  abandon : Request
   -- say of how many moves such a plan is, with so many ports
   demo : Planning → ℕ → Request
