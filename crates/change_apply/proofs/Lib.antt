@@ -1,6 +1,9 @@
 mod Counting
 mod Due
 mod FoldStages
+mod IntentNames
+mod IntentStages
+mod KeptIntents
 mod LastFold
 mod Moments
 mod ReadySteps

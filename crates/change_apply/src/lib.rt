@@ -5,6 +5,7 @@
 mod acknowledging;
 mod errors;
 mod folds;
+mod intents;
 mod laws;
 mod preparing;
 mod ready;
@@ -14,6 +15,7 @@ mod running;
 mod steps;
 
 pub use errors::ApplyFault;
+pub use intents::close;
 pub use laws::restarts_are_services;
 pub use preparing::prepare;
 pub use ready::{Ready, Restart};
