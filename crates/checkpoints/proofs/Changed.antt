@@ -3,14 +3,18 @@ use Rattle.std.proofs.Common.{◌≡◌, ℕ, List, true, Option, Some, None, in
 use Rattle.std.specs.FinMap.{get, insert}
 use Rattle.std.specs.Prelude.{IfSome, IsSome}
 use Rattle.host_core.specs.State.{CanMove, Files, ListsOrNot, State, after_listing, listing, settled, with_file, with_pending}
-use Rattle.conf_doc.specs.Texts.{file_text}
 use Rattle.conf_doc.specs.declared.configuration.Config.{Config}
 use Rattle.conf_store.specs.Changes.{Changes, IsSettled, Leads, Settles}
 use Rattle.conf_store.specs.Files.{without_scratch}
 use Rattle.conf_store.specs.Puts.{IsPutOrNot, after_put, put}
 use Rattle.checkpoints.specs.Changes.{IsDeleted, IsDeletedOrNot, IsSaved, IsSavedOrNot, with_point, without_file}
+use Rattle.checkpoints.specs.Formats.{content}
 use Rattle.checkpoints.specs.Names.{is_good_name, point_file}
-use Rattle.checkpoints.specs.Points.{held, points}
+use Rattle.checkpoints.specs.Numbers.{next_number}
+use Rattle.checkpoints.specs.Points.{points}
+use Rattle.checkpoints.specs.Reads.{IsNextText}
+use Rattle.checkpoints.specs.declared.content.Content.{Content}
+use Rattle.checkpoints.proofs.NumbersPut.{number_put, numbers_put}
 use Rattle.checkpoints.proofs.PointMaps.{points_behind, points_same, points_with, points_without}
 use Rattle.checkpoints.proofs.StoredKept.{stored_put, stored_same, stored_with}
 
@@ -70,28 +74,39 @@ module _ (name : List ℕ) (good : is_good_name name ≡ true) where
 
   -- ---- one more
 
-  module _ (config : Config) (reads : held (file_text config) ≡ Some config) where
-    saved_points : (files : Files) → points (with_file (point_file name) (Some (file_text config)) files) ≡ with_point name config (points files)
-    saved_points files = points_with name good (file_text config) files ∙ ap (insert (points files) name) reads
+  module _ (config : Config) where
+    saved_points : (n : ℕ) (bytes : List ℕ) → content bytes ≡ Some (record { config = config; number = n }) → (files : Files)
+        → points (with_file (point_file name) (Some bytes) files) ≡ with_point name config (points files)
+    saved_points n bytes holds files =
+        points_with name good bytes files ∙ ap (λ (o : Option Content). insert (points files) name (option_map (λ (c : Content). c.config) o)) holds
 
-    is_saved : (files : Files) → IsSaved name config files (put (point_file name) (file_text config) files)
-    is_saved files = record {
-      files = refl;
-      points = saved_points (without_scratch files) ∙ ap (with_point name config) (points_behind files);
-      kept = stored_put name (file_text config) good files;
+    is_saved : (files : Files) (bytes : List ℕ) → IsNextText config files bytes → IsSaved name config files (put (point_file name) bytes files)
+    is_saved files bytes is = record {
+      files = ap (λ (b : List ℕ). put (point_file name) b files) is.text;
+      points = saved_points (next_number files) bytes is.holds (without_scratch files) ∙ ap (with_point name config) (points_behind files);
+      number = number_put name bytes files ∙ ap (option_map (λ (c : Content). c.number)) is.holds;
+      numbers = λ other apart. numbers_put name bytes files other apart;
+      kept = stored_put name bytes good files;
     }
 
     -- put or not
-    pub saved_or_not : (f g : Files) → IsPutOrNot (point_file name) (file_text config) f g → IsSavedOrNot name config f g
-    saved_or_not f g (inl same) = record { files = inl same; points = inl (points_same f g same); kept = stored_same f g same }
-    saved_or_not f g (inr same) = record {
-      files = inr same;
-      points = inr (points_same _ g same ∙ saved_points f);
-      kept = stored_same _ g same ∙ stored_with name good (Some (file_text config)) f;
+    pub saved_or_not : (f : Files) (bytes : List ℕ) → IsNextText config f bytes → (g : Files) → IsPutOrNot (point_file name) bytes f g → IsSavedOrNot name config f g
+    saved_or_not f bytes is g (inl same) = record { files = inl same; points = inl (points_same f g same); kept = stored_same f g same }
+    saved_or_not f bytes is g (inr same) = record {
+      files = inr (same ∙ ap (λ (b : List ℕ). without_scratch (with_file (point_file name) (Some b) f)) is.text);
+      points = inr (points_same _ g same ∙ saved_points (next_number f) bytes is.holds f);
+      kept = stored_same _ g same ∙ stored_with name good (Some bytes) f;
     }
 
     -- put, and so it lasts
-    pub saves : (o p n : Option State) → p ≡ o → n ≡ option_map (after_put (point_file name) (file_text config)) p → Settles (IsSaved name config) o n
-    saves None p n same e = e ∙ ap (option_map (after_put (point_file name) (file_text config))) same
-    saves (Some s) p n same e =
-        (put (point_file name) (file_text config) s.files, e ∙ ap (option_map (after_put (point_file name) (file_text config))) same, is_saved s.files)
+    pub saves : (bytes : List ℕ) (o p n : Option State) → p ≡ o → IfSome o (λ s. IsNextText config s.files bytes)
+        → n ≡ option_map (after_put (point_file name) bytes) p → Settles (IsSaved name config) o n
+    saves bytes None p n same is e = e ∙ ap (option_map (after_put (point_file name) bytes)) same
+    saves bytes (Some s) p n same is e =
+        (put (point_file name) bytes s.files, e ∙ ap (option_map (after_put (point_file name) bytes)) same, is_saved s.files bytes is)
+
+    -- of a host that may tell its state
+    pub saved_told : (bytes : List ℕ) (o : Option State) → IfSome o (λ s. IsNextText config s.files bytes)
+        → IfSome o (λ s. (g : Files) → IsPutOrNot (point_file name) bytes s.files g → IsSavedOrNot name config s.files g)
+    saved_told bytes None is = tt
+    saved_told bytes (Some s) is = saved_or_not s.files bytes is

@@ -4,7 +4,11 @@ mod Counting
 mod Decimals
 mod Moments
 mod NamesOfFiles
+mod NumbersListed
+mod NumbersPut
 mod PointMaps
+mod ReadCalls
 mod Sorting
 mod StoredKept
 mod OtherFiles
+mod Written

@@ -7,7 +7,7 @@ use Rattle.host_core.proofs.Runs as runs
 use Rattle.conf_store.specs.Changes.{AreLeft, Changes, IsSettled, Leads, Settles}
 use Rattle.checkpoints.specs.Changes.{LeavesOf}
 use Rattle.checkpoints.specs.declared.errors.PointError.{PointError}
-use Rattle.checkpoints.specs.declared.errors.PointError.TheVariants.{BadName, Exists, Absent, NotConfig, Disk, Memory}
+use Rattle.checkpoints.specs.declared.errors.PointError.TheVariants.{BadName, Exists, Full, Absent, NotConfig, Disk, Memory}
 
 -- what a crash leaves of a state after such changes
 left_of : (P : Files → Files → Type 0) (s t : State) → Leads P s t → (left : Left) → MayLeave t left → AreLeft P s left
@@ -44,9 +44,9 @@ unchanged P same (Some s) n clean e = (
 )
 
 -- changes that are weaker ones too
-pub changes_weaker : (P Q : Files → Files → Type 0) → ((f g : Files) → P f g → Q f g) → (o p n : Option State) → p ≡ o → Changes P p n → Changes Q o n
-changes_weaker P Q gives None p n told changes = subst (λ o. Changes P o n) told changes
-changes_weaker P Q gives (Some s) p n told changes =
+pub changes_weaker : (P Q : Files → Files → Type 0) → (o p n : Option State) → IfSome o (λ s. (g : Files) → P s.files g → Q s.files g) → p ≡ o → Changes P p n → Changes Q o n
+changes_weaker P Q None p n gives told changes = subst (λ o. Changes P o n) told changes
+changes_weaker P Q (Some s) p n gives told changes =
     let same : Changes P (Some s) n = subst (λ o. Changes P o n) told changes in
     let leads = same.2 in (
       same.0,
@@ -55,8 +55,8 @@ changes_weaker P Q gives (Some s) p n told changes =
         inputs = leads.inputs;
         output = leads.output;
         restarts = leads.restarts;
-        reads = gives s.files same.0.files leads.reads;
-        images = λ left image. gives s.files left (leads.images left image);
+        reads = gives same.0.files leads.reads;
+        images = λ left image. gives left (leads.images left image);
       },
     )
 
@@ -81,6 +81,7 @@ pub leaves_unchanged : (P : Files → Files → Type 0) → ((files : Files) →
 leaves_unchanged P same o n clean e Disk = unchanged P same o n clean e
 leaves_unchanged P same o n clean e BadName = e
 leaves_unchanged P same o n clean e Exists = e
+leaves_unchanged P same o n clean e Full = e
 leaves_unchanged P same o n clean e Absent = e
 leaves_unchanged P same o n clean e NotConfig = e
 leaves_unchanged P same o n clean e Memory = e
@@ -120,11 +121,11 @@ module _ {H : Type 0} (moment : H → ℕ) (left_since : H → ℕ → Left → 
     reads_on o clean old new now time = goes_on o o (unchanged P same o o clean refl) old old new (begins o clean old now) time
 
     -- a run that changes files in ways of which each is one of these
-    pub changes_on : (Q : Files → Files → Type 0) → ((f g : Files) → Q f g → P f g) → (o p : Option State) → p ≡ o
+    pub changes_on : (Q : Files → Files → Type 0) → (o p : Option State) → IfSome o (λ s. (g : Files) → Q s.files g → P s.files g) → p ≡ o
         → (old mid new : H) → AtAnyMoment P o old mid → AtAnyMoment Q p mid new → AtAnyMoment P o old new
-    changes_on Q gives None p told old mid new so_far later = tt
-    changes_on Q gives (Some s) p told old mid new so_far later =
+    changes_on Q None p gives told old mid new so_far later = tt
+    changes_on Q (Some s) p gives told old mid new so_far later =
         runs.joins moment left_since old mid new (AreLeft P s) so_far
         (runs.weaker moment left_since mid new (AreLeft Q s) (AreLeft P s)
-        (λ left h. record { files = gives s.files left.files h.files; output = h.output; restarts = h.restarts })
+        (λ left h. record { files = gives left.files h.files; output = h.output; restarts = h.restarts })
         (subst (λ o. AtAnyMoment Q o mid new) told later))

@@ -7,12 +7,15 @@ use Rattle.std.specs.FinMap.{empty, entries, from_entries, keys}
 use Rattle.std.specs.declared.cmp.Ordering.{Ordering}
 use Rattle.std.specs.declared.cmp.Ordering.TheVariants.{Less, Equal, Greater}
 use Rattle.host_core.specs.Names.{name_cmp}
-use Rattle.std.specs.Prelude.{IfSome}
+use Rattle.std.specs.Prelude.{All, IfSome}
+use Rattle.std.proofs.lemmas.List.Elements.{All-nil}
+use Rattle.std.proofs.lemmas.Map.Views.{All-insert_key}
 use Rattle.host_core.specs.State.{Files, State, names}
 use Rattle.checkpoints.specs.Answers.{Lists}
-use Rattle.checkpoints.specs.Names.{is_point_file, point_name}
+use Rattle.checkpoints.specs.Names.{is_good_name, is_point_file, point_name}
 use Rattle.checkpoints.specs.Points.{Held, point, points}
 use Rattle.checkpoints.specs.Reads.{names_in}
+use Rattle.checkpoints.proofs.NamesOfFiles.{good_back}
 
 -- putting a pair puts its name
 put_names : {A : Type 0} (name : List ℕ) (a : A) (es : List (List ℕ × A))
@@ -58,3 +61,13 @@ pub lists_all : (o : Option State) (files all : List (List ℕ)) → IfSome o (�
     → IfSome o (λ s. Lists s.files (Ok all))
 lists_all None files all found is = tt
 lists_all (Some s) files all found is = is ∙ ap names_in found ∙ names_of_points s.files
+
+-- each is a good name
+pub good_names : (files : List (List ℕ)) → All (λ (n : List ℕ). is_good_name n ≡ true) (names_in files)
+good_names [] = All-nil (λ (n : List ℕ). is_good_name n ≡ true)
+good_names (file ∷ files) = by (good_names files) (is_point_file file) refl
+  where
+    by : All (λ (n : List ℕ). is_good_name n ≡ true) (names_in files) → (is : Bool) → is_point_file file ≡ is
+        → All (λ (n : List ℕ). is_good_name n ≡ true) (cond is (insert_key name_cmp (names_in files) (point_name file)) (names_in files))
+    by rest true is = All-insert_key name_cmp (point_name file) (λ (n : List ℕ). is_good_name n ≡ true) (names_in files) rest (good_back file is)
+    by rest false isnt = rest

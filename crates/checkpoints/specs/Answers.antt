@@ -1,13 +1,15 @@
 -- What the calls for checkpoints answer. A fault of the disk and want of memory may stand in the place of
 -- each answer but BadName.
-use Rattle.std.specs.Prelude.{◌≡◌, ℕ, List, true, false, Some, None, Result, Ok, Err, IsSome, ⊤}
+use Rattle.std.specs.Prelude.{◌≡◌, ◌⊎◌, ℕ, List, map, true, false, Option, Some, None, Result, Ok, Err, IsSome, ⊤}
 use Rattle.std.specs.FinMap.{get, keys}
 use Rattle.host_core.specs.State.{Files}
 use Rattle.conf_doc.specs.declared.configuration.Config.{Config}
 use Rattle.checkpoints.specs.Names.{is_good_name}
+use Rattle.checkpoints.specs.Numbers.{is_full, numbered_points}
 use Rattle.checkpoints.specs.Points.{points}
 use Rattle.checkpoints.specs.declared.errors.PointError.{PointError}
-use Rattle.checkpoints.specs.declared.errors.PointError.TheVariants.{BadName, Exists, Absent, NotConfig, Disk, Memory}
+use Rattle.checkpoints.specs.declared.errors.PointError.TheVariants.{BadName, Exists, Absent, Full, NotConfig, Disk, Memory}
+use Rattle.checkpoints.specs.declared.numbering.Numbered.{Numbered}
 
 -- the name isn't good, or it is and there is another answer
 abbrev pub Named : {A : Type 0} → List ℕ → Result A PointError → Type 0
@@ -22,17 +24,23 @@ IsOfSaving Absent = ⊥
 IsOfSaving NotConfig = ⊥
 IsOfSaving other = ⊤
 
--- it is saved where there is none of that name
-abbrev pub Saves : List ℕ → Files → Result (Unit {0}) PointError → Type 0
-Saves name files (Ok done) = get (points files) name ≡ None
+-- it is saved where there is none of that name, and then where there is a number for it
+abbrev pub Saves : {A : Type 0} → List ℕ → Files → Result A PointError → Type 0
+Saves name files (Ok done) = (get (points files) name ≡ None) × (is_full files ≡ false)
 Saves name files (Err Exists) = IsSome (get (points files) name)
+Saves name files (Err Full) = (get (points files) name ≡ None) × (is_full files ≡ true)
 Saves name files (Err other) = ⊤
+
+-- it isn't saved: there is one of that name, or no number is left
+abbrev pub IsInTheWay : List ℕ → Files → Type 0
+IsInTheWay name files = IsSome (get (points files) name) ⊎ (is_full files ≡ true)
 
 -- ---- loading
 
 -- an error of loading
 abbrev pub IsOfLoading : PointError → Type 0
 IsOfLoading Exists = ⊥
+IsOfLoading Full = ⊥
 IsOfLoading other = ⊤
 
 -- the configuration is the one that it holds
@@ -55,11 +63,21 @@ abbrev pub Lists : Files → Result (List (List ℕ)) PointError → Type 0
 Lists files (Ok names) = names ≡ keys (points files)
 Lists files (Err other) = ⊤
 
+-- a checkpoint by its name, with its number
+abbrev pub numbered_view : Numbered → List ℕ × Option ℕ
+numbered_view n = (n.name, n.number)
+
+-- all names are listed, in order, each with its number
+abbrev pub ListsNumbers : Files → Result (List Numbered) PointError → Type 0
+ListsNumbers files (Ok all) = map numbered_view all ≡ numbered_points files
+ListsNumbers files (Err other) = ⊤
+
 -- ---- deleting
 
 -- an error of deleting
 abbrev pub IsOfDeleting : PointError → Type 0
 IsOfDeleting Exists = ⊥
+IsOfDeleting Full = ⊥
 IsOfDeleting NotConfig = ⊥
 IsOfDeleting other = ⊤
 

@@ -1,14 +1,15 @@
 -- What saving and deleting a checkpoint do to the files, and so to the checkpoints.
-use Rattle.std.specs.Prelude.{◌≡◌, ◌⊎◌, ℕ, List, Option, Some, None}
+use Rattle.std.specs.Prelude.{◌≡◌, ◌≢◌, ◌⊎◌, ℕ, List, Option, Some, None}
 use Rattle.std.specs.FinMap.{insert, remove}
 use Rattle.host_core.specs.State.{Files, State, with_file}
-use Rattle.conf_doc.specs.Texts.{file_text}
 use Rattle.conf_doc.specs.declared.configuration.Config.{Config}
 use Rattle.conf_store.specs.Changes.{Changes}
 use Rattle.conf_store.specs.Clearing.{IsDone, IsDoneOrNot}
 use Rattle.conf_store.specs.Puts.{IsPutOrNot, put}
 use Rattle.conf_store.specs.Stored.{stored}
+use Rattle.checkpoints.specs.Formats.{point_text}
 use Rattle.checkpoints.specs.Names.{point_file}
+use Rattle.checkpoints.specs.Numbers.{next_number, number}
 use Rattle.checkpoints.specs.Points.{Points, points}
 use Rattle.checkpoints.specs.declared.errors.PointError.{PointError}
 use Rattle.checkpoints.specs.declared.errors.PointError.TheVariants.{Disk}
@@ -23,15 +24,26 @@ KeepsStored before after = stored after ≡ stored before
 abbrev pub with_point : List ℕ → Config → Points → Points
 with_point name config before = insert before name (Some config)
 
--- the file of the checkpoint was put, and there is that checkpoint besides
+-- the text of its file, which has the next number
+abbrev pub next_text : Config → Files → List ℕ
+next_text config before = point_text config (next_number before)
+
+-- the numbers of all other checkpoints are as before
+abbrev pub KeepsOtherNumbers : List ℕ → Files → Files → Type 0
+KeepsOtherNumbers name before after =
+    (other : List ℕ) → other ≢ name → number after other ≡ number before other
+
+-- the file of the checkpoint was put, and there is that checkpoint besides, with the next number
 pub record IsSaved (name : List ℕ) (config : Config) (before after : Files) : Type 0 where
-  pub files : after ≡ put (point_file name) (file_text config) before
+  pub files : after ≡ put (point_file name) (next_text config before) before
   pub points : points after ≡ with_point name config (points before)
+  pub number : number after name ≡ Some (next_number before)
+  pub numbers : KeepsOtherNumbers name before after
   pub kept : KeepsStored before after
 
 -- its file was put or not, and there are the checkpoints from before or that one besides
 pub record IsSavedOrNot (name : List ℕ) (config : Config) (before after : Files) : Type 0 where
-  pub files : IsPutOrNot (point_file name) (file_text config) before after
+  pub files : IsPutOrNot (point_file name) (next_text config before) before after
   pub points :
       (points after ≡ points before) ⊎ (points after ≡ with_point name config (points before))
   pub kept : KeepsStored before after

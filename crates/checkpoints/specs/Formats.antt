@@ -1,13 +1,15 @@
 -- The two formats of a checkpoint's file. The old one is a configuration. Format 2 is a map of a
 -- configuration, the format and a sequence number. Any layout is read alike.
-use Rattle.std.specs.Prelude.{ℕ, List, [], codes, length, bytes_eq, decimal, nat_le, ◌&&◌, ◌==◌, if◌then◌else◌, Bool, false, Option, Some, None, option_and_then, option_map}
+use Rattle.std.specs.Prelude.{ℕ, List, [], ◌∷◌, ◌++◌, codes, length, bytes_eq, decimal, nat_le, ◌&&◌, ◌==◌, if◌then◌else◌, Bool, false, Option, Some, None, option_and_then, option_map}
 use Rattle.std.specs.Option.{option_map_or, option_or}
 use Rattle.std.specs.Result.{result_ok}
 use Rattle.std.specs.Str.Parse.{digits_value}
-use Rattle.conf_doc.specs.Document.{Document, text, list, object, pairs}
+use Rattle.conf_doc.specs.Configuration.{tree}
+use Rattle.conf_doc.specs.Document.{Document, text, list, object, members_of, pairs}
 use Rattle.conf_doc.specs.Pairs.{find}
 use Rattle.conf_doc.specs.Reading.{reading}
 use Rattle.conf_doc.specs.Shaping.{configuration}
+use Rattle.conf_doc.specs.Texts.{line_feed, pretty_text}
 use Rattle.conf_doc.specs.declared.configuration.Config.{Config}
 use Rattle.conf_store.specs.Files.{ten}
 use Rattle.checkpoints.specs.declared.content.Content.{Content}
@@ -103,3 +105,20 @@ content_of d = option_or (old_content d) (numbered_content (members_in d))
 -- what the bytes of a checkpoint's file hold, or none where they are of neither format
 abbrev pub content : List ℕ → Option Content
 content bytes = option_and_then content_of (result_ok (reading bytes))
+
+-- the number of the checkpoint whose file has these bytes
+abbrev pub number_held : List ℕ → Option ℕ
+number_held bytes = option_map (λ c. c.number) (content bytes)
+
+-- ---- what is written
+
+-- the map of format 2
+abbrev pub point_tree : Config → ℕ → Document
+point_tree config number =
+    object (members_of
+    ((config_member, tree config) ∷ (format_member, text format_2)
+    ∷ (sequence_member, text (decimal number)) ∷ []))
+
+-- the text of a file of format 2: sorted, a line for each item and member, and a line feed
+abbrev pub point_text : Config → ℕ → List ℕ
+point_text config number = pretty_text (point_tree config number) ++ line_feed

@@ -15,6 +15,9 @@ pub enum PointError {
     /// There is a checkpoint of that name.
     #[error("there is such a checkpoint")]
     Exists,
+    /// The greatest sequence number, 4,294,967,295, is taken.
+    #[error("no number is left for a checkpoint")]
+    Full,
     /// There is no checkpoint of that name.
     #[error("there is no such checkpoint")]
     Absent,

@@ -9,16 +9,16 @@ use host_core::Memory;
 use std::alloc::Global;
 
 /// The member of the configuration.
-const CONFIG: &str = "config";
+pub(crate) const CONFIG: &str = "config";
 
 /// The member that names the format.
-const FORMAT: &str = "format";
+pub(crate) const FORMAT: &str = "format";
 
 /// The member of the sequence number.
-const SEQUENCE: &str = "sequence";
+pub(crate) const SEQUENCE: &str = "sequence";
 
 /// How format 2 is named.
-const FORMAT_2: &str = "2";
+pub(crate) const FORMAT_2: &str = "2";
 
 /// How many members there are.
 const MEMBERS: usize = 3;

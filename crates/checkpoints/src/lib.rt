@@ -9,8 +9,10 @@ mod laws;
 mod listing;
 mod loading;
 mod naming;
+mod numbering;
 mod reading;
 mod saving;
+mod writing;
 
 pub use deleting::delete;
 pub use errors::PointError;
@@ -18,4 +20,5 @@ pub use laws::points_are_in_other_files;
 pub use listing::names;
 pub use loading::load;
 pub use naming::is_good_name;
+pub use numbering::{Numbered, numbers};
 pub use saving::save;

@@ -1,11 +1,11 @@
 //! The names of all checkpoints.
-ghost use Rattle.std.specs.Prelude.{◌≡◌, IfErr, IfOk, IfSome, IsErrOf, OnOk, if◌then◌else◌};
+ghost use Rattle.std.specs.Prelude.{◌≡◌, true, All, IfErr, IfOk, IfSome, IsErrOf, OnOk, if◌then◌else◌};
 ghost use Rattle.std.specs.BTreeSet.{insert_key};
 ghost use Rattle.host_core.specs.Counts.{Rose};
 ghost use Rattle.host_core.specs.Names.{name_cmp};
 ghost use Rattle.conf_store.specs.Reads.{OnlyReads};
 ghost use Rattle.checkpoints.specs.Answers.{IsOfListing, Lists};
-ghost use Rattle.checkpoints.specs.Names.{is_point_file, point_name as name_in};
+ghost use Rattle.checkpoints.specs.Names.{is_good_name, is_point_file, point_name as name_in};
 ghost use Rattle.checkpoints.specs.Reads.{names_in};
 ghost use Rattle.checkpoints.specs.declared.errors.PointError.TheVariants.{Disk as disk_failed};
 
@@ -19,6 +19,7 @@ use std::collections::BTreeSet;
 /// the disk count rose.
 pub fn names<H: Host>(alloc: Global, host: &mut H) -> Result<Names, PointError>
     ensures answer { IfSome (H.told host.old) (λ s. Lists s.files result) }
+    ensures good { IfOk result (All (λ n. is_good_name n ≡ true)) }
     ensures errors { IfErr result IsOfListing }
     ensures reads { OnlyReads H.told H.counts H.moment H.left_since H.goes_on host.old host.new }
     ensures cause { IsErrOf result disk_failed

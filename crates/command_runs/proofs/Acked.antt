@@ -6,7 +6,7 @@ use Rattle.change_apply.specs.Acknowledgements.{HasAcknowledged, ack, acks}
 use Rattle.command_runs.specs.Works.{AreAcknowledged}
 use Rattle.command_runs.proofs.CompactTold.{heads}
 
-three_ways : (d k : ℕ) → (d < k) ⊎ ((d ≡ k) ⊎ (k < d))
+pub three_ways : (d k : ℕ) → (d < k) ⊎ ((d ≡ k) ⊎ (k < d))
 three_ways zero zero = inr (inl refl)
 three_ways zero (suc k) = inl (omega arith)
 three_ways (suc d) zero = inr (inr (omega arith))

@@ -61,13 +61,13 @@ lines_split reads i (m ∷ ms) (n ∷ ns) x y fit fits long e =
 -- ---- the first line
 
 -- it without its end
-abbrev count : ℕ → List ℕ
+abbrev pub count : ℕ → List ℕ
 count n = codes "plan " ++ decimal n
 
-count_is_one : (n : ℕ) → IsOneLine (count n)
+pub count_is_one : (n : ℕ) → IsOneLine (count n)
 count_is_one n = one_line-append (codes "plan ") (decimal n) (omega arith, (omega arith, (omega arith, (omega arith, (omega arith, tt))))) (decimal_is_one_line n)
 
-counted : (ms : List Move) (x : List ℕ) → plan_text ms ++ x ≡ count (length ms) ++ 10 ∷ (plan_lines 1 ms ++ x)
+pub counted : (ms : List Move) (x : List ℕ) → plan_text ms ++ x ≡ count (length ms) ++ 10 ∷ (plan_lines 1 ms ++ x)
 counted ms x = append_assoc (count_line (length ms)) (plan_lines 1 ms) x ∙ append_assoc (count (length ms)) (10 ∷ []) (plan_lines 1 ms ++ x)
 
 heads_split : (ms ns : List Move) (x y : List ℕ) → plan_text ms ++ x ≡ plan_text ns ++ y

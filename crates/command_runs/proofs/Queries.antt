@@ -1,11 +1,12 @@
 -- What a command that does no plan was asked, and what it printed: nothing is acknowledged.
-use Rattle.std.proofs.Common.{◌≡◌, ◌≤◌, ◌<◌, ◌^◌, ◌⊎◌, inl, inr, ℕ, List, [], ◌∷◌, ◌++◌, length, append-nil, Option, Some, None, Ok, refl, sym, ap, ◌∙◌, subst, arith}
-use Rattle.std.specs.FinMap.{get, keys}
+use Rattle.std.proofs.Common.{◌≡◌, ◌≤◌, ◌<◌, ◌^◌, ◌⊎◌, inl, inr, ℕ, List, [], ◌∷◌, ◌++◌, Bool, true, false, length, append-nil, Option, Some, None, Ok, refl, sym, ap, ◌∙◌, subst, arith}
+use Rattle.std.specs.FinMap.{get}
 use Rattle.host_core.specs.Counts.{Counts}
 use Rattle.host_core.specs.State.{State}
 use Rattle.json.specs.Layout.{pretty_from}
 use Rattle.conf_doc.specs.Texts.{file_text}
 use Rattle.conf_doc.specs.declared.configuration.Config.{Config}
+use Rattle.checkpoints.specs.Numbers.{is_full, numbered_points}
 use Rattle.checkpoints.specs.Points.{Held, points}
 use Rattle.move_core.specs.Operations.{plan_text}
 use Rattle.move_core.specs.declared.moves.Move.{Move}
@@ -31,8 +32,8 @@ use Rattle.command_runs.proofs.Budgets.{IsBudgeted}
 use Rattle.command_runs.proofs.CompactTold.{heads, tails}
 use Rattle.command_runs.proofs.Fitting.{way_fits}
 use Rattle.command_runs.proofs.LastLines.{last_line_is_quiet}
-use Rattle.command_runs.proofs.PointNames.{lines_have_none}
-use Rattle.command_runs.proofs.WorksTold.{HasNone, front_of_plan, none_in_front, quiet_has_none, unplanned}
+use Rattle.command_runs.proofs.PointNames.{points_have_no_steps}
+use Rattle.command_runs.proofs.WorksTold.{HasNoSteps, HasNone, front_of_no_steps, front_of_plan, none_in_front, quiet_has_none, unplanned}
 
 -- ---- what is asked
 
@@ -40,7 +41,7 @@ use Rattle.command_runs.proofs.WorksTold.{HasNone, front_of_plan, none_in_front,
 pub data Query (s : State) : Request → Type 0 where
   previews : (c : Config) → Query s (request.preview c)
   checks : Query s request.check
-  lists : Query s (request.list_checkpoints (keys (points s.files)))
+  lists : Query s (request.list_checkpoints (numbered_points s.files))
   saves : (name : List ℕ) (c : Config) → Query s (request.save_checkpoint name c)
   deletes : (name : List ℕ) → Query s (request.delete_checkpoint name)
   plans : (p : Planning) → p.budget ≤ most_budget → Query s (request.plan p)
@@ -60,9 +61,10 @@ abbrev pub IsNoChange : Option Form → Type 0
 IsNoChange (Some (forms.change target budget)) = ⊥
 IsNoChange other = Unit {0}
 
-saved : (s : State) (name : List ℕ) (c : Config) (r : Request) (o : Option Held) → absent_answer name c o ≡ Ok r → Query s r
-saved s name c r None e = let same : request.save_checkpoint name c ≡ r = cc in subst (Query s) same (saves name c)
-saved s name c r (Some held) e = absurd cc
+saved : (s : State) (name : List ℕ) (c : Config) (r : Request) (full : Bool) (o : Option Held) → absent_answer name c full o ≡ Ok r → Query s r
+saved s name c r false None e = let same : request.save_checkpoint name c ≡ r = cc in subst (Query s) same (saves name c)
+saved s name c r true None e = absurd cc
+saved s name c r full (Some held) e = absurd cc
 
 deleted : (s : State) (name : List ℕ) (r : Request) (o : Option Held) → map_ok request.delete_checkpoint (there_answer name o) ≡ Ok r → Query s r
 deleted s name r None e = absurd cc
@@ -77,13 +79,13 @@ query_given (Some forms.check) none few s r (inl never) = absurd never
 query_given (Some forms.check) none few s r (inr (models, g, inl never)) = absurd never
 query_given (Some forms.check) none few s r (inr (models, g, inr (start, h, judged))) = subst (Query s) (sym judged.1) checks
 query_given (Some forms.list_checkpoints) none few s r e =
-    let same : request.list_checkpoints (keys (points s.files)) ≡ r = cc in subst (Query s) same lists
+    let same : request.list_checkpoints (numbered_points s.files) ≡ r = cc in subst (Query s) same lists
 query_given (Some (forms.save_checkpoint word)) none few s r (inl never) = absurd never
 query_given (Some (forms.save_checkpoint word)) none few s r (inr (name, g, inl never)) = absurd never
 query_given (Some (forms.save_checkpoint word)) none few s r (inr (name, g, inr (u, h, inl never))) = absurd never
 query_given (Some (forms.save_checkpoint word)) none few s r (inr (name, g, inr (u, h, inr (q, k, inl never)))) = absurd never
 query_given (Some (forms.save_checkpoint word)) none few s r (inr (name, g, inr (u, h, inr (q, k, inr (start, l, e))))) =
-    saved s name start r (get (points s.files) name) e
+    saved s name start r (is_full s.files) (get (points s.files) name) e
 query_given (Some (forms.delete_checkpoint word)) none few s r (inl never) = absurd never
 query_given (Some (forms.delete_checkpoint word)) none few s r (inr (name, g, inl never)) = absurd never
 query_given (Some (forms.delete_checkpoint word)) none few s r (inr (name, g, inr (u, h, e))) =
@@ -100,16 +102,18 @@ query_given (Some (forms.demo seed ports)) none few s r (inr (p, g, e)) =
 
 -- ---- what is printed
 
--- no plan, or the text of one with a last line behind it
+-- no plan, the text of one with a last line behind it, or at most the empty one
 abbrev Told : List ℕ → Type 0
 Told text =
     HasNone text
-    ⊎ ((ms : List Move) × FitTheirPlaces ms × (length ms < 2 ^ 64) × (text ≡ plan_text ms ++ last_line Done))
+    ⊎ (((ms : List Move) × FitTheirPlaces ms × (length ms < 2 ^ 64) × (text ≡ plan_text ms ++ last_line Done))
+    ⊎ HasNoSteps text)
 
 -- its front acknowledges nothing
 told_front : (part rest : List ℕ) → Told (part ++ rest) → (ms : List Move) × IsWork part ms 0
 told_front part rest (inl none) = ([], unplanned part (none_in_front part rest none))
-told_front part rest (inr (ms, fit, few, e)) = front_of_plan ms (last_line Done) part rest (last_line_is_quiet Done) fit few e
+told_front part rest (inr (inr few)) = front_of_no_steps part rest few
+told_front part rest (inr (inl (ms, fit, few, e))) = front_of_plan ms (last_line Done) part rest (last_line_is_quiet Done) fit few e
 
 last_told : (text : List ℕ) (e : Outcome) → text ≡ last_line e → Told text
 last_told text e is = inl (quiet_has_none text (subst Quiet (sym is) (last_line_is_quiet e)))
@@ -130,10 +134,10 @@ query_told s _ text (previews c) out =
     let h = brace_first c (last_line Done) in
     inl (quiet_has_none text (subst Quiet (sym (out ∙ h.1)) (acked.other 123 h.0 (omega arith) (omega arith))))
 query_told s _ text checks out = last_told text Done out
-query_told s _ text lists out = inl (subst HasNone (sym out) (lines_have_none s.files (last_line Done) (last_line_is_quiet Done)))
+query_told s _ text lists out = inr (inr (subst HasNoSteps (sym out) (points_have_no_steps s.files)))
 query_told s _ text (saves name c) out = last_told text Done out
 query_told s _ text (deletes name) out = last_told text Done out
-query_told s _ text (plans p few) (ms, is, e) = inr (ms, plan_fits p ms is, plan_is_short p ms few is, e)
+query_told s _ text (plans p few) (ms, is, e) = inr (inl (ms, plan_fits p ms is, plan_is_short p ms few is, e))
 query_told s _ text (demos p ports) (ms, is, e) =
     inl (λ ns (rest, same).
     let twice : 111 ≡ 108 = heads 111 108 _ _ (tails 112 112 _ _ (sym e ∙ same)) in omega (arith, twice))

@@ -1,11 +1,12 @@
 -- What a command did of a plan is told by what it printed: there is one such plan, and one number.
-use Rattle.std.proofs.Common.{◌≡◌, ◌<◌, ◌^◌, ◌⊎◌, inl, inr, ℕ, List, [], ◌∷◌, ◌++◌, length, append-nil, append_assoc, refl, sym, ap, ◌∙◌, subst}
+use Rattle.std.proofs.Common.{◌≡◌, ◌<◌, ◌^◌, ◌⊎◌, inl, inr, ℕ, List, [], ◌∷◌, ◌++◌, length, append-nil, append_assoc, refl, sym, ap, ◌∙◌, subst, arith}
 use Rattle.host_core.specs.State.{IsFront}
 use Rattle.move_core.specs.Operations.{plan_text}
 use Rattle.move_core.specs.declared.moves.Move.{Move}
+use Rattle.change_apply.specs.Acknowledgements.{ack}
 use Rattle.command_runs.specs.Works.{AreAcknowledged, FitTheirPlaces, IsWork}
-use Rattle.command_runs.proofs.Acked.{Quiet, acknowledged_is_one, acknowledged_by, not_empty, other, quiet_front, silent}
-use Rattle.command_runs.proofs.CompactTold.{heads}
+use Rattle.command_runs.proofs.Acked.{Quiet, acknowledged_is_one, acknowledged_by, not_empty, other, quiet_front, silent, three_ways}
+use Rattle.command_runs.proofs.CompactTold.{heads, tails}
 use Rattle.command_runs.proofs.MovesTold.{ReadsTokens}
 use Rattle.command_runs.proofs.PlanLines.{front_has_no_plan, plans_split}
 
@@ -36,6 +37,54 @@ none_in_front part rest none ms (more, e) =
 pub quiet_has_none : (text : List ℕ) → Quiet text → HasNone text
 quiet_has_none [] silent ms (rest, e) = not_empty 112 _ e
 quiet_has_none (c ∷ text) (other _ _ n m) ms (rest, e) = n (heads c 112 text _ e)
+
+-- ---- a text that may begin with the empty plan
+
+-- at whose head no plan with a step stands, and behind the empty one no acknowledgement
+pub record HasNoSteps (text : List ℕ) : Type 0 where
+  pub none : (m : Move) (ms : List Move) → ¬ IsFront (plan_text (m ∷ ms)) text
+  pub quiet : (rest : List ℕ) → text ≡ plan_text [] ++ rest → ¬ IsFront (ack 1) rest
+
+-- a text begins with another one, or it doesn't
+begins : (a t : List ℕ) → ((x : List ℕ) × (t ≡ a ++ x)) ⊎ ((x : List ℕ) → t ≡ a ++ x → ⊥)
+begins [] t = inl (t, refl)
+begins (c ∷ a) [] = inr (λ x e. not_empty c (a ++ x) e)
+begins (c ∷ a) (d ∷ t) = by (three_ways c d) (begins a t)
+  where
+    by : (c < d) ⊎ ((c ≡ d) ⊎ (d < c)) → ((x : List ℕ) × (t ≡ a ++ x)) ⊎ ((x : List ℕ) → t ≡ a ++ x → ⊥)
+        → ((x : List ℕ) × (d ∷ t ≡ (c ∷ a) ++ x)) ⊎ ((x : List ℕ) → d ∷ t ≡ (c ∷ a) ++ x → ⊥)
+    by (inl lt) rest = inr (λ x e. let same = heads d c t (a ++ x) e in absurd (omega (arith, lt, same)))
+    by (inr (inl same)) (inl (x, e)) = inl (x, λ i. sym same i ∷ e i)
+    by (inr (inl same)) (inr none) = inr (λ x e. none x (tails d c t (a ++ x) e))
+    by (inr (inr gt)) rest = inr (λ x e. let same = heads d c t (a ++ x) e in absurd (omega (arith, gt, same)))
+
+-- a front of it acknowledges nothing
+pub front_of_no_steps : (part rest : List ℕ) → HasNoSteps (part ++ rest) → (ms : List Move) × IsWork part ms 0
+front_of_no_steps part rest few = by (begins (plan_text []) part)
+  where
+    by : ((x : List ℕ) × (part ≡ plan_text [] ++ x)) ⊎ ((x : List ℕ) → part ≡ plan_text [] ++ x → ⊥) → (ms : List Move) × IsWork part ms 0
+    by (inl (x, e)) = (
+      [],
+      inl (record {
+        fit = tt;
+        few = omega arith;
+        rest = x;
+        begins = e;
+        acknowledged = record {
+          rest = x;
+          begins = refl;
+          no_more = λ (more, is).
+              few.quiet (x ++ rest) (ap (λ (t : List ℕ). t ++ rest) e ∙ append_assoc (plan_text []) x rest)
+              (more ++ rest, ap (λ (t : List ℕ). t ++ rest) is ∙ append_assoc (ack 1) more rest);
+        };
+      }),
+    )
+    by (inr isnt) = ([], unplanned part none)
+      where
+        none : HasNone part
+        none [] (more, e) = isnt more e
+        none (m ∷ ms) (more, e) =
+            few.none m ms (more ++ rest, ap (λ (t : List ℕ). t ++ rest) e ∙ append_assoc (plan_text (m ∷ ms)) more rest)
 
 nothing_more : (more rest : List ℕ) → more ++ rest ≡ [] → rest ≡ []
 nothing_more [] rest e = e

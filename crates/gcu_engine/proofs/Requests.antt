@@ -1,11 +1,12 @@
 -- What a form requests, where nothing stands against it.
 use Rattle.std.proofs.Common.{◌≡◌, inl, inr, ℕ, List, refl, sym, subst, Bool, true, false, if◌then◌else◌, Option, Some, None, Result, Ok, Err}
-use Rattle.std.specs.FinMap.{get, keys}
+use Rattle.std.specs.FinMap.{get}
 use Rattle.host_core.specs.Answers.{map_ok}
 use Rattle.host_core.specs.State.{State, printed}
 use Rattle.conf_doc.specs.declared.configuration.Config.{Config}
 use Rattle.conf_store.specs.Stored.{stored}
 use Rattle.checkpoints.specs.Names.{is_good_name}
+use Rattle.checkpoints.specs.Numbers.{is_full, numbered_points}
 use Rattle.checkpoints.specs.Points.{Held, points}
 use Rattle.move_core.specs.declared.contexts.Ctx.{Ctx}
 use Rattle.gcu_demo.specs.Demo as generated
@@ -59,7 +60,7 @@ IsRequestOf (Some (forms.save_checkpoint name)) s r = (c : Config) × (stored s.
 IsRequestOf (Some (forms.delete_checkpoint name)) s r = request.delete_checkpoint name ≡ r
 IsRequestOf (Some (forms.preview path)) s r = (c : Config) × (request.preview c ≡ r)
 IsRequestOf (Some forms.check) s r = request.check ≡ r
-IsRequestOf (Some forms.list_checkpoints) s r = (names : List (List ℕ)) × (request.list_checkpoints names ≡ r)
+IsRequestOf (Some forms.list_checkpoints) s r = (all : List (List ℕ × Option ℕ)) × (request.list_checkpoints all ≡ r)
 IsRequestOf None s r = ⊥
 
 request_is : (q r : Request) (x : Result Request Outcome) → x ≡ Ok q → x ≡ Ok r → q ≡ r
@@ -82,9 +83,10 @@ demo_given seed ports s r (inr (p, inr (ctx, read, given), e)) =
     let (context, start, goal) = generated_is seed ports ctx s p (context_in s ctx read) given in
     (p, context, start, goal, request_is (request.demo p ports) r _ refl e)
 
-saved_is : (name : List ℕ) (config : Config) (o : Option Held) (r : Request) → absent_answer name config o ≡ Ok r → request.save_checkpoint name config ≡ r
-saved_is name config None r e = request_is (request.save_checkpoint name config) r _ refl e
-saved_is name config (Some held) r e = absurd cc
+saved_is : (name : List ℕ) (config : Config) (full : Bool) (o : Option Held) (r : Request) → absent_answer name config full o ≡ Ok r → request.save_checkpoint name config ≡ r
+saved_is name config false None r e = request_is (request.save_checkpoint name config) r _ refl e
+saved_is name config true None r e = absurd cc
+saved_is name config full (Some held) r e = absurd cc
 
 deleted_is : (name : List ℕ) (o : Option Held) (r : Request) → map_ok request.delete_checkpoint (there_answer name o) ≡ Ok r → request.delete_checkpoint name ≡ r
 deleted_is name None r e = absurd cc
@@ -103,7 +105,7 @@ save_given word s r (inr (name, named, inr (u, settles, inr (q, checks, inr (sta
     let same = name_of (is_good_name word) word name named in (
       start,
       stored_from (stored s.files) start there,
-      subst (λ (n : List ℕ). request.save_checkpoint n start ≡ r) (sym same) (saved_is name start (get (points s.files) name) r e),
+      subst (λ (n : List ℕ). request.save_checkpoint n start ≡ r) (sym same) (saved_is name start (is_full s.files) (get (points s.files) name) r e),
     )
 
 delete_given : (word : List ℕ) (s : State) (r : Request) → (delete_asked word s).Gives (Ok r) → IsRequestOf (Some (forms.delete_checkpoint word)) s r
@@ -131,5 +133,5 @@ requested (Some (forms.save_checkpoint name)) s r given = save_given name s r gi
 requested (Some (forms.delete_checkpoint name)) s r given = delete_given name s r given
 requested (Some (forms.preview path)) s r given = preview_given path s r given
 requested (Some forms.check) s r given = check_given s r given
-requested (Some forms.list_checkpoints) s r e = (keys (points s.files), request_is (request.list_checkpoints (keys (points s.files))) r _ refl e)
+requested (Some forms.list_checkpoints) s r e = (numbered_points s.files, request_is (request.list_checkpoints (numbered_points s.files)) r _ refl e)
 requested None s r e = absurd cc

@@ -1,11 +1,13 @@
 -- A checkpoint that is saved: what is found, and when it is right to save it.
-use Rattle.std.proofs.Common.{◌≡◌, ◌⊎◌, ◌++◌, ◌∷◌, inl, inr, true, false, List, ℕ, [], refl, sym, ap, subst, Option, Some, None, Result, Ok, Err, IfSome, option_map}
+use Rattle.std.proofs.Common.{◌≡◌, ◌⊎◌, ◌++◌, ◌∷◌, inl, inr, Bool, true, false, List, ℕ, [], refl, sym, ap, subst, Option, Some, None, Result, Ok, Err, IfSome, option_map}
 use Rattle.std.specs.Prelude.{IsSome}
 use Rattle.std.specs.FinMap.{get}
 use Rattle.host_core.specs.State.{State, settled, with_pending}
 use Rattle.conf_doc.specs.declared.configuration.Config.{Config}
+use Rattle.checkpoints.specs.Answers.{IsInTheWay}
 use Rattle.checkpoints.specs.Changes.{IsSaved, IsSavedOrNot}
 use Rattle.checkpoints.specs.Names.{is_good_name}
+use Rattle.checkpoints.specs.Numbers.{is_full}
 use Rattle.checkpoints.specs.Points.{Held, points}
 use Rattle.gcu_output.specs.declared.outcomes.Outcome.{Outcome}
 use Rattle.gcu_output.specs.declared.outcomes.Outcome.TheVariants.{BadName, DiskFault}
@@ -107,21 +109,21 @@ settling_reads (Some s) name good = rw good (inr (name, refl, inl (inl refl)))
 
 -- ---- what may be saved
 
--- it is right to save a checkpoint that isn't there
+-- it is right to save a checkpoint that isn't there, where a number is left
 saving_given : (name : List ℕ) (config : Config) (s : State) → is_good_name name ≡ true
-    → (check_asked s).Gives (Ok request.check) → (stored_asked s).Gives (Ok config) → get (points s.files) name ≡ None
+    → (check_asked s).Gives (Ok request.check) → (stored_asked s).Gives (Ok config) → is_full s.files ≡ false → get (points s.files) name ≡ None
     → (save_asked name s).Gives (Ok (request.save_checkpoint name config))
-saving_given name config s good valid there absent =
-    rw good (inr (name, refl, inr (tt, refl, inr (request.check, valid, inr (config, there, ap (λ o. absent_answer name config o) absent)))))
+saving_given name config s good valid there room absent =
+    rw good (inr (name, refl, inr (tt, refl, inr (request.check, valid, inr (config, there, λ i. absent_answer name config (room i) (absent i))))))
 
--- it is right to save it, or what holds where one is there
+-- it is right to save it, or what holds where something is in the way
 pub may_save : (o mid : Option State) (name : List ℕ) (config : Config) (Nothing : Type 0) → is_good_name name ≡ true → mid ≡ option_map (with_pending settled) o
     → Finds {X = Config} mid (λ c. request.check) (Ok config) check_asked → Finds {X = Config} mid (λ c. config) (Ok config) stored_asked
-    → IfSome mid (λ t. IsSome (get (points t.files) name) → Nothing)
+    → IfSome mid (λ t. IsInTheWay name t.files → Nothing)
     → IfSome o (λ s. (save_asked name s).Gives (Ok (request.save_checkpoint name config)) ⊎ Nothing)
 may_save None mid name config Nothing good is valid there reads = tt
 may_save (Some s) mid name config Nothing good is valid there reads =
-    by (get (points s.files) name) refl (subst (λ m. IfSome m (λ t. IsSome (get (points t.files) name) → Nothing)) is reads)
+    by (get (points s.files) name) refl (is_full s.files) refl (subst (λ m. IfSome m (λ t. IsInTheWay name t.files → Nothing)) is reads)
   where
     checked : (check_asked s).Gives (Ok request.check)
     checked = subst (λ a. a.Gives (Ok request.check)) (check_settled s) (subst (λ m. Finds {X = Config} m (λ c. request.check) (Ok config) check_asked) is valid).gives
@@ -129,7 +131,8 @@ may_save (Some s) mid name config Nothing good is valid there reads =
     stood : (stored_asked s).Gives (Ok config)
     stood = (subst (λ m. Finds {X = Config} m (λ c. config) (Ok config) stored_asked) is there).gives
 
-    by : (o : Option Held) → get (points s.files) name ≡ o → (IsSome (get (points s.files) name) → Nothing)
+    by : (o : Option Held) → get (points s.files) name ≡ o → (full : Bool) → is_full s.files ≡ full → (IsInTheWay name s.files → Nothing)
         → (save_asked name s).Gives (Ok (request.save_checkpoint name config)) ⊎ Nothing
-    by None absent reads = inl (saving_given name config s good checked stood absent)
-    by (Some held) is reads = inr (reads (subst (λ o. IsSome o) (sym is) refl))
+    by None absent false room reads = inl (saving_given name config s good checked stood room absent)
+    by None absent true full reads = inr (reads (inr full))
+    by (Some held) is full room reads = inr (reads (inl (subst (λ o. IsSome o) (sym is) refl)))

@@ -10,7 +10,7 @@ use Rattle.move_core.specs.Operations.{plan_text}
 use Rattle.move_core.specs.declared.moves.Move.{Move}
 use Rattle.change_apply.specs.Change.{name_at}
 use Rattle.change_apply.specs.declared.errors.ApplyFault.TheVariants.{Disk, Service}
-use Rattle.gcu_output.specs.Lines.{last_line, lines, service_line}
+use Rattle.gcu_output.specs.Lines.{last_line, service_line}
 use Rattle.gcu_output.specs.declared.outcomes.Outcome.{Outcome}
 use Rattle.gcu_output.specs.declared.outcomes.Outcome.TheVariants.{Done, Memory, Usage, InputFault, DiskFault, PrintFault, ServiceFault, Unorderable, Budget}
 use Rattle.gcu_requests.specs.Asked.{asked}
@@ -18,6 +18,7 @@ use Rattle.gcu_requests.specs.Asking.{Asking, an_input, a_file, a_settling}
 use Rattle.gcu_requests.specs.Request.{Planning, Request, change, delete_checkpoint, demo, list_checkpoints, plan, preview, check, save_checkpoint}
 use Rattle.gcu_engine.specs.Changing.{AreAcknowledged, IsChanged, IsCutShort, IsHalted}
 use Rattle.gcu_engine.specs.Plannings.{IsPlanFor, IsUnsolved}
+use Rattle.gcu_engine.specs.PointLines.{point_lines}
 use Rattle.gcu_engine.specs.Summary.{summary}
 
 -- a fault is told only where its count rose
@@ -68,7 +69,7 @@ IsStopped asking step before now =
 -- change printed before its last line is there already
 abbrev pub done_output : Request → List ℕ
 done_output (preview c) = file_text c ++ last_line Done
-done_output (list_checkpoints names) = lines names ++ last_line Done
+done_output (list_checkpoints all) = point_lines all ++ last_line Done
 done_output check = last_line Done
 done_output (save_checkpoint name config) = last_line Done
 done_output (delete_checkpoint name) = last_line Done
@@ -160,7 +161,7 @@ IsRefusal other = ⊤
 -- the answers to a request where nothing failed, but for want of memory
 abbrev pub Finishes : Request → Outcome → Type 0
 Finishes (preview c) result = result ≡ Done
-Finishes (list_checkpoints names) result = result ≡ Done
+Finishes (list_checkpoints all) result = result ≡ Done
 Finishes check result = result ≡ Done
 Finishes (save_checkpoint name config) result = result ≡ Done
 Finishes (delete_checkpoint name) result = result ≡ Done

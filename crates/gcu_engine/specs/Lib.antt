@@ -5,6 +5,7 @@ pub mod Contents
 pub mod Crashes
 pub mod Headline
 pub mod Plannings
+pub mod PointLines
 pub mod Summary
 -- what only private clauses cite
 pub mod Commands

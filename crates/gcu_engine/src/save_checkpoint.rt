@@ -1,14 +1,13 @@
 //! `gcu checkpoint NAME`: one checkpoint more.
-ghost use Rattle.std.specs.Prelude.{◌≡◌, ◌≤◌, true, IfErr, IfSome, IsSome, OnOk};
-ghost use Rattle.std.specs.FinMap.{get};
+ghost use Rattle.std.specs.Prelude.{◌≡◌, ◌≤◌, true, IfErr, IfSome, OnOk};
 ghost use Rattle.host_core.specs.Counts.{DiskMayRise, NoneFell};
 ghost use Rattle.host_core.specs.Crashes.{LeavesOnly};
 ghost use Rattle.host_core.specs.Names.{longest_scoped_name};
 ghost use Rattle.conf_store.specs.Changes.{AreLeft, IsSettled, Settles};
 ghost use Rattle.conf_store.specs.Reads.{OnlyReads};
+ghost use Rattle.checkpoints.specs.Answers.{IsInTheWay};
 ghost use Rattle.checkpoints.specs.Changes.{IsSaved, IsSavedOrNot};
 ghost use Rattle.checkpoints.specs.Names.{is_good_name as is_name};
-ghost use Rattle.checkpoints.specs.Points.{points};
 ghost use Rattle.gcu_output.specs.Printing.{outcome_of};
 ghost use Rattle.gcu_output.specs.declared.outcomes.Outcome.TheVariants.{Usage as usage};
 ghost use Rattle.gcu_requests.specs.Asked.{absent_asked, save_asked};
@@ -84,7 +83,7 @@ fn save_config<H: Host>(
         (Settles (IsSaved name.now config.now) (H.told host.old) (H.told host.new)) }
     ensures err { IfErr result
         (LeavesRefused (IsSavedOrNot name.now config.now) (H.told host.old) (H.told host.new)) }
-    ensures only_reads { IfSome (H.told host.old) (λ s. IsSome (get (points s.files) name.now)
+    ensures only_reads { IfSome (H.told host.old) (λ s. IsInTheWay name.now s.files
         → OnlyReads H.told H.counts H.moment H.left_since H.goes_on host.old host.new) }
     ensures any_moment { IfSome (H.told host.old)
         (λ s. LeavesOnly H.moment H.left_since host.old host.new
@@ -100,6 +99,7 @@ fn save_config<H: Host>(
             let name = name.copy(alloc)?;
             Err(Outcome::CheckpointExists { name })
         }
+        Err(PointError::Full) => Err(Outcome::SequenceFull),
         Err(PointError::Disk) => Err(Outcome::DiskFault { step: 0 }),
         Err(PointError::Memory) => Err(Outcome::Memory),
         Err(_) => unreachable!(),

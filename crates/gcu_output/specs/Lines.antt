@@ -15,7 +15,7 @@ use Rattle.move_core.specs.declared.errors.RulesWhy.TheVariants as rules_file
 use Rattle.yang_text.specs.declared.errors.ModelWhy.{ModelWhy}
 use Rattle.yang_text.specs.declared.errors.ModelWhy.TheVariants as models
 use Rattle.gcu_output.specs.declared.outcomes.Outcome.{Outcome}
-use Rattle.gcu_output.specs.declared.outcomes.Outcome.TheVariants.{Done, Memory, Usage, InputFault, DiskFault, PrintFault, ServiceFault, NoInput, TooBig, BadJson, BadConfig, BadModels, BadRules, BadPatch, PatchFailed, TargetShape, CurrentInvalid, TargetInvalid, NoModel, EmptyTable, Unorderable, Budget, NoCheckpoint, CheckpointExists, BadName, BadStored, Interrupted, NoIntent, BadIntent}
+use Rattle.gcu_output.specs.declared.outcomes.Outcome.TheVariants.{Done, Memory, Usage, InputFault, DiskFault, PrintFault, ServiceFault, NoInput, TooBig, BadJson, BadConfig, BadModels, BadRules, BadPatch, PatchFailed, TargetShape, CurrentInvalid, TargetInvalid, NoModel, EmptyTable, Unorderable, Budget, NoCheckpoint, CheckpointExists, BadName, BadStored, Interrupted, NoIntent, BadIntent, SequenceFull}
 use Rattle.gcu_output.specs.declared.outcomes.PointWhy.{PointWhy}
 use Rattle.gcu_output.specs.declared.outcomes.PointWhy.TheVariants as point
 
@@ -50,6 +50,7 @@ number (BadStored why) = 25
 number Interrupted = 26
 number NoIntent = 27
 number BadIntent = 28
+number SequenceFull = 29
 
 -- what is wrong with an operation
 abbrev pub patch_why : PatchWhy → List ℕ
@@ -168,6 +169,7 @@ said (BadStored why) = codes "bad stored " ++ stored_why why
 said Interrupted = codes "interrupted"
 said NoIntent = codes "no intent"
 said BadIntent = codes "bad intent"
+said SequenceFull = codes "sequence full"
 
 -- each text as a line
 abbrev pub lines : List (List ℕ) → List ℕ

@@ -136,6 +136,7 @@ fn said(alloc: Global, outcome: &Outcome) -> Result<String, AllocError>
         Outcome::Interrupted => String::from_str(alloc, "interrupted"),
         Outcome::NoIntent => String::from_str(alloc, "no intent"),
         Outcome::BadIntent => String::from_str(alloc, "bad intent"),
+        Outcome::SequenceFull => String::from_str(alloc, "sequence full"),
     }
 }
 

@@ -80,6 +80,8 @@ pub enum Outcome {
     NoIntent,
     /// The file of a change that was stopped holds no configuration.
     BadIntent,
+    /// The greatest sequence number of checkpoints is taken.
+    SequenceFull,
 }
 
 impl Outcome {
@@ -117,6 +119,7 @@ impl Outcome {
             Outcome::Interrupted => 26,
             Outcome::NoIntent => 27,
             Outcome::BadIntent => 28,
+            Outcome::SequenceFull => 29,
         }
     }
 }

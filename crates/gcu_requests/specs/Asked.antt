@@ -1,12 +1,13 @@
 -- What words ask of a host that tells its state: the first refusal in its order, or the request.
-use Rattle.std.specs.Prelude.{ℕ, List, Option, Some, None, Result, Ok, Err}
-use Rattle.std.specs.FinMap.{get, keys}
+use Rattle.std.specs.Prelude.{ℕ, List, Bool, true, false, Option, Some, None, Result, Ok, Err}
+use Rattle.std.specs.FinMap.{get}
 use Rattle.host_core.specs.Answers.{map_ok}
 use Rattle.host_core.specs.State.{State}
 use Rattle.conf_doc.specs.declared.configuration.Config.{Config}
+use Rattle.checkpoints.specs.Numbers.{is_full, numbered_points}
 use Rattle.checkpoints.specs.Points.{Held, points}
 use Rattle.gcu_output.specs.declared.outcomes.Outcome.{Outcome}
-use Rattle.gcu_output.specs.declared.outcomes.Outcome.TheVariants.{Usage, NoCheckpoint, CheckpointExists}
+use Rattle.gcu_output.specs.declared.outcomes.Outcome.TheVariants.{Usage, NoCheckpoint, CheckpointExists, SequenceFull}
 use Rattle.gcu_output.specs.declared.outcomes.PointWhy.TheVariants as why
 use Rattle.gcu_requests.specs.Asking.{Asking, a_file, asks, follows, settles_first, ◌>>>◌}
 use Rattle.gcu_requests.specs.ChangeAsked.{change_asked}
@@ -34,15 +35,16 @@ there_asked name s =
     uninterrupted s >>> λ _.
     asks a_file (map_ok request.delete_checkpoint (there_answer name (get (points s.files) name)))
 
--- a checkpoint that is there is refused, whatever it holds
-abbrev pub absent_answer : List ℕ → Config → Option Held → Result Request Outcome
-absent_answer name config None = Ok (request.save_checkpoint name config)
-absent_answer name config (Some held) = Err (CheckpointExists name)
+-- a checkpoint that is there is refused, whatever it holds, and then one that no number is left for
+abbrev pub absent_answer : List ℕ → Config → Bool → Option Held → Result Request Outcome
+absent_answer name config full (Some held) = Err (CheckpointExists name)
+absent_answer name config true None = Err SequenceFull
+absent_answer name config false None = Ok (request.save_checkpoint name config)
 
 -- a configuration is to be saved as the checkpoint of a name
 abbrev pub absent_asked : List ℕ → Config → State → Asking Request
 absent_asked name config s =
-    asks a_file (absent_answer name config (get (points s.files) name))
+    asks a_file (absent_answer name config (is_full s.files) (get (points s.files) name))
 
 -- ---- the commands
 
@@ -61,11 +63,11 @@ target_asked path s = uninterrupted s >>> λ _. patching_asked path s
 abbrev pub preview_asked : List ℕ → State → Asking Request
 preview_asked path s = target_asked path s >>> λ c. follows (Ok (request.preview c))
 
--- `list-checkpoints`: the names of all checkpoints
+-- `list-checkpoints`: the names of all checkpoints, with their numbers
 abbrev pub list_asked : State → Asking Request
 list_asked s =
     uninterrupted s >>> λ _.
-    asks a_file (Ok (request.list_checkpoints (keys (points s.files))))
+    asks a_file (Ok (request.list_checkpoints (numbered_points s.files)))
 
 -- `checkpoint NAME`: the name is looked at before the folder, and the stored configuration is to be valid
 abbrev pub save_asked : List ℕ → State → Asking Request

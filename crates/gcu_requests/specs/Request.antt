@@ -1,5 +1,5 @@
 -- What a command is to do, once nothing stands against it.
-use Rattle.std.specs.Prelude.{ℕ, List}
+use Rattle.std.specs.Prelude.{ℕ, List, Option}
 use Rattle.conf_doc.specs.declared.configuration.Config.{Config}
 use Rattle.move_core.specs.declared.contexts.Ctx.{Ctx}
 
@@ -22,8 +22,8 @@ pub data Request : Type 0 where
   preview : Config → Request
   -- nothing but to say that the stored configuration is valid
   check : Request
-  -- print these names of checkpoints
-  list_checkpoints : List (List ℕ) → Request
+  -- print these names of checkpoints, each with its number or that it has none
+  list_checkpoints : List (List ℕ × Option ℕ) → Request
   -- save this configuration as the checkpoint of this name
   save_checkpoint : List ℕ → Config → Request
   -- delete the checkpoint of this name

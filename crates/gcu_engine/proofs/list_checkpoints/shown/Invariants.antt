@@ -1,7 +1,8 @@
-use Rattle.std.proofs.Common.{◌≡◌, ◌++◌, drop}
-use Rattle.gcu_output.specs.Lines.{lines}
+use Rattle.std.proofs.Common.{◌≡◌, ◌++◌, drop, map}
+use Rattle.checkpoints.specs.Answers.{numbered_view}
+use Rattle.gcu_engine.specs.PointLines.{point_lines}
 use Rattle.gcu_engine.proofs.list_checkpoints.shown.Given as goal
 
 -- what is there and the lines that are left make all lines
-abbrev pub invariant-loop-name : goal.invariant-loop-name
-invariant-loop-name l = lines l.fn.names ≡ l.text.items ++ lines (drop l.name-index l.fn.names)
+abbrev pub invariant-loop-numbered : goal.invariant-loop-numbered
+invariant-loop-numbered l = point_lines (map numbered_view l.all) ≡ l.text.items ++ point_lines (map numbered_view (drop l.numbered-index l.all))

@@ -1,12 +1,10 @@
 use Rattle.std.proofs.Common.{◌≡◌, true, false, Ok, Err, rules, refl, subst, sym, ◌∙◌}
-use Rattle.std.specs.Prelude.{IsSome}
-use Rattle.std.specs.FinMap.{get}
 use Rattle.std.proofs.lemmas.Result.{err_from_is_err_and}
 use Rattle.host_core.specs.Crashes.{Elapses, MayLeaveNow}
 use Rattle.conf_store.specs.Reads.{OnlyReads}
+use Rattle.checkpoints.specs.Answers.{IsInTheWay}
 use Rattle.checkpoints.specs.Changes.{IsSaved, IsSavedOrNot}
 use Rattle.checkpoints.specs.Names.{is_good_name}
-use Rattle.checkpoints.specs.Points.{points}
 use Rattle.conf_doc.specs.declared.configuration.Config.{Config}
 use Rattle.gcu_output.specs.declared.outcomes.Outcome.TheVariants.{BadName, DiskFault}
 use Rattle.gcu_requests.specs.Asked.{save_asked}
@@ -96,8 +94,8 @@ returns-in_ok-config-in-Ok-clause-left g c =
     (settling_reads (g.H.Host.told c.args.host.now) c.args.name.now good)
     (may_save (g.H.Host.told c.args.host.now) (g.H.Host.told c.judge_stored.new.host) c.args.name.now config (g.H.Host.told c.save_config.new.host ≡ g.H.Host.told c.judge_stored.new.host) good is valid stood
     (of_some (g.H.Host.told c.judge_stored.new.host)
-    (λ s. IsSome (get (points s.files) c.args.name.now) → OnlyReads g.H.Host.told g.H.Host.counts g.H.Host.moment g.H.Host.left_since g.H.Host.goes_on c.judge_stored.new.host c.save_config.new.host)
-    (λ s. IsSome (get (points s.files) c.args.name.now) → g.H.Host.told c.save_config.new.host ≡ g.H.Host.told c.judge_stored.new.host)
+    (λ s. IsInTheWay c.args.name.now s.files → OnlyReads g.H.Host.told g.H.Host.counts g.H.Host.moment g.H.Host.left_since g.H.Host.goes_on c.judge_stored.new.host c.save_config.new.host)
+    (λ s. IsInTheWay c.args.name.now s.files → g.H.Host.told c.save_config.new.host ≡ g.H.Host.told c.judge_stored.new.host)
     (λ s h there. (h there).state) c.save_config.ensures.only_reads))
 
 pub returns-in_ok-config-in-Ok-clause-crash : goal.returns-in_ok-config-in-Ok-clause-crash
@@ -116,7 +114,7 @@ returns-in_ok-config-in-Ok-clause-crash g c =
     (may_save (g.H.Host.told c.args.host.now) (g.H.Host.told c.judge_stored.new.host) c.args.name.now config
     (Elapses g.H.Host.moment g.H.Host.left_since c.judge_stored.new.host c.save_config.new.host (MayLeaveNow (g.H.Host.told c.judge_stored.new.host))) good is valid stood
     (of_some (g.H.Host.told c.judge_stored.new.host)
-    (λ s. IsSome (get (points s.files) c.args.name.now) → OnlyReads g.H.Host.told g.H.Host.counts g.H.Host.moment g.H.Host.left_since g.H.Host.goes_on c.judge_stored.new.host c.save_config.new.host)
-    (λ s. IsSome (get (points s.files) c.args.name.now) → Elapses g.H.Host.moment g.H.Host.left_since c.judge_stored.new.host c.save_config.new.host (MayLeaveNow (g.H.Host.told c.judge_stored.new.host)))
+    (λ s. IsInTheWay c.args.name.now s.files → OnlyReads g.H.Host.told g.H.Host.counts g.H.Host.moment g.H.Host.left_since g.H.Host.goes_on c.judge_stored.new.host c.save_config.new.host)
+    (λ s. IsInTheWay c.args.name.now s.files → Elapses g.H.Host.moment g.H.Host.left_since c.judge_stored.new.host c.save_config.new.host (MayLeaveNow (g.H.Host.told c.judge_stored.new.host)))
     (λ s h there. (h there).time) c.save_config.ensures.only_reads))
     c.save_config.ensures.later

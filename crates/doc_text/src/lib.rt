@@ -1,0 +1,6 @@
+//! Documents as texts of lines.
+#![tactic(auto)]
+
+mod writing;
+
+pub use writing::pretty_bytes;
