@@ -1,13 +1,13 @@
 # Completions of gcu for bash: source this file, or put it where bash-completion looks.
 _gcu() {
     local word=${COMP_WORDS[COMP_CWORD]} command=${COMP_WORDS[1]} commands checkpoints
-    commands='check preview apply-patch replace rollback checkpoint list-checkpoints delete-checkpoint demo'
+    commands='check preview apply-patch replace rollback checkpoint list-checkpoints delete-checkpoint check-plan demo'
     if [ "$COMP_CWORD" = 1 ]; then
         mapfile -t COMPREPLY < <(compgen -W "$commands" -- "$word")
         return
     fi
     case $command,$COMP_CWORD in
-        preview,2 | apply-patch,2 | replace,2) mapfile -t COMPREPLY < <(compgen -f -- "$word") ;;
+        preview,2 | apply-patch,2 | replace,2 | check-plan,[23]) mapfile -t COMPREPLY < <(compgen -f -- "$word") ;;
         rollback,2 | delete-checkpoint,2)
             checkpoints=$(for it in *.cp.json; do [ -e "$it" ] && echo "${it%.cp.json}"; done)
             mapfile -t COMPREPLY < <(compgen -W "$checkpoints" -- "$word") ;;

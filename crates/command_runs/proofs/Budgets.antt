@@ -10,7 +10,7 @@ use Rattle.plan_options.specs.Demos.{demo_of, Demo}
 use Rattle.plan_options.specs.Options.{Options, budget_in, budget_word, dry_run_word, most_budget, options, with_budget}
 use Rattle.plan_options.specs.Targets.{Target, target_of}
 use Rattle.plan_options.specs.Words.{is_positional, is_word}
-use Rattle.gcu_requests.specs.Form.{Form, change, check, delete_checkpoint, demo, form, form_of_demo, form_of_plan, list_checkpoints, plan, planned, preview, save_checkpoint}
+use Rattle.gcu_requests.specs.Form.{Form, change, check, check_plan, delete_checkpoint, demo, form, form_of_check, form_of_demo, form_of_plan, list_checkpoints, plan, planned, preview, save_checkpoint}
 
 -- ---- options
 
@@ -90,6 +90,15 @@ demo_budgeted seed (ports ∷ []) = by (demo_of seed ports)
     by (Some d) = tt
 demo_budgeted seed (a ∷ b ∷ ws) = tt
 
+check_budgeted : (patch : List ℕ) (ws : List (List ℕ)) → IsBudgeted (form_of_check patch ws)
+check_budgeted patch [] = tt
+check_budgeted patch (saved ∷ []) = either_budgeted (is_positional patch && is_positional saved) (Some (check_plan patch saved)) None tt tt
+check_budgeted patch (a ∷ b ∷ ws) = tt
+
+-- the forms of three words or more that come after the first one
+abbrev checking : (a b : List ℕ) → List (List ℕ) → Option Form
+checking a b ws = cond (is_word a (codes "check-plan")) (form_of_check b ws) (form_of_plan a b ws)
+
 -- the forms of two words that come after the first one
 abbrev deleting : (a b : List ℕ) → Option Form
 deleting a b = cond (is_word a (codes "delete-checkpoint") && is_positional b) (Some (delete_checkpoint b)) (form_of_plan a b [])
@@ -107,4 +116,5 @@ form_is_budgeted (a ∷ b ∷ []) =
     (either_budgeted (is_word a (codes "checkpoint") && is_positional b) (Some (save_checkpoint b)) (deleting a b) tt
     (either_budgeted (is_word a (codes "delete-checkpoint") && is_positional b) (Some (delete_checkpoint b)) (form_of_plan a b []) tt (plan_budgeted a b [])))
 form_is_budgeted (a ∷ b ∷ c ∷ ws) =
-    either_budgeted (is_word a (codes "demo")) (form_of_demo b (c ∷ ws)) (form_of_plan a b (c ∷ ws)) (demo_budgeted b (c ∷ ws)) (plan_budgeted a b (c ∷ ws))
+    either_budgeted (is_word a (codes "demo")) (form_of_demo b (c ∷ ws)) (checking a b (c ∷ ws)) (demo_budgeted b (c ∷ ws))
+    (either_budgeted (is_word a (codes "check-plan")) (form_of_check b (c ∷ ws)) (form_of_plan a b (c ∷ ws)) (check_budgeted b (c ∷ ws)) (plan_budgeted a b (c ∷ ws)))

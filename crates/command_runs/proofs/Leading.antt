@@ -127,6 +127,7 @@ module _ (before : List Config) (s t : State) (output : List ℕ) (start : Confi
   left_of (Some (forms.plan from budget)) none left h = h
   left_of (Some (forms.change from budget)) none left h = absurd none
   left_of (Some (forms.demo seed ports)) none left h = h
+  left_of (Some (forms.check_plan patch plan)) none left h = h
 
   queries_lead : (now : Image s.pending s.files s.files) (o : Option Form) → IsNoChange o → IsBudgeted o → (old new : Counts) (e : Outcome)
       → Leaves (form_asked o s) s (Some t) old new e → ((left : Left) → MayLeave t left → LeftByForm o s left) → IsLed
@@ -172,6 +173,7 @@ promised_leads reads now before words s t output start stands all printed_is old
     by (Some (forms.change from budget)) few answers left =
         changes_lead before s t output start stands all printed_is reads (now t.pending t.files) from budget few left
     by (Some (forms.demo seed ports)) few answers left = query (Some (forms.demo seed ports)) tt few answers left
+    by (Some (forms.check_plan patch plan)) few answers left = query (Some (forms.check_plan patch plan)) tt few answers left
 
 -- ---- what is handed on
 

@@ -46,6 +46,7 @@ pub data Query (s : State) : Request → Type 0 where
   deletes : (name : List ℕ) → Query s (request.delete_checkpoint name)
   plans : (p : Planning) → p.budget ≤ most_budget → Query s (request.plan p)
   demos : (p : Planning) (ports : ℕ) → Query s (request.demo p ports)
+  accepts : (count : ℕ) → Query s (request.accept_plan count)
 
 -- a plan is asked for with the budget of the words
 pub planning_budget : (from : Target) (budget : ℕ) (s : State) (p : Planning) → (planning_asked from budget s).Gives (Ok p) → p.budget ≡ budget
@@ -99,6 +100,9 @@ query_given (Some (forms.change target budget)) none few s r g = absurd none
 query_given (Some (forms.demo seed ports)) none few s r (inl never) = absurd never
 query_given (Some (forms.demo seed ports)) none few s r (inr (p, g, e)) =
     let same : request.demo p ports ≡ r = cc in subst (Query s) same (demos p ports)
+query_given (Some (forms.check_plan patch plan)) none few s r (inl never) = absurd never
+query_given (Some (forms.check_plan patch plan)) none few s r (inr (p, g, inl never)) = absurd never
+query_given (Some (forms.check_plan patch plan)) none few s r (inr (p, g, inr (ms, h, accepted))) = subst (Query s) (sym accepted.1) (accepts (length ms))
 
 -- ---- what is printed
 
@@ -141,6 +145,7 @@ query_told s _ text (plans p few) (ms, is, e) = inr (inl (ms, plan_fits p ms is,
 query_told s _ text (demos p ports) (ms, is, e) =
     inl (λ ns (rest, same).
     let twice : 111 ≡ 108 = heads 111 108 _ _ (tails 112 112 _ _ (sym e ∙ same)) in omega (arith, twice))
+query_told s _ text (accepts count) out = inl (quiet_has_none text (subst Quiet (sym out) (acked.other 121 _ (omega arith) (omega arith))))
 
 -- ---- what is left before it
 
@@ -152,6 +157,7 @@ leaves_output s now _ (saves name c) h = ap (λ (t : State). t.output) h.1
 leaves_output s now _ (deletes name) h = ap (λ (t : State). t.output) h.1
 leaves_output s now _ (plans p few) h = ap (λ (t : State). t.output) h
 leaves_output s now _ (demos p ports) h = ap (λ (t : State). t.output) h
+leaves_output s now _ (accepts count) h = ap (λ (t : State). t.output) h
 
 stopped_output : (s now : State) (r : Request) (step : ℕ) → Query s r → LeavesStopped r step s now → now.output ≡ s.output
 stopped_output s now _ step (previews c) h = absurd h
@@ -161,6 +167,7 @@ stopped_output s now _ step (saves name c) h = h.1.output
 stopped_output s now _ step (deletes name) h = h.1.output
 stopped_output s now _ step (plans p few) h = absurd h
 stopped_output s now _ step (demos p ports) h = absurd h
+stopped_output s now _ step (accepts count) h = absurd h
 
 no_change : (s : State) (p : Planning) (r : Request) → r ≡ request.change p → Query s r → ⊥
 no_change s p _ e (previews c) = cc
@@ -170,6 +177,7 @@ no_change s p _ e (saves name c) = cc
 no_change s p _ e (deletes name) = cc
 no_change s p _ e (plans q few) = cc
 no_change s p _ e (demos q ports) = cc
+no_change s p _ e (accepts count) = cc
 
 module _ (s now : State) (asking : Asking Request) (query : (r : Request) → asking.Gives (Ok r) → Query s r) where
   untouched_output : IsUntouched asking s now → now.output ≡ s.output

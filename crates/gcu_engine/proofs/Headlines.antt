@@ -194,6 +194,7 @@ plans_print (Some forms.list_checkpoints) from s after old new result is h = abs
 plans_print (Some (forms.save_checkpoint name)) from s after old new result is h = absurd cc
 plans_print (Some (forms.delete_checkpoint name)) from s after old new result is h = absurd cc
 plans_print (Some (forms.demo seed ports)) from s after old new result is h = absurd cc
+plans_print (Some (forms.check_plan patch plan)) from s after old new result is h = absurd cc
 
 -- ---- no order
 
@@ -228,6 +229,7 @@ none_of (Some (forms.demo seed ports)) s r (p, read, start, goal, same) h = reco
 none_of (Some (forms.save_checkpoint name)) s r (c, there, same) h = absurd (unsolved (request.save_checkpoint name c) r same h)
 none_of (Some (forms.delete_checkpoint name)) s r same h = absurd (unsolved (request.delete_checkpoint name) r same h)
 none_of (Some (forms.preview path)) s r (c, same) h = absurd (unsolved (request.preview c) r same h)
+none_of (Some (forms.check_plan patch plan)) s r (count, same) h = absurd (unsolved (request.accept_plan count) r same h)
 none_of (Some forms.check) s r same h = absurd (unsolved request.check r same h)
 none_of (Some forms.list_checkpoints) s r (names, same) h = absurd (unsolved (request.list_checkpoints names) r same h)
 none_of None s r never h = absurd never
@@ -405,6 +407,7 @@ one_change (Some (forms.plan from budget)) s now r left files (p, is, same) h = 
 one_change (Some (forms.change from budget)) s now r left files (p, is, same) h = absurd (subst (λ (q : Request). LeftWriting q now left) (sym same) h)
 one_change (Some (forms.demo seed ports)) s now r left files (p, read, start, goal, same) h = absurd (subst (λ (q : Request). LeftWriting q now left) (sym same) h)
 one_change (Some (forms.preview path)) s now r left files (c, same) h = absurd (subst (λ (q : Request). LeftWriting q now left) (sym same) h)
+one_change (Some (forms.check_plan patch plan)) s now r left files (count, same) h = absurd (subst (λ (q : Request). LeftWriting q now left) (sym same) h)
 one_change (Some forms.check) s now r left files same h = absurd (subst (λ (q : Request). LeftWriting q now left) (sym same) h)
 one_change (Some forms.list_checkpoints) s now r left files (names, same) h = absurd (subst (λ (q : Request). LeftWriting q now left) (sym same) h)
 one_change None s now r left files never h = absurd never

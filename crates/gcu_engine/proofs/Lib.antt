@@ -14,6 +14,7 @@ mod FaultTexts
 mod Headlines
 mod Listing
 mod Naming
+mod PlanCheckSaying
 mod PlanSaying
 mod ReadyChanges
 mod ReadyOrNot

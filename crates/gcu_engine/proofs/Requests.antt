@@ -1,5 +1,5 @@
 -- What a form requests, where nothing stands against it.
-use Rattle.std.proofs.Common.{◌≡◌, inl, inr, ℕ, List, refl, sym, subst, Bool, true, false, if◌then◌else◌, Option, Some, None, Result, Ok, Err}
+use Rattle.std.proofs.Common.{◌≡◌, inl, inr, ℕ, List, length, refl, sym, subst, Bool, true, false, if◌then◌else◌, Option, Some, None, Result, Ok, Err}
 use Rattle.std.specs.FinMap.{get}
 use Rattle.host_core.specs.Answers.{map_ok}
 use Rattle.host_core.specs.State.{State, printed}
@@ -18,6 +18,7 @@ use Rattle.gcu_requests.specs.Asked.{absent_answer, delete_asked, form_asked, pr
 use Rattle.gcu_requests.specs.ChangeAsked.{change_asked}
 use Rattle.gcu_requests.specs.Checking.{check_asked}
 use Rattle.gcu_requests.specs.DemoAsked.{demo_asked, generated_asked}
+use Rattle.gcu_requests.specs.PlanCheckAsked.{check_plan_asked}
 use Rattle.gcu_requests.specs.Form.{Form, form}
 use Rattle.gcu_requests.specs.Form as forms
 use Rattle.gcu_requests.specs.PlanAsked.{dry_run_asked}
@@ -59,6 +60,7 @@ IsRequestOf (Some (forms.demo seed ports)) s r =
 IsRequestOf (Some (forms.save_checkpoint name)) s r = (c : Config) × (stored s.files ≡ Ok c) × (request.save_checkpoint name c ≡ r)
 IsRequestOf (Some (forms.delete_checkpoint name)) s r = request.delete_checkpoint name ≡ r
 IsRequestOf (Some (forms.preview path)) s r = (c : Config) × (request.preview c ≡ r)
+IsRequestOf (Some (forms.check_plan patch plan)) s r = (count : ℕ) × (request.accept_plan count ≡ r)
 IsRequestOf (Some forms.check) s r = request.check ≡ r
 IsRequestOf (Some forms.list_checkpoints) s r = (all : List (List ℕ × Option ℕ)) × (request.list_checkpoints all ≡ r)
 IsRequestOf None s r = ⊥
@@ -124,6 +126,11 @@ preview_given : (path : List ℕ) (s : State) (r : Request) → (preview_asked p
 preview_given path s r (inl never) = absurd never
 preview_given path s r (inr (c, made, e)) = (c, request_is (request.preview c) r _ refl e)
 
+accept_given : (patch plan : List ℕ) (s : State) (r : Request) → (check_plan_asked patch plan s).Gives (Ok r) → (count : ℕ) × (request.accept_plan count ≡ r)
+accept_given patch plan s r (inl never) = absurd never
+accept_given patch plan s r (inr (p, read, inl never)) = absurd never
+accept_given patch plan s r (inr (p, read, inr (ms, held, (is_plan, same)))) = (length ms, sym same)
+
 -- what is requested is what the form says
 pub requested : (f : Option Form) (s : State) (r : Request) → (form_asked f s).Gives (Ok r) → IsRequestOf f s r
 requested (Some (forms.plan from budget)) s r given = plan_given from budget s r given
@@ -132,6 +139,7 @@ requested (Some (forms.demo seed ports)) s r given = demo_given seed ports s r g
 requested (Some (forms.save_checkpoint name)) s r given = save_given name s r given
 requested (Some (forms.delete_checkpoint name)) s r given = delete_given name s r given
 requested (Some (forms.preview path)) s r given = preview_given path s r given
+requested (Some (forms.check_plan patch plan)) s r given = accept_given patch plan s r given
 requested (Some forms.check) s r given = check_given s r given
 requested (Some forms.list_checkpoints) s r e = (numbered_points s.files, request_is (request.list_checkpoints (numbered_points s.files)) r _ refl e)
 requested None s r e = absurd cc

@@ -15,11 +15,11 @@ use Rattle.gcu_output.specs.declared.outcomes.Outcome.{Outcome}
 use Rattle.gcu_output.specs.declared.outcomes.Outcome.TheVariants.{Done, Memory, Usage, InputFault, DiskFault, PrintFault, ServiceFault, Unorderable, Budget}
 use Rattle.gcu_requests.specs.Asked.{asked}
 use Rattle.gcu_requests.specs.Asking.{Asking, an_input, a_file, a_settling}
-use Rattle.gcu_requests.specs.Request.{Planning, Request, change, delete_checkpoint, demo, list_checkpoints, plan, preview, check, save_checkpoint}
+use Rattle.gcu_requests.specs.Request.{Planning, Request, accept_plan, change, delete_checkpoint, demo, list_checkpoints, plan, preview, check, save_checkpoint}
 use Rattle.gcu_engine.specs.Changing.{AreAcknowledged, IsChanged, IsCutShort, IsHalted}
 use Rattle.gcu_engine.specs.Plannings.{IsPlanFor, IsUnsolved}
 use Rattle.gcu_engine.specs.PointLines.{point_lines}
-use Rattle.gcu_engine.specs.Summary.{summary}
+use Rattle.gcu_engine.specs.Summary.{summary, yes_line}
 
 -- a fault is told only where its count rose
 abbrev pub HasCause : Counts → Counts → Outcome → Type 0
@@ -76,6 +76,7 @@ done_output (delete_checkpoint name) = last_line Done
 done_output (plan p) = last_line Done
 done_output (change p) = last_line Done
 done_output (demo p ports) = last_line Done
+done_output (accept_plan count) = yes_line count ++ last_line Done
 
 -- the same with the text of some plan, where one is requested, or with how many moves it has
 abbrev pub IsDoneOutput : Request → List ℕ → Type 0
@@ -168,6 +169,7 @@ Finishes (delete_checkpoint name) result = result ≡ Done
 Finishes (plan p) result = (result ≡ Done) ⊎ IsUnsolved (plan p) result
 Finishes (change p) result = (result ≡ Done) ⊎ IsUnsolved (change p) result
 Finishes (demo p ports) result = (result ≡ Done) ⊎ IsUnsolved (demo p ports) result
+Finishes (accept_plan count) result = result ≡ Done
 
 -- the answers where nothing failed: for want of memory, the refusal, or what the request says
 abbrev pub Complete : Asking Request → Outcome → Type 0

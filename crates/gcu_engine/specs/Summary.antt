@@ -1,7 +1,7 @@
--- What a demonstration prints before its last line.
+-- What a demonstration, and the check of a plan, prints before its last line.
 use Rattle.std.specs.Prelude.{ℕ, ◌*◌, ◌/◌, List, [], ◌∷◌, ◌++◌, codes, decimal}
 use Rattle.gcu_demo.specs.Demo.{vlans_with}
-use Rattle.gcu_output.specs.Lines.{lines, space}
+use Rattle.gcu_output.specs.Lines.{line_feed, lines, space}
 
 -- a name and a number
 abbrev pub counted : List ℕ → ℕ → List ℕ
@@ -20,3 +20,7 @@ summary ports steps =
     ∷ counted (codes "changes") (changes_with ports)
     ∷ counted (codes "steps") steps
     ∷ [])
+
+-- that moves are a plan, of so many steps
+abbrev pub yes_line : ℕ → List ℕ
+yes_line count = counted (codes "yes") count ++ line_feed

@@ -3,6 +3,7 @@
 
 mod change;
 mod check;
+mod check_plan;
 mod delete_checkpoint;
 mod demo;
 mod dry_run;

@@ -13,6 +13,7 @@ ghost use Rattle.gcu_engine.specs.Headline.{IsHeadline};
 use crate::Outcome;
 use crate::change::change;
 use crate::check::check;
+use crate::check_plan::check_plan;
 use crate::delete_checkpoint::delete_checkpoint;
 use crate::demo::demo;
 use crate::dry_run::dry_run;
@@ -30,7 +31,8 @@ use std::alloc::Global;
 /// for that of a checkpoint, and each of the three with `--dry-run` only prints it. `checkpoint NAME` saves the
 /// stored configuration under a name, `list-checkpoints` prints the names of all checkpoints, and
 /// `delete-checkpoint NAME` deletes one. `demo SEED N` plans between two generated configurations with `N`
-/// ports, and counts the steps.
+/// ports, and counts the steps. `check-plan PATCH PLAN` says whether the moves in an input are a plan for the
+/// patch, and where they aren't.
 pub fn run<H: Host>(alloc: Global, words: &[Txt], kit: &mut Kit, host: &mut H) -> Outcome
     requires longest { longest_scoped_name ≤ H.longest_name }
     requires kinds { ⟦<Kit as Boxes>⟧.HasKinds kit.old }
@@ -76,5 +78,6 @@ pub fn run<H: Host>(alloc: Global, words: &[Txt], kit: &mut Kit, host: &mut H) -
         Form::Plan { target, options } => dry_run(alloc, target, options.budget, kit, host),
         Form::Change { target, options } => change(alloc, target, options.budget, kit, host),
         Form::Demo { size } => demo(alloc, size, kit, host),
+        Form::CheckPlan { patch, plan } => check_plan(alloc, patch, plan, host),
     }
 }

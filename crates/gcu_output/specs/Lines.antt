@@ -12,45 +12,14 @@ use Rattle.conf_check.specs.declared.violations.Rule.{Rule}
 use Rattle.conf_check.specs.declared.violations.Rule.TheVariants as rules
 use Rattle.move_core.specs.declared.errors.RulesWhy.{RulesWhy}
 use Rattle.move_core.specs.declared.errors.RulesWhy.TheVariants as rules_file
+use Rattle.plan_check.specs.declared.errors.NoWhy.{NoWhy}
+use Rattle.plan_check.specs.declared.errors.NoWhy.TheVariants as plans
 use Rattle.yang_text.specs.declared.errors.ModelWhy.{ModelWhy}
 use Rattle.yang_text.specs.declared.errors.ModelWhy.TheVariants as models
 use Rattle.gcu_output.specs.declared.outcomes.Outcome.{Outcome}
-use Rattle.gcu_output.specs.declared.outcomes.Outcome.TheVariants.{Done, Memory, Usage, InputFault, DiskFault, PrintFault, ServiceFault, NoInput, TooBig, BadJson, BadConfig, BadModels, BadRules, BadPatch, PatchFailed, TargetShape, CurrentInvalid, TargetInvalid, NoModel, EmptyTable, Unorderable, Budget, NoCheckpoint, CheckpointExists, BadName, BadStored, Interrupted, NoIntent, BadIntent, SequenceFull}
+use Rattle.gcu_output.specs.declared.outcomes.Outcome.TheVariants.{Done, Memory, Usage, InputFault, DiskFault, PrintFault, ServiceFault, NoInput, TooBig, BadJson, BadConfig, BadModels, BadRules, BadPatch, PatchFailed, TargetShape, CurrentInvalid, TargetInvalid, NoModel, EmptyTable, Unorderable, Budget, NoCheckpoint, CheckpointExists, BadName, BadStored, Interrupted, NoIntent, BadIntent, SequenceFull, BadPlan, PlanRejected}
 use Rattle.gcu_output.specs.declared.outcomes.PointWhy.{PointWhy}
 use Rattle.gcu_output.specs.declared.outcomes.PointWhy.TheVariants as point
-
--- the exit status
-abbrev pub number : Outcome → ℕ
-number Done = 0
-number Memory = 1
-number Usage = 2
-number InputFault = 3
-number (DiskFault step) = 4
-number (PrintFault step) = 5
-number (ServiceFault step service) = 6
-number (NoInput path) = 7
-number (TooBig path limit) = 8
-number (BadJson path) = 9
-number (BadConfig path place) = 10
-number (BadModels file line why) = 11
-number (BadRules why) = 12
-number (BadPatch index why) = 13
-number (PatchFailed index why) = 14
-number (TargetShape place) = 15
-number (NoCheckpoint name why) = 22
-number (CheckpointExists name) = 23
-number (BadName name) = 24
-number (CurrentInvalid place rule) = 16
-number (TargetInvalid place rule) = 17
-number (NoModel table) = 18
-number (EmptyTable table) = 19
-number Unorderable = 20
-number (Budget n) = 21
-number (BadStored why) = 25
-number Interrupted = 26
-number NoIntent = 27
-number BadIntent = 28
-number SequenceFull = 29
 
 -- what is wrong with an operation
 abbrev pub patch_why : PatchWhy → List ℕ
@@ -123,6 +92,18 @@ abbrev pub point_why : PointWhy → List ℕ
 point_why point.Absent = codes "Absent"
 point_why point.NotConfig = codes "NotConfig"
 
+-- what is wrong with a step of a plan
+abbrev pub no_why : NoWhy → List ℕ
+no_why plans.NotDefined = codes "NotDefined"
+no_why plans.NotListed = codes "NotListed"
+no_why plans.Same = codes "Same"
+no_why plans.Rule1 = codes "Rule1"
+no_why plans.Rule2 = codes "Rule2"
+no_why plans.Rule3 = codes "Rule3"
+no_why plans.Rule4 = codes "Rule4"
+no_why plans.Rule5 = codes "Rule5"
+no_why plans.WrongEnd = codes "WrongEnd"
+
 -- a text in a line, as a compact JSON text
 abbrev pub quoted : List ℕ → List ℕ
 quoted s = compact (text s)
@@ -135,41 +116,53 @@ space = codes " "
 abbrev pub line_feed : List ℕ
 line_feed = 10 ∷ []
 
+-- the exit status, and what stands behind it in the line of a refusal
+abbrev pub answer : Outcome → ℕ × List ℕ
+answer Done = (0, codes "done")
+answer Memory = (1, codes "memory")
+answer Usage = (2, codes "usage")
+answer InputFault = (3, codes "input fault")
+answer (DiskFault step) = (4, codes "disk fault after " ++ decimal step)
+answer (PrintFault step) = (5, codes "print fault after " ++ decimal step)
+answer (ServiceFault step service) = (6, codes "service fault after " ++ decimal step)
+answer (NoInput path) = (7, codes "no input " ++ quoted path)
+answer (TooBig path limit) = (8, codes "too big " ++ quoted path ++ space ++ decimal limit)
+answer (BadJson path) = (9, codes "bad json " ++ quoted path)
+answer (BadConfig path place) = (10, codes "bad config " ++ quoted path ++ space ++ quoted place)
+answer (BadModels file line why) =
+    (11, codes "bad models " ++ quoted file ++ space ++ decimal line ++ space ++ model_why why)
+answer (BadRules why) = (12, codes "bad rules " ++ rules_why why)
+answer (BadPatch index why) = (13, codes "bad patch " ++ decimal index ++ space ++ patch_why why)
+answer (PatchFailed index why) =
+    (14, codes "patch failed " ++ decimal index ++ space ++ fail_why why)
+answer (TargetShape place) = (15, codes "target shape " ++ quoted place)
+answer (NoCheckpoint name why) =
+    (22, codes "no checkpoint " ++ quoted name ++ space ++ point_why why)
+answer (CheckpointExists name) = (23, codes "checkpoint exists " ++ quoted name)
+answer (BadName name) = (24, codes "bad name " ++ quoted name)
+answer (CurrentInvalid place rule) =
+    (16, codes "current invalid " ++ quoted place ++ space ++ rule_name rule)
+answer (TargetInvalid place rule) =
+    (17, codes "target invalid " ++ quoted place ++ space ++ rule_name rule)
+answer (NoModel table) = (18, codes "no model " ++ quoted table)
+answer (EmptyTable table) = (19, codes "empty table " ++ quoted table)
+answer Unorderable = (20, codes "unorderable")
+answer (Budget n) = (21, codes "budget " ++ decimal n)
+answer (BadStored why) = (25, codes "bad stored " ++ stored_why why)
+answer Interrupted = (26, codes "interrupted")
+answer NoIntent = (27, codes "no intent")
+answer BadIntent = (28, codes "bad intent")
+answer SequenceFull = (29, codes "sequence full")
+answer (BadPlan path line) = (30, codes "bad plan " ++ quoted path ++ space ++ decimal line)
+answer (PlanRejected n why) = (31, codes "no plan " ++ decimal n ++ space ++ no_why why)
+
+-- the exit status
+abbrev pub number : Outcome → ℕ
+number e = (answer e).0
+
 -- what stands behind the number of a refusal
 abbrev pub said : Outcome → List ℕ
-said Done = codes "done"
-said Memory = codes "memory"
-said Usage = codes "usage"
-said InputFault = codes "input fault"
-said (DiskFault step) = codes "disk fault after " ++ decimal step
-said (PrintFault step) = codes "print fault after " ++ decimal step
-said (ServiceFault step service) = codes "service fault after " ++ decimal step
-said (NoInput path) = codes "no input " ++ quoted path
-said (TooBig path limit) = codes "too big " ++ quoted path ++ space ++ decimal limit
-said (BadJson path) = codes "bad json " ++ quoted path
-said (BadConfig path place) = codes "bad config " ++ quoted path ++ space ++ quoted place
-said (BadModels file line why) =
-    codes "bad models " ++ quoted file ++ space ++ decimal line ++ space ++ model_why why
-said (BadRules why) = codes "bad rules " ++ rules_why why
-said (BadPatch index why) = codes "bad patch " ++ decimal index ++ space ++ patch_why why
-said (PatchFailed index why) = codes "patch failed " ++ decimal index ++ space ++ fail_why why
-said (TargetShape place) = codes "target shape " ++ quoted place
-said (NoCheckpoint name why) = codes "no checkpoint " ++ quoted name ++ space ++ point_why why
-said (CheckpointExists name) = codes "checkpoint exists " ++ quoted name
-said (BadName name) = codes "bad name " ++ quoted name
-said (CurrentInvalid place rule) =
-    codes "current invalid " ++ quoted place ++ space ++ rule_name rule
-said (TargetInvalid place rule) =
-    codes "target invalid " ++ quoted place ++ space ++ rule_name rule
-said (NoModel table) = codes "no model " ++ quoted table
-said (EmptyTable table) = codes "empty table " ++ quoted table
-said Unorderable = codes "unorderable"
-said (Budget n) = codes "budget " ++ decimal n
-said (BadStored why) = codes "bad stored " ++ stored_why why
-said Interrupted = codes "interrupted"
-said NoIntent = codes "no intent"
-said BadIntent = codes "bad intent"
-said SequenceFull = codes "sequence full"
+said e = (answer e).1
 
 -- each text as a line
 abbrev pub lines : List (List ℕ) → List ℕ

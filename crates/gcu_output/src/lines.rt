@@ -1,12 +1,13 @@
 //! The last line of each outcome.
 ghost use Rattle.std.specs.Prelude.{◌≡◌, ◌++◌, IfOk, codes, string_bytes, decimal};
-ghost use Rattle.gcu_output.specs.Lines.{last_line, numbered_line as numbered, refused_line as refused, said as said_text, space, quoted as quoted_text, patch_why, fail_why, point_why, rules_why, stored_why, model_why, rule_name};
+ghost use Rattle.gcu_output.specs.Lines.{last_line, numbered_line as numbered, refused_line as refused, said as said_text, space, quoted as quoted_text, patch_why, fail_why, point_why, rules_why, stored_why, model_why, no_why, rule_name};
 
 use crate::{Outcome, PointWhy};
 use conf_check::Rule;
 use conf_store::StoredWhy;
 use move_core::RulesWhy;
 use patch_core::{FailWhy, PatchWhy};
+use plan_check::NoWhy;
 use serde_json::Value;
 use std::alloc::{AllocError, Global};
 use yang_text::ModelWhy;
@@ -137,6 +138,14 @@ fn said(alloc: Global, outcome: &Outcome) -> Result<String, AllocError>
         Outcome::NoIntent => String::from_str(alloc, "no intent"),
         Outcome::BadIntent => String::from_str(alloc, "bad intent"),
         Outcome::SequenceFull => String::from_str(alloc, "sequence full"),
+        Outcome::BadPlan { path, line } => {
+            let path = quoted(alloc, path.as_str())?;
+            format!(in alloc; "bad plan {path} {line}")
+        }
+        Outcome::PlanRejected { step, why } => {
+            let why = no_why_name(*why);
+            numbered(alloc, "no plan ", *step as usize, why)
+        }
     }
 }
 
@@ -283,5 +292,21 @@ fn stored_why_text(alloc: Global, why: StoredWhy) -> Result<String, AllocError>
         StoredWhy::BadKind => String::from_str(alloc, "BadKind"),
         StoredWhy::BadShape => String::from_str(alloc, "BadShape"),
         StoredWhy::BadStep(n) => format!(in alloc; "BadStep {n}"),
+    }
+}
+
+fn no_why_name(why: NoWhy) -> &'static str
+    ensures { result.now ≡ no_why why }
+{
+    match why {
+        NoWhy::NotDefined => "NotDefined",
+        NoWhy::NotListed => "NotListed",
+        NoWhy::Same => "Same",
+        NoWhy::Rule1 => "Rule1",
+        NoWhy::Rule2 => "Rule2",
+        NoWhy::Rule3 => "Rule3",
+        NoWhy::Rule4 => "Rule4",
+        NoWhy::Rule5 => "Rule5",
+        NoWhy::WrongEnd => "WrongEnd",
     }
 }

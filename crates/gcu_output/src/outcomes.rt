@@ -7,6 +7,7 @@ use conf_store::StoredWhy;
 use host_core::{Memory, Txt};
 use move_core::RulesWhy;
 use patch_core::{FailWhy, PatchWhy};
+use plan_check::NoWhy;
 use yang_text::ModelWhy;
 
 /// Why there is no such checkpoint.
@@ -82,6 +83,10 @@ pub enum Outcome {
     BadIntent,
     /// The greatest sequence number of checkpoints is taken.
     SequenceFull,
+    /// The file of a plan isn't the text of one: this line, counted from 1, is the first at fault.
+    BadPlan { path: Txt, line: u32 },
+    /// The moves of the file are no plan: this step, counted from 1, is the first at fault, and why.
+    PlanRejected { step: u32, why: NoWhy },
 }
 
 impl Outcome {
@@ -120,6 +125,8 @@ impl Outcome {
             Outcome::NoIntent => 27,
             Outcome::BadIntent => 28,
             Outcome::SequenceFull => 29,
+            Outcome::BadPlan { .. } => 30,
+            Outcome::PlanRejected { .. } => 31,
         }
     }
 }

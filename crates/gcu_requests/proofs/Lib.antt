@@ -5,5 +5,7 @@ mod FirstBreaches
 pub mod IntentFinding
 mod ModelTexts
 mod OneAnswer
+mod OnePlanAnswer
+mod PlanCheckFinding
 mod PlanFinding
 mod Words

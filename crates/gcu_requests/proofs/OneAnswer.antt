@@ -13,7 +13,9 @@ use Rattle.yang_model.specs.Readers.{AreTrue, Readers}
 use Rattle.conf_check.specs.declared.violations.Rule.{Rule}
 use Rattle.move_core.specs.declared.contexts.Ctx.{Ctx}
 use Rattle.goal_checks.specs.Targets.{AgreeAt, DifferAt, HasKeysAt, IsEmptyAt, IsFirst}
+use Rattle.plan_options.specs.Options.{default_budget}
 use Rattle.plan_options.specs.Targets.{Target, patched, replaced, resumed, rolled_back}
+use Rattle.plan_texts.specs.PlanTexts.{most_bytes}
 use Rattle.gcu_output.specs.declared.outcomes.Outcome.{Outcome}
 use Rattle.gcu_output.specs.declared.outcomes.Outcome.TheVariants.{BadModels, CurrentInvalid, TargetInvalid, NoModel, EmptyTable}
 use Rattle.gcu_requests.specs.Asked.{delete_asked, form_asked, list_asked, preview_asked, save_asked, target_asked}
@@ -29,11 +31,13 @@ use Rattle.gcu_requests.specs.ModelFiles.{AreModels, File, IsModelRefusal, Text,
 use Rattle.gcu_requests.specs.OneAnswer.{AskedIsOne, HasOneAnswer}
 use Rattle.gcu_requests.specs.PatchAsked.{patch_asked}
 use Rattle.gcu_requests.specs.PlanAsked.{HasKeys, IsElsewhereAs, IsValidOr, dry_run_asked, goal_asked, judged_asked, made_asked, needs_asked, planning_asked, start_asked, target_answer}
+use Rattle.gcu_requests.specs.PlanCheckAsked.{check_plan_asked, moves_asked}
 use Rattle.gcu_requests.specs.PointAsked.{name_answer}
 use Rattle.gcu_requests.specs.Request.{Request}
 use Rattle.gcu_requests.specs.RulesAsked.{ctx_asked, rules_limit, rules_path, settings_asked}
 use Rattle.gcu_requests.specs.StoredAsked.{stored_asked}
 use Rattle.gcu_requests.proofs.FirstBreaches.{invalid_one}
+use Rattle.gcu_requests.proofs.OnePlanAnswer.{PlanLaws, accepted_same, plan_same}
 
 -- ---- one call, and no call
 
@@ -196,8 +200,8 @@ goal_one from ctx start s = chain_one (made_asked from start s) _ (made_one from
 start_one : (ctx : Ctx) (s : State) → HasOneAnswer (start_asked ctx s)
 start_one ctx s = chain_one (stored_asked s) _ (stored_one s) (λ stored. valid_one CurrentInvalid ctx stored)
 
--- what holds of readers of models
-module _ (one : (files : List (List Declaration)) (a b : ModelSet) → AreModelsOf files a → AreModelsOf files b → a ≡ b) (some : (readers : Readers) × AreTrue readers) where
+-- what holds of readers of models, and of plans
+module _ (one : (files : List (List Declaration)) (a b : ModelSet) → AreModelsOf files a → AreModelsOf files b → a ≡ b) (some : (readers : Readers) × AreTrue readers) (laws : PlanLaws) where
   -- files with models have no fault
   no_fault : (files : List (List Declaration)) (models : ModelSet) (fault : Fault) → AreModelsOf files models → IsLeastFaultOf files fault → ⊥
   no_fault files models fault are least =
@@ -264,6 +268,14 @@ module _ (one : (files : List (List Declaration)) (a b : ModelSet) → AreModels
   demo_one seed ports s =
       chain_one (demo_planning_asked seed ports s) _ (chain_one (uninterrupted s) _ (uninterrupted_one s) (λ u. chain_one (ctx_asked s) _ (ctx_one s) (λ ctx. generated_one seed ports ctx))) (λ p. follows_one _)
 
+  moves_one : (path : List ℕ) (s : State) → HasOneAnswer (moves_asked path s)
+  moves_one path s = chain_one (bytes_asked path most_bytes s) _ (asks_one _ _) (λ bytes. record { same = plan_same laws path bytes })
+
+  check_plan_one : (patch plan : List ℕ) (s : State) → HasOneAnswer (check_plan_asked patch plan s)
+  check_plan_one patch plan s =
+      chain_one (planning_asked (patched patch) default_budget s) _ (planning_one (patched patch) default_budget s)
+      (λ p. chain_one (moves_asked plan s) _ (moves_one plan s) (λ ms. record { same = accepted_same laws p ms }))
+
   form_one : (f : Option Form) (s : State) → HasOneAnswer (form_asked f s)
   form_one None s = follows_one _
   form_one (Some (forms.preview path)) s = preview_one path s
@@ -276,6 +288,7 @@ module _ (one : (files : List (List Declaration)) (a b : ModelSet) → AreModels
   form_one (Some forms.status) s = status_one s
   form_one (Some forms.abandon) s = abandon_one s
   form_one (Some (forms.demo seed ports)) s = demo_one seed ports s
+  form_one (Some (forms.check_plan patch plan)) s = check_plan_one patch plan s
 
   pub asked_one : AskedIsOne
   asked_one words s = form_one (form words) s

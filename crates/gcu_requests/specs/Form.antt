@@ -23,6 +23,8 @@ pub data Form : Type 0 where
   abandon : Form
   -- with the seed and the number of ports of a plan between generated configurations
   demo : ℕ → ℕ → Form
+  -- with the paths of a patch and of a plan for it
+  check_plan : List ℕ → List ℕ → Form
 
 -- a change that was stopped is to be finished: it takes no other option than a budget
 abbrev pub form_of_resume : List (List ℕ) → Option Form
@@ -61,11 +63,18 @@ abbrev pub form_of_demo : List ℕ → List (List ℕ) → Option Form
 form_of_demo seed (ports ∷ []) = option_map (λ d. demo d.seed d.ports) (demo_of seed ports)
 form_of_demo seed other = None
 
+-- the check of a plan that the path of a patch and that of the plan are
+abbrev pub form_of_check : List ℕ → List (List ℕ) → Option Form
+form_of_check patch (saved ∷ []) =
+    if is_positional patch && is_positional saved then Some (check_plan patch saved) else None
+form_of_check patch other = None
+
 -- the command that a word, a second one and more are
 abbrev pub form_of_more : List ℕ → List ℕ → List (List ℕ) → Option Form
 form_of_more command word ws =
     if is_word command (codes "demo") then form_of_demo word ws
     else if is_word command (codes "resume") then form_of_resume (word ∷ ws)
+    else if is_word command (codes "check-plan") then form_of_check word ws
     else form_of_plan command word ws
 
 -- the command that two words are

@@ -13,6 +13,7 @@ pub mod ModelFiles
 pub mod OneAnswer
 pub mod PatchAsked
 pub mod PlanAsked
+pub mod PlanCheckAsked
 pub mod PointAsked
 pub mod Preparing
 pub mod ReadPlannings

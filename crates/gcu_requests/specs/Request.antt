@@ -38,3 +38,5 @@ pub data Request : Type 0 where
   abandon : Request
   -- say of how many moves such a plan is, with so many ports
   demo : Planning → ℕ → Request
+  -- say that moves are a plan, of so many steps
+  accept_plan : ℕ → Request

@@ -1,8 +1,8 @@
 //! Which words are a command.
-ghost use Rattle.std.specs.Prelude.{◌≡◌, ◌∷◌, Some};
+ghost use Rattle.std.specs.Prelude.{◌≡◌, ◌∷◌, [], Some};
 ghost use Rattle.plan_options.specs.Targets.{resumed as resume_target};
 ghost use Rattle.plan_options.specs.Views.{options_view, target_view};
-ghost use Rattle.gcu_requests.specs.Form.{change as change_of, form, form_of_demo, form_of_interruption, form_of_more, form_of_one, form_of_plan, form_of_resume, form_of_two, planned};
+ghost use Rattle.gcu_requests.specs.Form.{change as change_of, form, form_of_check, form_of_demo, form_of_interruption, form_of_more, form_of_one, form_of_plan, form_of_resume, form_of_two, planned};
 ghost use Rattle.gcu_requests.specs.FormView.{form_view};
 
 use host_core::Txt;
@@ -48,6 +48,11 @@ pub enum Form<'a> {
     /// Counts the steps of a plan between generated configurations.
     Demo {
         size: Demo,
+    },
+    /// Says whether an input holds a plan for the patch of another one.
+    CheckPlan {
+        patch: &'a Txt,
+        plan: &'a Txt,
     },
 }
 
@@ -138,7 +143,7 @@ fn form_of_two<'a>(command: &'a Txt, word: &'a Txt) -> Form<'a>
 }
 
 /// The command that a word, a second one and more are.
-fn form_of_more<'a>(command: &'a Txt, word: &'a Txt, words: &[Txt]) -> Form<'a>
+fn form_of_more<'a>(command: &'a Txt, word: &'a Txt, words: &'a [Txt]) -> Form<'a>
     ensures { form_view result ≡ form_of_more command.now word.now words.now }
 {
     if command.as_str() == "demo" {
@@ -146,6 +151,9 @@ fn form_of_more<'a>(command: &'a Txt, word: &'a Txt, words: &[Txt]) -> Form<'a>
     }
     if command.as_str() == "resume" {
         return form_of_resume(command, word, words);
+    }
+    if command.as_str() == "check-plan" {
+        return form_of_check(word, words);
     }
     form_of_plan(command, word, words)
 }
@@ -161,6 +169,26 @@ fn form_of_demo<'a>(seed: &Txt, words: &[Txt]) -> Form<'a>
         },
         _ => Form::Unknown,
     }
+}
+
+/// The check of a plan that the path of a patch and that of the plan are.
+fn form_of_check<'a>(patch: &'a Txt, words: &'a [Txt]) -> Form<'a>
+    ensures { form_view result ≡ form_of_check patch.now words.now }
+{
+    match words {
+        [plan] => check_of_two(patch, plan),
+        _ => Form::Unknown,
+    }
+}
+
+/// The check of a plan, where both words are paths.
+fn check_of_two<'a>(patch: &'a Txt, plan: &'a Txt) -> Form<'a>
+    ensures { form_view result ≡ form_of_check patch.now (plan.now ∷ []) }
+{
+    if is_positional(patch) && is_positional(plan) {
+        return Form::CheckPlan { patch, plan };
+    }
+    Form::Unknown
 }
 
 /// The command that a word, a second one and options are.

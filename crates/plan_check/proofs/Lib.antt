@@ -2,6 +2,7 @@ pub mod Accepted
 pub mod Adding
 pub mod Causes
 pub mod ChainEnds
+pub mod OneFault
 pub mod StepFaults
 pub mod Tests
 pub mod WayLemmas

@@ -8,6 +8,6 @@ mod plans;
 mod steps;
 
 pub use errors::{CheckError, NoWhy};
-pub use laws::plans_are_accepted;
-pub use plan_texts::{PlanError, read_plan};
+pub use laws::{plan_faults_are_one, plans_are_accepted};
+pub use plan_texts::{PlanError, plan_texts_are_one, read_plan};
 pub use plans::check_plan;

@@ -3,6 +3,8 @@ pub mod Feeds
 pub mod LineLemmas
 pub mod MoveTexts
 pub mod OneElement
+pub mod OneMove
+pub mod OnePlan
 pub mod PartLemmas
 pub mod PathLemmas
 pub mod PlanLines

@@ -26,7 +26,7 @@ sound_with name names p text texts is = (
   ),
 )
 
-sound_move : (m : Move) → IsMove m → IsSound (operation_document (op m))
+pub sound_move : (m : Move) → IsMove m → IsSound (operation_document (op m))
 sound_move (Add names p) is = sound_with (codes "add") names p (IsUtf8-are_ascii (codes "add") refl) is.texts is.part.1
 sound_move (Remove names) is = (
   refl,
@@ -38,7 +38,7 @@ sound_move (Remove names) is = (
 )
 sound_move (Replace names p) is = sound_with (codes "replace") names p (IsUtf8-are_ascii (codes "replace") refl) is.texts is.part.1
 
-shallow_move : (m : Move) → value_depth (op m) ≤ most_value_levels
+pub shallow_move : (m : Move) → value_depth (op m) ≤ most_value_levels
 shallow_move (Add names p) = omega (arith, shallow_part p)
 shallow_move (Remove names) = omega arith
 shallow_move (Replace names p) = omega (arith, shallow_part p)

@@ -24,7 +24,8 @@ in_file : (op : Operation) → in_brackets (compact (operation_document op)) ≡
 in_file op = ap (λ bs. 91 ∷ bs) (sym (append_assoc (compact (operation_document op)) (93 ∷ []) (10 ∷ [])))
 
 module _ (laws : (ops : List Operation) → IsSound (patch_document ops) → depth (patch_document ops) ≤ most_levels → patch (patch_file ops) ≡ Ok ops) (text : List ℕ) where
-  one_read : (op : Operation) → IsSound (operation_document op) → value_depth op ≤ most_value_levels → text ≡ compact (operation_document op) → patch (in_brackets text) ≡ Ok (op ∷ [])
+  -- the operation is the one that its text is read as
+  pub one_read : (op : Operation) → IsSound (operation_document op) → value_depth op ≤ most_value_levels → text ≡ compact (operation_document op) → patch (in_brackets text) ≡ Ok (op ∷ [])
   one_read op sound few is = ap (λ t. patch (in_brackets t)) is ∙ ap patch (in_file op) ∙ laws (op ∷ []) (sound, tt) (shallow op few)
 
   -- a patch is read

@@ -37,12 +37,12 @@ entry_formed : (v : Value) → IsPart (part.Value v) → IsEntry (one v)
 entry_formed v is = record { shaped = one_shaped v; parts = (is, tt) }
 
 -- the configuration around a part
-abbrev around : Part → Config
+abbrev pub around : Part → Config
 around (part.Table t) = one t
 around (part.Entry e) = one (one e)
 around (part.Value v) = one (one (one v))
 
-around_formed : (p : Part) → IsPart p → IsConfig (around p)
+pub around_formed : (p : Part) → IsPart p → IsConfig (around p)
 around_formed (part.Table t) is = config_formed t is
 around_formed (part.Entry e) is = config_formed (one e) (table_formed e is)
 around_formed (part.Value v) is = config_formed (one (one v)) (table_formed (one v) (entry_formed v is))
@@ -50,7 +50,7 @@ around_formed (part.Value v) is = config_formed (one (one v)) (table_formed (one
 module _ (n : ℕ) (d outer : Document) (found : Config → Option Part)
     (wrapped : (p : Part) → IsOfKind n p → d ≡ part_tree p → outer ≡ tree (around p))
     (inside : (p : Part) → IsOfKind n p → found (around p) ≡ Some p) where
-  shaped_around : (p : Part) → IsOfKind n p → IsPart p → d ≡ part_tree p → configuration outer ≡ Ok (around p)
+  pub shaped_around : (p : Part) → IsOfKind n p → IsPart p → d ≡ part_tree p → configuration outer ≡ Ok (around p)
   shaped_around p kind is same = ap configuration (wrapped p kind same) ∙ config_back (around p) (around_formed p is)
 
   -- no configuration, no part

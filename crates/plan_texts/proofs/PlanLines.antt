@@ -21,10 +21,10 @@ use Rattle.plan_texts.proofs.LineLemmas.{has_feed, no_feed-append, same_line}
 no_feed_decimal : (n : ℕ) → n < 2 ^ 64 → HasNoFeed (decimal n)
 no_feed_decimal = decimal_by_steps (λ n ds. HasNoFeed ds) (λ n small. ((λ e. omega arith), tt)) (λ n ds large before. no_feed-append ds _ before ((λ e. omega arith), tt))
 
-no_feed_count : (n : ℕ) → n < 2 ^ 32 → HasNoFeed (count_words n)
+pub no_feed_count : (n : ℕ) → n < 2 ^ 32 → HasNoFeed (count_words n)
 no_feed_count n small = no_feed-append (codes "plan ") (decimal n) ((λ e. omega arith), ((λ e. omega arith), ((λ e. omega arith), ((λ e. omega arith), ((λ e. omega arith), tt))))) (no_feed_decimal n (omega arith))
 
-no_feed_step : (number : ℕ) → number < 2 ^ 32 → (m : Move) → HasNoFeed (number_text number ++ move_text m)
+pub no_feed_step : (number : ℕ) → number < 2 ^ 32 → (m : Move) → HasNoFeed (number_text number ++ move_text m)
 no_feed_step number small m =
     no_feed-append (number_text number) (move_text m)
     (no_feed-append (decimal number) (codes " ") (no_feed_decimal number (omega arith)) ((λ e. omega arith), tt)) (no_feed (operation_document (op m)))

@@ -5,6 +5,7 @@ mod counts;
 mod elements;
 mod ends;
 mod errors;
+mod laws;
 mod lines;
 mod moves;
 mod parts;
@@ -13,4 +14,5 @@ mod reading;
 mod steps;
 
 pub use errors::PlanError;
+pub use laws::plan_texts_are_one;
 pub use reading::read_plan;

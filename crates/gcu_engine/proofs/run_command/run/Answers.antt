@@ -177,6 +177,20 @@ returns-in-Demo-clause-complete g c =
     complete_by c.args.words.now _ (g.H.Host.told c.args.host.now) (g.H.Host.counts c.args.host.now) (g.H.Host.counts c.demo.new.host) c.demo.result
     c.in-Demo.ensures c.demo.ensures.complete
 
+pub returns-in-CheckPlan-clause-answers : goal.returns-in-CheckPlan-clause-answers
+returns-in-CheckPlan-clause-answers g c =
+    answers_by c.args.words.now _ (g.H.Host.told c.args.host.now) (g.H.Host.told c.check_plan.new.host) (g.H.Host.counts c.args.host.now) (g.H.Host.counts c.check_plan.new.host) c.check_plan.result
+    c.in-CheckPlan.ensures c.check_plan.ensures.answers
+
+pub returns-in-CheckPlan-clause-crash : goal.returns-in-CheckPlan-clause-crash
+returns-in-CheckPlan-clause-crash g c =
+    leaves_by g.H.Host.moment g.H.Host.left_since c.args.words.now _ c.args.host.now c.check_plan.new.host (g.H.Host.told c.args.host.now) c.in-CheckPlan.ensures (λ s left h. h) c.check_plan.ensures.crash
+
+pub returns-in-CheckPlan-clause-complete : goal.returns-in-CheckPlan-clause-complete
+returns-in-CheckPlan-clause-complete g c =
+    complete_by c.args.words.now _ (g.H.Host.told c.args.host.now) (g.H.Host.counts c.args.host.now) (g.H.Host.counts c.check_plan.new.host) c.check_plan.result
+    c.in-CheckPlan.ensures c.check_plan.ensures.complete
+
 -- ---- the promise of the whole
 
 pub returns-in-Unknown-clause-headline : goal.returns-in-Unknown-clause-headline
@@ -228,3 +242,8 @@ pub returns-in-Demo-clause-headline : goal.returns-in-Demo-clause-headline
 returns-in-Demo-clause-headline g c =
     headline g.H.Host.moment g.H.Host.left_since c.args.words.now _ (g.H.Host.told c.args.host.now) (g.H.Host.told c.demo.new.host) c.args.host.now c.demo.new.host
     (g.H.Host.counts c.args.host.now) (g.H.Host.counts c.demo.new.host) c.demo.result c.in-Demo.ensures tt c.asked_has_one_answer.ensures (returns-in-Demo-clause-answers g c) (returns-in-Demo-clause-crash g c)
+
+pub returns-in-CheckPlan-clause-headline : goal.returns-in-CheckPlan-clause-headline
+returns-in-CheckPlan-clause-headline g c =
+    headline g.H.Host.moment g.H.Host.left_since c.args.words.now _ (g.H.Host.told c.args.host.now) (g.H.Host.told c.check_plan.new.host) c.args.host.now c.check_plan.new.host
+    (g.H.Host.counts c.args.host.now) (g.H.Host.counts c.check_plan.new.host) c.check_plan.result c.in-CheckPlan.ensures tt c.asked_has_one_answer.ensures (returns-in-CheckPlan-clause-answers g c) (returns-in-CheckPlan-clause-crash g c)

@@ -1,0 +1,113 @@
+//! `gcu check-plan PATCH PLAN`: whether an input holds a plan for a patch, and where it doesn't.
+ghost use Rattle.std.specs.Prelude.{◌≡◌, ◌≤◌, ◌<◌, IfErr, IfOk, length};
+ghost use Rattle.host_core.specs.Counts.{InputMayRise, NoneFell};
+ghost use Rattle.host_core.specs.Crashes.{Elapses, MayLeaveNow};
+ghost use Rattle.host_core.specs.Names.{longest_scoped_name};
+ghost use Rattle.plan_check.specs.Checks.{most_steps};
+ghost use Rattle.plan_options.specs.Options.{default_budget};
+ghost use Rattle.plan_options.specs.Targets.{patched};
+ghost use Rattle.plan_texts.specs.PlanTexts.{most_bytes};
+ghost use Rattle.gcu_requests.specs.PlanAsked.{planning_asked};
+ghost use Rattle.gcu_requests.specs.PlanCheckAsked.{IsAccepted, IsPlanIn, check_plan_asked, moves_asked};
+ghost use Rattle.gcu_requests.specs.Preparing.{Finds, IsRightBy, Refuses, RefusesAlways};
+ghost use Rattle.gcu_requests.specs.ReadPlannings.{IsReadyToSearch, planning_of};
+ghost use Rattle.gcu_requests.specs.Request.{accept_plan};
+
+use crate::inputs::input_bytes;
+use crate::planning::{Planning, prepare};
+use gcu_output::Outcome;
+use host_core::{Host, Txt};
+use move_core::Plan;
+use plan_check::{CheckError, PlanError, check_plan, read_plan};
+use plan_options::{DEFAULT_BUDGET, Source, Target};
+use std::alloc::Global;
+
+/// How many bytes a plan may have.
+const PLAN_LIMIT: u64 = 4_194_304;
+
+/// How many steps the plan in an input has, where it is one for the patch in another.
+pub fn judge_plan<H: Host>(
+    alloc: Global,
+    patch: &Txt,
+    plan: &Txt,
+    host: &mut H,
+) -> Result<usize, Outcome>
+    requires { longest_scoped_name ≤ H.longest_name }
+    ensures answer { Finds (H.told host.old) accept_plan result
+        (check_plan_asked patch.now plan.now) }
+    ensures told { H.told host.new ≡ H.told host.old }
+    ensures counts { NoneFell (H.counts host.old) (H.counts host.new) }
+    ensures cause { IfErr result (Refuses (H.counts host.old) (H.counts host.new)) }
+    ensures time { Elapses H.moment H.left_since host.old host.new (MayLeaveNow (H.told host.old)) }
+    ensures goes { H.goes_on host.old host.new }
+{
+    let planning = prepare_patch(alloc, patch, host)?;
+    let moves = input_plan(alloc, plan, host)?;
+    accept(alloc, &planning, &moves)
+}
+
+/// Reads what a plan for the patch in an input needs. Nothing is searched for, so its budget says nothing.
+fn prepare_patch<H: Host>(alloc: Global, patch: &Txt, host: &mut H) -> Result<Planning, Outcome>
+    requires { longest_scoped_name ≤ H.longest_name }
+    ensures answer { Finds (H.told host.old) planning_of result
+        (planning_asked (patched patch.now) default_budget) }
+    ensures ready { IfOk result IsReadyToSearch }
+    ensures told { H.told host.new ≡ H.told host.old }
+    ensures counts { NoneFell (H.counts host.old) (H.counts host.new) }
+    ensures cause { IfErr result (Refuses (H.counts host.old) (H.counts host.new)) }
+    ensures time { Elapses H.moment H.left_since host.old host.new (MayLeaveNow (H.told host.old)) }
+    ensures goes { H.goes_on host.old host.new }
+{
+    let target = Target {
+        source: Source::Patch,
+        word: patch,
+    };
+    prepare(alloc, target, DEFAULT_BUDGET, host)
+}
+
+/// The moves that an input holds.
+fn input_plan<H: Host>(alloc: Global, path: &Txt, host: &mut H) -> Result<Plan, Outcome>
+    ensures answer { Finds (H.told host.old) (λ ms. ms) result (moves_asked path.now) }
+    ensures few { IfOk result (λ ms. length ms < most_steps) }
+    ensures told { H.told host.new ≡ H.told host.old }
+    ensures counts { InputMayRise (H.counts host.old) (H.counts host.new) }
+    ensures cause { IfErr result (Refuses (H.counts host.old) (H.counts host.new)) }
+    ensures time { Elapses H.moment H.left_since host.old host.new (MayLeaveNow (H.told host.new)) }
+    ensures goes { H.goes_on host.old host.new }
+{
+    let bytes = input_bytes(alloc, path, PLAN_LIMIT, host)?;
+    plan_in(alloc, path, bytes.items())
+}
+
+/// The moves whose text bytes are that were found at a path.
+fn plan_in(alloc: Global, path: &Txt, bytes: &[u8]) -> Result<Plan, Outcome>
+    requires { length bytes.now ≤ most_bytes }
+    ensures answer { IsRightBy (λ ms. ms) result (IsPlanIn path.now bytes.now) }
+    ensures few { IfOk result (λ ms. length ms < most_steps) }
+    ensures cause { IfErr result RefusesAlways }
+{
+    match read_plan(alloc, bytes) {
+        Ok(plan) => Ok(plan),
+        Err(PlanError::BadPlan { line }) => Err(Outcome::BadPlan {
+            path: path.copy(alloc)?,
+            line,
+        }),
+        Err(PlanError::Memory) => Err(Outcome::Memory),
+    }
+}
+
+/// How many steps moves have, where they are a plan.
+fn accept(alloc: Global, planning: &Planning, moves: &Plan) -> Result<usize, Outcome>
+    requires ready { IsReadyToSearch planning.now }
+    requires few { length moves.now < most_steps }
+    ensures answer { IsRightBy accept_plan result
+        (IsAccepted (planning_of planning.now) moves.now) }
+    ensures cause { IfErr result RefusesAlways }
+{
+    let start = &planning.stored.config;
+    match check_plan(alloc, &planning.ctx, start, &planning.goal, moves) {
+        Ok(()) => Ok(moves.len()),
+        Err(CheckError::No { step, why }) => Err(Outcome::PlanRejected { step, why }),
+        Err(CheckError::Memory) => Err(Outcome::Memory),
+    }
+}
