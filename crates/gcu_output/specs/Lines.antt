@@ -15,7 +15,7 @@ use Rattle.move_core.specs.declared.errors.RulesWhy.TheVariants as rules_file
 use Rattle.yang_text.specs.declared.errors.ModelWhy.{ModelWhy}
 use Rattle.yang_text.specs.declared.errors.ModelWhy.TheVariants as models
 use Rattle.gcu_output.specs.declared.outcomes.Outcome.{Outcome}
-use Rattle.gcu_output.specs.declared.outcomes.Outcome.TheVariants.{Done, Memory, Usage, InputFault, DiskFault, PrintFault, ServiceFault, NoInput, TooBig, BadJson, BadConfig, BadModels, BadRules, BadPatch, PatchFailed, TargetShape, CurrentInvalid, TargetInvalid, NoModel, EmptyTable, Unorderable, Budget, NoCheckpoint, CheckpointExists, BadName, BadStored}
+use Rattle.gcu_output.specs.declared.outcomes.Outcome.TheVariants.{Done, Memory, Usage, InputFault, DiskFault, PrintFault, ServiceFault, NoInput, TooBig, BadJson, BadConfig, BadModels, BadRules, BadPatch, PatchFailed, TargetShape, CurrentInvalid, TargetInvalid, NoModel, EmptyTable, Unorderable, Budget, NoCheckpoint, CheckpointExists, BadName, BadStored, Interrupted, NoIntent, BadIntent}
 use Rattle.gcu_output.specs.declared.outcomes.PointWhy.{PointWhy}
 use Rattle.gcu_output.specs.declared.outcomes.PointWhy.TheVariants as point
 
@@ -47,6 +47,9 @@ number (EmptyTable table) = 19
 number Unorderable = 20
 number (Budget n) = 21
 number (BadStored why) = 25
+number Interrupted = 26
+number NoIntent = 27
+number BadIntent = 28
 
 -- what is wrong with an operation
 abbrev pub patch_why : PatchWhy → List ℕ
@@ -162,6 +165,9 @@ said (EmptyTable table) = codes "empty table " ++ quoted table
 said Unorderable = codes "unorderable"
 said (Budget n) = codes "budget " ++ decimal n
 said (BadStored why) = codes "bad stored " ++ stored_why why
+said Interrupted = codes "interrupted"
+said NoIntent = codes "no intent"
+said BadIntent = codes "bad intent"
 
 -- each text as a line
 abbrev pub lines : List (List ℕ) → List ℕ

@@ -74,6 +74,12 @@ pub enum Outcome {
     Budget { n: u32 },
     /// The folder stands for no configuration.
     BadStored { why: StoredWhy },
+    /// A change is under way: `intent` is there.
+    Interrupted,
+    /// No change is under way: `intent` isn't there.
+    NoIntent,
+    /// `intent` holds no configuration.
+    BadIntent,
 }
 
 impl Outcome {
@@ -108,6 +114,9 @@ impl Outcome {
             Outcome::Unorderable => 20,
             Outcome::Budget { .. } => 21,
             Outcome::BadStored { .. } => 25,
+            Outcome::Interrupted => 26,
+            Outcome::NoIntent => 27,
+            Outcome::BadIntent => 28,
         }
     }
 }
