@@ -16,7 +16,7 @@ mod steps;
 
 pub use errors::ApplyFault;
 pub use intents::close;
-pub use laws::restarts_are_services;
+pub use laws::{intent_is_kept, restarts_are_services};
 pub use preparing::prepare;
 pub use ready::{Ready, Restart};
 pub use running::run;
