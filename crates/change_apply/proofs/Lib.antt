@@ -1,7 +1,7 @@
 mod Counting
 mod Due
 mod FoldStages
-mod IntentNames
+pub mod IntentNames
 mod IntentStages
 mod KeptIntents
 mod LastFold

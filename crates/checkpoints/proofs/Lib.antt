@@ -10,5 +10,5 @@ mod PointMaps
 mod ReadCalls
 mod Sorting
 mod StoredKept
-mod OtherFiles
+pub mod OtherFiles
 mod Written

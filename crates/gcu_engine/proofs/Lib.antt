@@ -1,3 +1,4 @@
+mod Abandoning
 mod Acknowledged
 mod Answering
 mod Causes
@@ -5,6 +6,8 @@ mod ChangeBegins
 mod ChangeEnds
 mod Changes
 mod CheckSaying
+mod Closed
+mod Closing
 mod Completing
 mod Contents
 mod Deletions
@@ -21,5 +24,6 @@ mod ReadyOrNot
 mod Requests
 mod RightPlans
 mod Savings
+mod StatusSaying
 mod SummaryTexts
 mod Writing

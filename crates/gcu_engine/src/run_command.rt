@@ -11,6 +11,7 @@ ghost use Rattle.gcu_engine.specs.Crashes.{LeftMeanwhile};
 ghost use Rattle.gcu_engine.specs.Headline.{IsHeadline};
 
 use crate::Outcome;
+use crate::abandon::abandon;
 use crate::change::change;
 use crate::check::check;
 use crate::check_plan::check_plan;
@@ -19,6 +20,7 @@ use crate::demo::demo;
 use crate::dry_run::dry_run;
 use crate::list_checkpoints::list_checkpoints;
 use crate::save_checkpoint::save_checkpoint;
+use crate::status::status;
 use gcu_output::{say, show};
 use gcu_requests::{Form, asked_has_one_answer, preview, read_form};
 use host_core::{Host, Txt};
@@ -28,7 +30,8 @@ use std::alloc::Global;
 /// Does the command that the words are, and prints its answer. `preview PATCH` prints the stored
 /// configuration as the patch would leave it, `check` says whether it is valid, `apply-patch PATCH` prints a
 /// plan for the patch and does it, `replace FILE` one for the configuration in a file and `rollback NAME` one
-/// for that of a checkpoint, and each of the three with `--dry-run` only prints it. `checkpoint NAME` saves the
+/// for that of a checkpoint, and each of the three with `--dry-run` only prints it. `status` says whether a
+/// change was stopped, `resume` finishes it, and `abandon` gives it up. `checkpoint NAME` saves the
 /// stored configuration under a name, `list-checkpoints` prints the names of all checkpoints, and
 /// `delete-checkpoint NAME` deletes one. `demo SEED N` plans between two generated configurations with `N`
 /// ports, and counts the steps. `check-plan PATCH PLAN` says whether the moves in an input are a plan for the
@@ -77,6 +80,8 @@ pub fn run<H: Host>(alloc: Global, words: &[Txt], kit: &mut Kit, host: &mut H) -
         Form::DeleteCheckpoint { name } => delete_checkpoint(alloc, name, host),
         Form::Plan { target, options } => dry_run(alloc, target, options.budget, kit, host),
         Form::Change { target, options } => change(alloc, target, options.budget, kit, host),
+        Form::Status => status(alloc, host),
+        Form::Abandon => abandon(alloc, host),
         Form::Demo { size } => demo(alloc, size, kit, host),
         Form::CheckPlan { patch, plan } => check_plan(alloc, patch, plan, host),
     }

@@ -11,7 +11,7 @@ use Rattle.gcu_output.specs.declared.outcomes.Outcome.{Outcome}
 use Rattle.gcu_requests.specs.Asked.{patching_asked}
 use Rattle.gcu_requests.specs.Asking.{Asking, follows, ◌>>>◌}
 use Rattle.gcu_requests.specs.IntentAsked.{intent_asked, intent_of, status_asked, uninterrupted}
-use Rattle.gcu_requests.specs.IntentView.{CountsIn, intent_view, status_request}
+use Rattle.gcu_requests.specs.IntentView.{CountsIn, status_request}
 use Rattle.gcu_requests.specs.Preparing.{FailsIn, Finds, Found, RefusesAlways, refusal}
 use Rattle.gcu_requests.specs.StoredAsked.{stored_asked}
 use Rattle.gcu_requests.specs.Trees.{patched_document, preview_document, through}

@@ -33,7 +33,6 @@ there_answer name (Some held) = Ok name
 -- the checkpoint of a name is to be deleted
 abbrev pub there_asked : List ℕ → State → Asking Request
 there_asked name s =
-    uninterrupted s >>> λ _.
     asks a_file (map_ok request.delete_checkpoint (there_answer name (get (points s.files) name)))
 
 -- a checkpoint that is there is refused, whatever it holds, and then one that no number is left for
@@ -64,11 +63,13 @@ target_asked path s = uninterrupted s >>> λ _. patching_asked path s
 abbrev pub preview_asked : List ℕ → State → Asking Request
 preview_asked path s = target_asked path s >>> λ c. follows (Ok (request.preview c))
 
--- `list-checkpoints`: the names of all checkpoints, with their numbers
+-- the names of all checkpoints, with their numbers
+abbrev pub numbers_asked : State → Asking Request
+numbers_asked s = asks a_file (Ok (request.list_checkpoints (numbered_points s.files)))
+
+-- `list-checkpoints`: the same, where no change is under way
 abbrev pub list_asked : State → Asking Request
-list_asked s =
-    uninterrupted s >>> λ _.
-    asks a_file (Ok (request.list_checkpoints (numbered_points s.files)))
+list_asked s = uninterrupted s >>> λ _. numbers_asked s
 
 -- `checkpoint NAME`: the name is looked at before the folder, and the stored configuration is to be valid
 abbrev pub save_asked : List ℕ → State → Asking Request
@@ -84,6 +85,7 @@ abbrev pub delete_asked : List ℕ → State → Asking Request
 delete_asked word s =
     follows (name_answer word) >>> λ name.
     settles_first >>> λ _.
+    uninterrupted s >>> λ _.
     there_asked name s
 
 -- what a command asks, or that there is none

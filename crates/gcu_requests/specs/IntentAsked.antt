@@ -10,9 +10,11 @@ use Rattle.conf_store.specs.declared.errors.StoredWhy.{StoredWhy}
 use Rattle.plan_options.specs.Targets.{Target, patched, replaced, resumed, rolled_back}
 use Rattle.gcu_output.specs.declared.outcomes.Outcome.{Outcome}
 use Rattle.gcu_output.specs.declared.outcomes.Outcome.TheVariants.{BadIntent, Interrupted, NoIntent}
+use Rattle.gcu_output.specs.declared.statuses.Intent.{Intent}
+use Rattle.gcu_output.specs.declared.statuses.Intent.TheVariants.{Absent, Whole, Broken}
 use Rattle.gcu_requests.specs.Asking.{Asking, a_file, asks, settles_first, follows, ◌>>>◌}
 use Rattle.gcu_requests.specs.Request as request
-use Rattle.gcu_requests.specs.Request.{Intent, Request, broken, none, whole}
+use Rattle.gcu_requests.specs.Request.{Request}
 use Rattle.gcu_requests.specs.StoredAsked.{stored_asked}
 
 -- ---- whether a change is under way
@@ -66,12 +68,12 @@ intended_asked s = intent_asked s >>> λ found. follows (intended_answer found)
 
 -- a file that holds a configuration is whole
 abbrev pub intent_holding : Result Config StoredWhy → Intent
-intent_holding (Ok c) = whole
-intent_holding (Err why) = broken
+intent_holding (Ok c) = Whole
+intent_holding (Err why) = Broken
 
 -- whether the file is there, and whether it is whole
 abbrev pub intent_of : Option (List ℕ) → Intent
-intent_of None = none
+intent_of None = Absent
 intent_of (Some bytes) = intent_holding (config_in bytes)
 
 -- `status`: the state of that file, and how many step files are applied in the stored configuration

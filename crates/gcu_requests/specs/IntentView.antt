@@ -1,4 +1,4 @@
--- The file of a change under way as the code keeps it.
+-- How far a change is that was stopped, as the code keeps it.
 use Rattle.std.specs.Prelude.{◌≡◌, ℕ, Result, Ok, Err, IfErr}
 use Rattle.host_core.specs.State.{State}
 use Rattle.conf_store.specs.Applied.{AreApplied}
@@ -7,19 +7,11 @@ use Rattle.gcu_requests.specs.Preparing.{FailsIn, StandsIn, refusal}
 use Rattle.gcu_requests.specs.Request as request
 use Rattle.gcu_requests.specs.Request.{Request}
 use Rattle.gcu_requests.specs.StoredAsked.{stored_asked}
-use Rattle.gcu_requests.specs.declared.interruption.Intent.{Intent}
-use Rattle.gcu_requests.specs.declared.interruption.Intent.TheVariants as code
 use Rattle.gcu_requests.specs.declared.interruption.Status.{Status}
-
--- what is known of the file
-abbrev pub intent_view : Intent → request.Intent
-intent_view code.None = request.none
-intent_view code.Whole = request.whole
-intent_view code.Broken = request.broken
 
 -- what is to be said
 abbrev pub status_request : Status → Request
-status_request s = request.status (intent_view s.intent) s.steps
+status_request s = request.status s.intent s.steps
 
 -- how many step files are applied, or why the folder stands for no configuration
 abbrev pub CountsIn : State → Result ℕ Outcome → Type 0

@@ -2,6 +2,7 @@
 use Rattle.std.specs.Prelude.{ℕ, List, Option}
 use Rattle.conf_doc.specs.declared.configuration.Config.{Config}
 use Rattle.move_core.specs.declared.contexts.Ctx.{Ctx}
+use Rattle.gcu_output.specs.declared.statuses.Intent.{Intent}
 
 -- by which models and settings to plan, from where to where, and how many configurations may be met
 pub record Planning : Type 0 where
@@ -9,12 +10,6 @@ pub record Planning : Type 0 where
   pub start : Config
   pub goal : Config
   pub budget : ℕ
-
--- the file of a change under way: it isn't there, it holds the goal's configuration, or it holds none
-pub data Intent : Type 0 where
-  none : Intent
-  whole : Intent
-  broken : Intent
 
 -- a command with all that it needs
 pub data Request : Type 0 where
@@ -32,7 +27,7 @@ pub data Request : Type 0 where
   plan : Planning → Request
   -- print such a plan and do it
   change : Planning → Request
-  -- say whether a change is under way, and how many of its step files are applied
+  -- say what the file of a change under way is, and how many step files are applied
   status : Intent → ℕ → Request
   -- give up the change that was stopped
   abandon : Request

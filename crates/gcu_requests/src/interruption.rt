@@ -6,25 +6,14 @@ ghost use Rattle.host_core.specs.Names.{longest_scoped_name};
 ghost use Rattle.conf_store.specs.Stored.{config_in};
 ghost use Rattle.gcu_output.specs.declared.outcomes.Outcome.TheVariants.{Memory as no_memory};
 ghost use Rattle.gcu_requests.specs.IntentAsked.{intent_holding, intent_of, status_asked};
-ghost use Rattle.gcu_requests.specs.IntentView.{CountsIn, intent_view, status_request};
+ghost use Rattle.gcu_requests.specs.IntentView.{CountsIn, status_request};
 ghost use Rattle.gcu_requests.specs.Preparing.{Finds, Refuses};
 
 use crate::intent::read_intent;
 use conf_store::{LoadError, count_steps, read_config};
-use gcu_output::Outcome;
+use gcu_output::{Intent, Outcome};
 use host_core::Host;
 use std::alloc::Global;
-
-/// The file of a change under way.
-#[derive(Clone, Copy)]
-pub enum Intent {
-    /// It isn't there.
-    None,
-    /// It holds the configuration that is the goal.
-    Whole,
-    /// It holds no configuration.
-    Broken,
-}
 
 /// How far a change is that was stopped.
 #[derive(Clone, Copy)]
@@ -71,19 +60,18 @@ fn read_steps<H: Host>(alloc: Global, host: &mut H) -> Result<u32, Outcome>
 /// What was found of the file.
 fn intent_found(alloc: Global, found: Option<Vec<u8>>) -> Result<Intent, Outcome>
     ensures ok { IfOk result
-        (λ intent. intent_view intent ≡ intent_of (option_map (λ v. v.items) found)) }
+        (λ intent. intent ≡ intent_of (option_map (λ v. v.items) found)) }
     ensures err { IfErr result (λ e. e ≡ no_memory) }
 {
     match found {
-        None => Ok(Intent::None),
+        None => Ok(Intent::Absent),
         Some(bytes) => intent_in(alloc, &bytes),
     }
 }
 
 /// What the bytes of the file hold.
 fn intent_in(alloc: Global, bytes: &[u8]) -> Result<Intent, Outcome>
-    ensures ok { IfOk result
-        (λ intent. intent_view intent ≡ intent_holding (config_in bytes.now)) }
+    ensures ok { IfOk result (λ intent. intent ≡ intent_holding (config_in bytes.now)) }
     ensures err { IfErr result (λ e. e ≡ no_memory) }
 {
     match read_config(alloc, bytes) {

@@ -26,7 +26,7 @@ pub use checking::judge_stored;
 pub use demo_planning::prepare_demo;
 pub use form::{Form, read_form};
 pub use intent::{test_interrupted, test_uninterrupted};
-pub use interruption::{Intent, Status, read_status};
+pub use interruption::{Status, read_status};
 pub use laws::asked_has_one_answer;
 pub use plan_checking::judge_plan;
 pub use plan_goal::test_target;

@@ -4,7 +4,7 @@ use Rattle.plan_options.specs.Views.{target_view}
 use Rattle.gcu_output.specs.Lines.{last_line}
 use Rattle.gcu_output.specs.Printing.{text_in_lines}
 use Rattle.gcu_output.specs.declared.outcomes.Outcome.TheVariants.{Usage, Done}
-use Rattle.gcu_requests.specs.Form.{check, list_checkpoints}
+use Rattle.gcu_requests.specs.Form.{abandon, check, list_checkpoints, status}
 use Rattle.gcu_engine.proofs.Completing.{complete_by}
 use Rattle.gcu_engine.proofs.Headlines.{change_headline, headline}
 use Rattle.gcu_engine.proofs.Elapsing.{changes_by, command_leaves, command_leaves_behind, leaves_by}
@@ -163,6 +163,34 @@ returns-in-Change-clause-complete g c =
     complete_by c.args.words.now _ (g.H.Host.told c.args.host.now) (g.H.Host.counts c.args.host.now) (g.H.Host.counts c.change.new.host) c.change.result
     c.in-Change.ensures c.change.ensures.complete
 
+pub returns-in-Status-clause-answers : goal.returns-in-Status-clause-answers
+returns-in-Status-clause-answers g c =
+    answers_by c.args.words.now (Some status) (g.H.Host.told c.args.host.now) (g.H.Host.told c.status.new.host) (g.H.Host.counts c.args.host.now) (g.H.Host.counts c.status.new.host) c.status.result
+    c.in-Status.ensures c.status.ensures.answers
+
+pub returns-in-Status-clause-crash : goal.returns-in-Status-clause-crash
+returns-in-Status-clause-crash g c =
+    leaves_by g.H.Host.moment g.H.Host.left_since c.args.words.now (Some status) c.args.host.now c.status.new.host (g.H.Host.told c.args.host.now) c.in-Status.ensures (λ s left h. h) c.status.ensures.crash
+
+pub returns-in-Status-clause-complete : goal.returns-in-Status-clause-complete
+returns-in-Status-clause-complete g c =
+    complete_by c.args.words.now (Some status) (g.H.Host.told c.args.host.now) (g.H.Host.counts c.args.host.now) (g.H.Host.counts c.status.new.host) c.status.result
+    c.in-Status.ensures c.status.ensures.complete
+
+pub returns-in-Abandon-clause-answers : goal.returns-in-Abandon-clause-answers
+returns-in-Abandon-clause-answers g c =
+    answers_by c.args.words.now (Some abandon) (g.H.Host.told c.args.host.now) (g.H.Host.told c.abandon.new.host) (g.H.Host.counts c.args.host.now) (g.H.Host.counts c.abandon.new.host) c.abandon.result
+    c.in-Abandon.ensures c.abandon.ensures.answers
+
+pub returns-in-Abandon-clause-crash : goal.returns-in-Abandon-clause-crash
+returns-in-Abandon-clause-crash g c =
+    leaves_by g.H.Host.moment g.H.Host.left_since c.args.words.now (Some abandon) c.args.host.now c.abandon.new.host (g.H.Host.told c.args.host.now) c.in-Abandon.ensures (λ s left h. h) c.abandon.ensures.crash
+
+pub returns-in-Abandon-clause-complete : goal.returns-in-Abandon-clause-complete
+returns-in-Abandon-clause-complete g c =
+    complete_by c.args.words.now (Some abandon) (g.H.Host.told c.args.host.now) (g.H.Host.counts c.args.host.now) (g.H.Host.counts c.abandon.new.host) c.abandon.result
+    c.in-Abandon.ensures c.abandon.ensures.complete
+
 pub returns-in-Demo-clause-answers : goal.returns-in-Demo-clause-answers
 returns-in-Demo-clause-answers g c =
     answers_by c.args.words.now _ (g.H.Host.told c.args.host.now) (g.H.Host.told c.demo.new.host) (g.H.Host.counts c.args.host.now) (g.H.Host.counts c.demo.new.host) c.demo.result
@@ -237,6 +265,16 @@ pub returns-in-Change-clause-headline : goal.returns-in-Change-clause-headline
 returns-in-Change-clause-headline g c =
     change_headline g.H.Host.moment g.H.Host.left_since c.args.words.now (target_view c.in-Change.target) c.in-Change.options.budget (g.H.Host.told c.args.host.now) (g.H.Host.told c.change.new.host) c.args.host.now c.change.new.host
     (g.H.Host.counts c.args.host.now) (g.H.Host.counts c.change.new.host) c.change.result c.asked_has_one_answer.ensures (returns-in-Change-clause-answers g c) (returns-in-Change-clause-crash g c) c.change.ensures.early
+
+pub returns-in-Status-clause-headline : goal.returns-in-Status-clause-headline
+returns-in-Status-clause-headline g c =
+    headline g.H.Host.moment g.H.Host.left_since c.args.words.now _ (g.H.Host.told c.args.host.now) (g.H.Host.told c.status.new.host) c.args.host.now c.status.new.host
+    (g.H.Host.counts c.args.host.now) (g.H.Host.counts c.status.new.host) c.status.result c.in-Status.ensures tt c.asked_has_one_answer.ensures (returns-in-Status-clause-answers g c) (returns-in-Status-clause-crash g c)
+
+pub returns-in-Abandon-clause-headline : goal.returns-in-Abandon-clause-headline
+returns-in-Abandon-clause-headline g c =
+    headline g.H.Host.moment g.H.Host.left_since c.args.words.now _ (g.H.Host.told c.args.host.now) (g.H.Host.told c.abandon.new.host) c.args.host.now c.abandon.new.host
+    (g.H.Host.counts c.args.host.now) (g.H.Host.counts c.abandon.new.host) c.abandon.result c.in-Abandon.ensures tt c.asked_has_one_answer.ensures (returns-in-Abandon-clause-answers g c) (returns-in-Abandon-clause-crash g c)
 
 pub returns-in-Demo-clause-headline : goal.returns-in-Demo-clause-headline
 returns-in-Demo-clause-headline g c =
