@@ -44,7 +44,7 @@ use Rattle.gcu_engine.proofs.RightPlans.{IsAsked, right_plan, way_last}
 
 -- ---- what is planned
 
-same_change : (p q : Planning) → request.change p ≡ request.change q → p ≡ q
+pub same_change : (p q : Planning) → request.change p ≡ request.change q → p ≡ q
 same_change p q e = let same : p ≡ q = cc in same
 
 -- ---- what is printed
@@ -315,7 +315,7 @@ foreseen asking s now old new other output h any = h.0
 
 -- ---- a crash
 
-settled_files : (s : State) (part : List ℕ) (left : Left) → IsSettled s → MayLeave (printed part s) left → left.files ≡ s.files
+pub settled_files : (s : State) (part : List ℕ) (left : Left) → IsSettled s → MayLeave (printed part s) left → left.files ≡ s.files
 settled_files s part left clean may = subst (λ p. Image p s.files left.files) clean may.files
 
 -- what is said of a change ends with the last line of an answer
@@ -332,7 +332,7 @@ line_said from budget s now Unorderable text h = inl (Unorderable, h.2)
 line_said from budget s now (Budget n) text h = inl (Budget n, h.2)
 line_said from budget s now other text h = inl (other, h.2)
 
-early_before : (from : Target) (budget : ℕ) (s : State) (left : Left) → IsSettled s → LeftEarly (change_asked from budget s) s left → IsBefore from s left
+pub early_before : (from : Target) (budget : ℕ) (s : State) (left : Left) → IsSettled s → LeftEarly (change_asked from budget s) s left → IsBefore from s left
 early_before from budget s left clean (part, inl (now, answer, rest, says, same), may) = record {
   part = part;
   rest = rest;

@@ -6,7 +6,7 @@ mod ChangeBegins
 mod ChangeEnds
 mod Changes
 mod CheckSaying
-mod Closed
+pub mod Closed
 mod Closing
 mod Completing
 mod Contents
@@ -15,6 +15,7 @@ mod DemoSaying
 mod Elapsing
 mod FaultTexts
 mod Headlines
+mod Intending
 mod Listing
 mod Naming
 mod PlanCheckSaying

@@ -4,6 +4,7 @@ pub mod Changing
 pub mod Contents
 pub mod Crashes
 pub mod Headline
+pub mod Intending
 pub mod Plannings
 pub mod PointLines
 pub mod Summary

@@ -9,6 +9,7 @@ ghost use Rattle.gcu_requests.specs.Form.{form};
 ghost use Rattle.gcu_engine.specs.Answers.{Answers, Complete, HasCause, TellsUsage};
 ghost use Rattle.gcu_engine.specs.Crashes.{LeftMeanwhile};
 ghost use Rattle.gcu_engine.specs.Headline.{IsHeadline};
+ghost use Rattle.gcu_engine.specs.Intending.{KeepsIntent};
 
 use crate::Outcome;
 use crate::abandon::abandon;
@@ -57,6 +58,9 @@ pub fn run<H: Host>(alloc: Global, words: &[Txt], kit: &mut Kit, host: &mut H) -
     ensures headline { IfSome (H.told host.old)
         (λ s. IsHeadline words.now s (H.told host.new) result
         (H.left_since host.new (H.moment host.old))) }
+    // While a plan is done `intent` holds its goal, unless nothing is written yet or all is.
+    ensures intent { IfSome (H.told host.old)
+        (λ s. KeepsIntent words.now s (H.left_since host.new (H.moment host.old))) }
     // What the host's calls keep is kept.
     ensures goes { H.goes_on host.old host.new }
     // The words alone tell whether they are a command.

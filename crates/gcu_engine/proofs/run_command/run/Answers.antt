@@ -9,6 +9,7 @@ use Rattle.gcu_engine.proofs.Completing.{complete_by}
 use Rattle.gcu_engine.proofs.Headlines.{change_headline, headline}
 use Rattle.gcu_engine.proofs.Elapsing.{changes_by, command_leaves, command_leaves_behind, leaves_by}
 use Rattle.gcu_engine.proofs.Answering.{answers_by, said_answers, done_completes, said_completes, no_form_says, preview_says, preview_refuses, refused_cause}
+use Rattle.gcu_engine.proofs.Intending.{keeps_intent}
 use Rattle.gcu_engine.proofs.run_command.run.Goals as goal
 
 -- the words are no command
@@ -285,3 +286,57 @@ pub returns-in-CheckPlan-clause-headline : goal.returns-in-CheckPlan-clause-head
 returns-in-CheckPlan-clause-headline g c =
     headline g.H.Host.moment g.H.Host.left_since c.args.words.now _ (g.H.Host.told c.args.host.now) (g.H.Host.told c.check_plan.new.host) c.args.host.now c.check_plan.new.host
     (g.H.Host.counts c.args.host.now) (g.H.Host.counts c.check_plan.new.host) c.check_plan.result c.in-CheckPlan.ensures tt c.asked_has_one_answer.ensures (returns-in-CheckPlan-clause-answers g c) (returns-in-CheckPlan-clause-crash g c)
+
+-- ---- the file intent
+
+pub returns-in-Unknown-clause-intent : goal.returns-in-Unknown-clause-intent
+returns-in-Unknown-clause-intent g c =
+    keeps_intent g.H.Host.moment g.H.Host.left_since c.args.words.now (g.H.Host.told c.args.host.now) c.args.host.now c.say.new.host (returns-in-Unknown-clause-crash g c)
+
+pub returns-in-Ok-clause-intent : goal.returns-in-Ok-clause-intent
+returns-in-Ok-clause-intent g c =
+    keeps_intent g.H.Host.moment g.H.Host.left_since c.args.words.now (g.H.Host.told c.args.host.now) c.args.host.now c.show.new.host (returns-in-Ok-clause-crash g c)
+
+pub returns-in-Err-clause-intent : goal.returns-in-Err-clause-intent
+returns-in-Err-clause-intent g c =
+    keeps_intent g.H.Host.moment g.H.Host.left_since c.args.words.now (g.H.Host.told c.args.host.now) c.args.host.now c.say-in-Err.new.host (returns-in-Err-clause-crash g c)
+
+pub returns-in-Check-clause-intent : goal.returns-in-Check-clause-intent
+returns-in-Check-clause-intent g c =
+    keeps_intent g.H.Host.moment g.H.Host.left_since c.args.words.now (g.H.Host.told c.args.host.now) c.args.host.now c.check.new.host (returns-in-Check-clause-crash g c)
+
+pub returns-in-ListCheckpoints-clause-intent : goal.returns-in-ListCheckpoints-clause-intent
+returns-in-ListCheckpoints-clause-intent g c =
+    keeps_intent g.H.Host.moment g.H.Host.left_since c.args.words.now (g.H.Host.told c.args.host.now) c.args.host.now c.list_checkpoints.new.host (returns-in-ListCheckpoints-clause-crash g c)
+
+pub returns-in-SaveCheckpoint-clause-intent : goal.returns-in-SaveCheckpoint-clause-intent
+returns-in-SaveCheckpoint-clause-intent g c =
+    keeps_intent g.H.Host.moment g.H.Host.left_since c.args.words.now (g.H.Host.told c.args.host.now) c.args.host.now c.save_checkpoint.new.host (returns-in-SaveCheckpoint-clause-crash g c)
+
+pub returns-in-DeleteCheckpoint-clause-intent : goal.returns-in-DeleteCheckpoint-clause-intent
+returns-in-DeleteCheckpoint-clause-intent g c =
+    keeps_intent g.H.Host.moment g.H.Host.left_since c.args.words.now (g.H.Host.told c.args.host.now) c.args.host.now c.delete_checkpoint.new.host (returns-in-DeleteCheckpoint-clause-crash g c)
+
+pub returns-in-Plan-clause-intent : goal.returns-in-Plan-clause-intent
+returns-in-Plan-clause-intent g c =
+    keeps_intent g.H.Host.moment g.H.Host.left_since c.args.words.now (g.H.Host.told c.args.host.now) c.args.host.now c.dry_run.new.host (returns-in-Plan-clause-crash g c)
+
+pub returns-in-Change-clause-intent : goal.returns-in-Change-clause-intent
+returns-in-Change-clause-intent g c =
+    keeps_intent g.H.Host.moment g.H.Host.left_since c.args.words.now (g.H.Host.told c.args.host.now) c.args.host.now c.change.new.host (returns-in-Change-clause-crash g c)
+
+pub returns-in-Status-clause-intent : goal.returns-in-Status-clause-intent
+returns-in-Status-clause-intent g c =
+    keeps_intent g.H.Host.moment g.H.Host.left_since c.args.words.now (g.H.Host.told c.args.host.now) c.args.host.now c.status.new.host (returns-in-Status-clause-crash g c)
+
+pub returns-in-Abandon-clause-intent : goal.returns-in-Abandon-clause-intent
+returns-in-Abandon-clause-intent g c =
+    keeps_intent g.H.Host.moment g.H.Host.left_since c.args.words.now (g.H.Host.told c.args.host.now) c.args.host.now c.abandon.new.host (returns-in-Abandon-clause-crash g c)
+
+pub returns-in-Demo-clause-intent : goal.returns-in-Demo-clause-intent
+returns-in-Demo-clause-intent g c =
+    keeps_intent g.H.Host.moment g.H.Host.left_since c.args.words.now (g.H.Host.told c.args.host.now) c.args.host.now c.demo.new.host (returns-in-Demo-clause-crash g c)
+
+pub returns-in-CheckPlan-clause-intent : goal.returns-in-CheckPlan-clause-intent
+returns-in-CheckPlan-clause-intent g c =
+    keeps_intent g.H.Host.moment g.H.Host.left_since c.args.words.now (g.H.Host.told c.args.host.now) c.args.host.now c.check_plan.new.host (returns-in-CheckPlan-clause-crash g c)
