@@ -23,8 +23,10 @@ mod PlanSaying
 mod ReadyChanges
 mod ReadyOrNot
 mod Requests
+mod Resuming
 mod RightPlans
 mod Savings
 mod StatusSaying
+mod StepsElsewhere
 mod SummaryTexts
 mod Writing

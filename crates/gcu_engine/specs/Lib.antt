@@ -7,6 +7,7 @@ pub mod Headline
 pub mod Intending
 pub mod Plannings
 pub mod PointLines
+pub mod Resuming
 pub mod Summary
 -- what only private clauses cite
 pub mod Commands

@@ -10,6 +10,7 @@ ghost use Rattle.gcu_engine.specs.Answers.{Answers, Complete, HasCause, TellsUsa
 ghost use Rattle.gcu_engine.specs.Crashes.{LeftMeanwhile};
 ghost use Rattle.gcu_engine.specs.Headline.{IsHeadline};
 ghost use Rattle.gcu_engine.specs.Intending.{KeepsIntent};
+ghost use Rattle.gcu_engine.specs.Resuming.{IsStoppedIn, Resumes};
 
 use crate::Outcome;
 use crate::abandon::abandon;
@@ -25,7 +26,7 @@ use crate::status::status;
 use gcu_output::{say, show};
 use gcu_requests::{Form, asked_has_one_answer, preview, read_form};
 use host_core::{Host, Txt};
-use move_core::{Boxes, Kit};
+use move_core::{Boxes, Kit, listed_moves_have_models};
 use std::alloc::Global;
 
 /// Does the command that the words are, and prints its answer. `preview PATCH` prints the stored
@@ -70,8 +71,13 @@ pub fn run<H: Host>(alloc: Global, words: &[Txt], kit: &mut Kit, host: &mut H) -
     ensures complete { IfSome (H.told host.old)
         (λ s. NoneRose (H.counts host.old) (H.counts host.new)
         → Complete (asked words.now s) result) }
+    // A change that was stopped is finished by `resume`, where nothing fails and memory and budget last.
+    ensures resumes { IfSome (H.told host.old)
+        (λ s. NoneRose (H.counts host.old) (H.counts host.new)
+        → IsStoppedIn s → Resumes words.now result) }
 {
     asked_has_one_answer();
+    listed_moves_have_models();
     match read_form(words) {
         Form::Unknown => say(alloc, Outcome::Usage, host),
         Form::Preview { patch } => match preview(alloc, patch, host) {

@@ -10,6 +10,7 @@ use Rattle.gcu_engine.proofs.Headlines.{change_headline, headline}
 use Rattle.gcu_engine.proofs.Elapsing.{changes_by, command_leaves, command_leaves_behind, leaves_by}
 use Rattle.gcu_engine.proofs.Answering.{answers_by, said_answers, done_completes, said_completes, no_form_says, preview_says, preview_refuses, refused_cause}
 use Rattle.gcu_engine.proofs.Intending.{keeps_intent}
+use Rattle.gcu_engine.proofs.Resuming.{never_resumes, resumes}
 use Rattle.gcu_engine.proofs.run_command.run.Goals as goal
 
 -- the words are no command
@@ -340,3 +341,69 @@ returns-in-Demo-clause-intent g c =
 pub returns-in-CheckPlan-clause-intent : goal.returns-in-CheckPlan-clause-intent
 returns-in-CheckPlan-clause-intent g c =
     keeps_intent g.H.Host.moment g.H.Host.left_since c.args.words.now (g.H.Host.told c.args.host.now) c.args.host.now c.check_plan.new.host (returns-in-CheckPlan-clause-crash g c)
+
+-- ---- a change that was stopped
+
+pub returns-in-Unknown-clause-resumes : goal.returns-in-Unknown-clause-resumes
+returns-in-Unknown-clause-resumes g c =
+    never_resumes c.args.words.now (g.H.Host.told c.args.host.now) (g.H.Host.counts c.args.host.now) (g.H.Host.counts c.say.new.host) c.say.result c.in-Unknown.ensures
+
+pub returns-in-Ok-clause-resumes : goal.returns-in-Ok-clause-resumes
+returns-in-Ok-clause-resumes g c =
+    resumes c.listed_moves_have_models.ensures c.asked_has_one_answer.ensures c.args.words.now (g.H.Host.told c.args.host.now)
+    (g.H.Host.counts c.args.host.now) (g.H.Host.counts c.show.new.host) c.show.result (returns-in-Ok-clause-complete g c)
+
+pub returns-in-Err-clause-resumes : goal.returns-in-Err-clause-resumes
+returns-in-Err-clause-resumes g c =
+    resumes c.listed_moves_have_models.ensures c.asked_has_one_answer.ensures c.args.words.now (g.H.Host.told c.args.host.now)
+    (g.H.Host.counts c.args.host.now) (g.H.Host.counts c.say-in-Err.new.host) c.say-in-Err.result (returns-in-Err-clause-complete g c)
+
+pub returns-in-Check-clause-resumes : goal.returns-in-Check-clause-resumes
+returns-in-Check-clause-resumes g c =
+    resumes c.listed_moves_have_models.ensures c.asked_has_one_answer.ensures c.args.words.now (g.H.Host.told c.args.host.now)
+    (g.H.Host.counts c.args.host.now) (g.H.Host.counts c.check.new.host) c.check.result (returns-in-Check-clause-complete g c)
+
+pub returns-in-ListCheckpoints-clause-resumes : goal.returns-in-ListCheckpoints-clause-resumes
+returns-in-ListCheckpoints-clause-resumes g c =
+    resumes c.listed_moves_have_models.ensures c.asked_has_one_answer.ensures c.args.words.now (g.H.Host.told c.args.host.now)
+    (g.H.Host.counts c.args.host.now) (g.H.Host.counts c.list_checkpoints.new.host) c.list_checkpoints.result (returns-in-ListCheckpoints-clause-complete g c)
+
+pub returns-in-SaveCheckpoint-clause-resumes : goal.returns-in-SaveCheckpoint-clause-resumes
+returns-in-SaveCheckpoint-clause-resumes g c =
+    resumes c.listed_moves_have_models.ensures c.asked_has_one_answer.ensures c.args.words.now (g.H.Host.told c.args.host.now)
+    (g.H.Host.counts c.args.host.now) (g.H.Host.counts c.save_checkpoint.new.host) c.save_checkpoint.result (returns-in-SaveCheckpoint-clause-complete g c)
+
+pub returns-in-DeleteCheckpoint-clause-resumes : goal.returns-in-DeleteCheckpoint-clause-resumes
+returns-in-DeleteCheckpoint-clause-resumes g c =
+    resumes c.listed_moves_have_models.ensures c.asked_has_one_answer.ensures c.args.words.now (g.H.Host.told c.args.host.now)
+    (g.H.Host.counts c.args.host.now) (g.H.Host.counts c.delete_checkpoint.new.host) c.delete_checkpoint.result (returns-in-DeleteCheckpoint-clause-complete g c)
+
+pub returns-in-Plan-clause-resumes : goal.returns-in-Plan-clause-resumes
+returns-in-Plan-clause-resumes g c =
+    resumes c.listed_moves_have_models.ensures c.asked_has_one_answer.ensures c.args.words.now (g.H.Host.told c.args.host.now)
+    (g.H.Host.counts c.args.host.now) (g.H.Host.counts c.dry_run.new.host) c.dry_run.result (returns-in-Plan-clause-complete g c)
+
+pub returns-in-Change-clause-resumes : goal.returns-in-Change-clause-resumes
+returns-in-Change-clause-resumes g c =
+    resumes c.listed_moves_have_models.ensures c.asked_has_one_answer.ensures c.args.words.now (g.H.Host.told c.args.host.now)
+    (g.H.Host.counts c.args.host.now) (g.H.Host.counts c.change.new.host) c.change.result (returns-in-Change-clause-complete g c)
+
+pub returns-in-Status-clause-resumes : goal.returns-in-Status-clause-resumes
+returns-in-Status-clause-resumes g c =
+    resumes c.listed_moves_have_models.ensures c.asked_has_one_answer.ensures c.args.words.now (g.H.Host.told c.args.host.now)
+    (g.H.Host.counts c.args.host.now) (g.H.Host.counts c.status.new.host) c.status.result (returns-in-Status-clause-complete g c)
+
+pub returns-in-Abandon-clause-resumes : goal.returns-in-Abandon-clause-resumes
+returns-in-Abandon-clause-resumes g c =
+    resumes c.listed_moves_have_models.ensures c.asked_has_one_answer.ensures c.args.words.now (g.H.Host.told c.args.host.now)
+    (g.H.Host.counts c.args.host.now) (g.H.Host.counts c.abandon.new.host) c.abandon.result (returns-in-Abandon-clause-complete g c)
+
+pub returns-in-Demo-clause-resumes : goal.returns-in-Demo-clause-resumes
+returns-in-Demo-clause-resumes g c =
+    resumes c.listed_moves_have_models.ensures c.asked_has_one_answer.ensures c.args.words.now (g.H.Host.told c.args.host.now)
+    (g.H.Host.counts c.args.host.now) (g.H.Host.counts c.demo.new.host) c.demo.result (returns-in-Demo-clause-complete g c)
+
+pub returns-in-CheckPlan-clause-resumes : goal.returns-in-CheckPlan-clause-resumes
+returns-in-CheckPlan-clause-resumes g c =
+    resumes c.listed_moves_have_models.ensures c.asked_has_one_answer.ensures c.args.words.now (g.H.Host.told c.args.host.now)
+    (g.H.Host.counts c.args.host.now) (g.H.Host.counts c.check_plan.new.host) c.check_plan.result (returns-in-CheckPlan-clause-complete g c)
