@@ -118,7 +118,7 @@ module _ (c : Change) where
 
   module _ (s : State) (none : steps c ≡ 0) (stands : StandsFor c.stored s.files) where
     -- the beginning that has those files
-    from_files : Files → State
+    abbrev pub from_files : Files → State
     from_files f = record s { files = f; pending = settled }
 
     is_begun : IsSettled s → (f : Files) → IsClosedOrNot s.files f → IsBegun c s (from_files f)

@@ -1,5 +1,5 @@
 -- A change that was stopped is gone on with: no refusal stands against it, and a plan is there.
-use Rattle.std.proofs.Common.{◌≡◌, inl, inr, ℕ, List, refl, sym, ap, subst, Option, Some, None, Ok, Err, IfSome}
+use Rattle.std.proofs.Common.{◌≡◌, inl, inr, ℕ, List, refl, sym, ap, subst, Option, Some, None, Result, Ok, Err, IfSome}
 use Rattle.host_core.specs.Counts.{Counts, NoneRose}
 use Rattle.host_core.specs.State.{State}
 use Rattle.move_core.specs.Contexts.{IsValidIn}
@@ -60,13 +60,13 @@ module _ (law : HaveModels) (budget : ℕ) (s : State) (h : IsStoppedIn s) where
       by (inl done) = subst IsResumed (sym done) tt
       by (inr none) = some_plan e none
 
-  same_request : (r : Request) → Ok r ≡ Ok (request.change rest) → r ≡ request.change rest
+  same_request : (r : Request) → ◌≡◌ {A = Result Request Outcome} (Ok r) (Ok (request.change rest)) → r ≡ request.change rest
   same_request r e = let same : r ≡ request.change rest = cc in same
 
   complete_resumed : HasOneAnswer (change_asked resumed budget s) → (e : Outcome) → Complete (change_asked resumed budget s) e → IsResumed e
   complete_resumed one e (inl memory) = subst IsResumed (sym memory) tt
   complete_resumed one e (inr (inl refused)) =
-      let both : Err e ≡ Ok (request.change rest) = one.same (Err e) (Ok (request.change rest)) refused rest_given in absurd cc
+      let both = one.same (Err e) (Ok (request.change rest)) refused rest_given in absurd cc
   complete_resumed one e (inr (inr (r, given, ends))) =
       finished r e (same_request r (one.same (Ok r) (Ok (request.change rest)) given rest_given)) ends
 

@@ -1,6 +1,7 @@
 -- A move changes its own table alone, so that half way of a plan all tables without a model are as at its ends.
 use Rattle.std.proofs.Common.{◌≡◌, ℕ, zero, suc, List, [], ◌∷◌, Bool, cond, Option, Some, None, Ordering, Less, Equal, Greater, refl, sym, ap, ◌∙◌, subst}
-use Rattle.std.specs.Prelude.{not, option_map_or}
+use Rattle.std.specs.Prelude.{not}
+use Rattle.std.specs.Option.{option_map_or}
 use Rattle.std.specs.Cmp.Lexicographic.{nat_list_cmp_total}
 use Rattle.std.specs.FinMap.Entries.{find-put}
 use Rattle.std.specs.Ordering.{is_eq}
@@ -32,17 +33,17 @@ module _ {A : Type 0} (q k : List ℕ) (apart : q ≡ k → ⊥) where
 
   without_other : (ps : List (List ℕ × A)) → find q (without k ps) ≡ find q ps
   without_other [] = refl
-  without_other (p ∷ ps) = by (name_cmp k p.0) refl
+  without_other (p ∷ ps) = by (without_other ps) (name_cmp k p.0) refl
     where
       skipped : k ≡ p.0 → (r : Ordering) → name_cmp q p.0 ≡ r → find q ps ≡ cond (is_eq r) (Some p.1) (find q ps)
       skipped same Less e = refl
       skipped same Equal e = absurd (apart (same_name q p.0 e ∙ sym same))
       skipped same Greater e = refl
 
-      by : (r : Ordering) → name_cmp k p.0 ≡ r → find q (cond (not (is_eq r)) (p ∷ without k ps) (without k ps)) ≡ find q (p ∷ ps)
-      by Less e = ap (λ (o : Option A). cond (is_eq (name_cmp q p.0)) (Some p.1) o) (without_other ps)
-      by Equal e = without_other ps ∙ skipped (same_name k p.0 e) (name_cmp q p.0) refl
-      by Greater e = ap (λ (o : Option A). cond (is_eq (name_cmp q p.0)) (Some p.1) o) (without_other ps)
+      by : find q (without k ps) ≡ find q ps → (r : Ordering) → name_cmp k p.0 ≡ r → find q (cond (not (is_eq r)) (p ∷ without k ps) (without k ps)) ≡ find q (p ∷ ps)
+      by rest Less e = ap (λ (o : Option A). cond (is_eq (name_cmp q p.0)) (Some p.1) o) rest
+      by rest Equal e = rest ∙ skipped (same_name k p.0 e) (name_cmp q p.0) refl
+      by rest Greater e = ap (λ (o : Option A). cond (is_eq (name_cmp q p.0)) (Some p.1) o) rest
 
   change_other : (f : A → A) (ps : List (List ℕ × A)) → find q (change_part k f ps) ≡ find q ps
   change_other f ps = by (find k ps)
