@@ -137,8 +137,7 @@ module _ (c : Change) where
     -- before its line is printed
     pub closing_left : IsSettled s → (left : Left) → AreLeft IsClosedOrNot s left → LeftChanged c s left
     closing_left clean left h =
-        let begins = is_begun clean left.files h.files in
-        (
+        let begins = is_begun clean left.files h.files in (
           from_files left.files,
           from_files left.files,
           begins,
@@ -156,8 +155,7 @@ module _ (c : Change) where
     fault_left : IsSettled s → (t : State) → Leads IsClosedOrNot s t → (line : List ℕ) → line ≡ last_line (DiskFault 0)
         → (left : Left) → MayLeaveInPrint line (Some t) left → LeftChanged c s left
     fault_left clean t leads line is left (part, rest, text, may) =
-        let files : IsClosedOrNot s.files left.files = leads.images left.files may.files in
-        (
+        let files : IsClosedOrNot s.files left.files = leads.images left.files may.files in (
           from_files t.files,
           from_files left.files,
           is_begun clean t.files leads.reads,
