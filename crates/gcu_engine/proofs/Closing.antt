@@ -38,6 +38,11 @@ first_line ready bytes =
     ap (λ (ls : List (List ℕ)). line_at ls 0) bytes.lines_are.disk
     ∙ disk_there (suc (length ready.ready.restarts)) 0 (let one : 0 < suc (length ready.ready.restarts) = omega arith in one)
 
+-- no move is done
+pub at_first : (x : Config) (ms : List Move) → conf x ms 0 ≡ x
+at_first x [] = refl
+at_first x (m ∷ ms) = refl
+
 -- ---- what is closed
 
 module _ (c : Change) where
@@ -65,10 +70,6 @@ module _ (c : Change) where
       subst (λ m. IfSome m (λ t. ClosesAs false c t.files)) (sym (closed_is (Some s) n h)) (inr (get_there intent_file None s.files))
 
   -- ---- before the first step
-
-  at_first : (x : Config) (ms : List Move) → conf x ms 0 ≡ x
-  at_first x [] = refl
-  at_first x (m ∷ ms) = refl
 
   stands_first : (s : State) → StandsFor c.stored s.files → stored s.files ≡ Ok (conf_at c 0)
   stands_first s stands = stands.config ∙ ap (λ (x : Config). Ok x) (sym (at_first c.stored.config c.moves))

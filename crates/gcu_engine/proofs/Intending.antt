@@ -32,15 +32,12 @@ use Rattle.gcu_engine.specs.Intending.{HasIntent, HoldsText, IsIntended, IsKept,
 use Rattle.gcu_engine.proofs.Acknowledged.{acked_is}
 use Rattle.gcu_engine.proofs.ChangeEnds.{is_last_line}
 use Rattle.gcu_engine.proofs.Closed.{begun_output}
+use Rattle.gcu_engine.proofs.Closing.{at_first}
 use Rattle.gcu_engine.proofs.Headlines.{early_before, same_change, settled_files}
 use Rattle.gcu_engine.proofs.Requests.{change_given}
 use Rattle.gcu_engine.proofs.RightPlans.{IsAsked, right_plan, way_last}
 
 -- ---- a plan's configurations
-
-at_first : (x : Config) (ms : List Move) → conf x ms 0 ≡ x
-at_first x [] = refl
-at_first x (m ∷ ms) = refl
 
 -- without moves there is one
 at_any : (x : Config) (ms : List Move) → length ms ≡ 0 → (k : ℕ) → conf x ms k ≡ x
