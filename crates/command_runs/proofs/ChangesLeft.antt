@@ -1,6 +1,6 @@
 -- What a crash leaves of a command that does a plan: the last acknowledged configuration or the next, by what
 -- was printed.
-use Rattle.std.proofs.Common.{◌≡◌, ◌≤◌, ◌<◌, ◌^◌, ◌⊎◌, inl, inr, ℕ, suc, List, [], ◌++◌, length, append_assoc, Ok, refl, sym, ◌∙◌, subst}
+use Rattle.std.proofs.Common.{◌≡◌, ◌≤◌, ◌<◌, ◌^◌, ◌⊎◌, inl, inr, ℕ, suc, List, [], ◌++◌, length, append_assoc, Ok, refl, sym, ap, ◌∙◌, subst}
 use Rattle.std.proofs.lemmas.List.{append_cancel_left}
 use Rattle.host_core.specs.Crashes.{Image, Left}
 use Rattle.host_core.specs.State.{Files, State}

@@ -23,13 +23,13 @@ closed_other : (f : Files) (q : List ℕ) → (q ≡ intent_file → ⊥) → ge
 closed_other f q apart = get_other intent_file None f q apart
 
 -- the folder stands for the same
-pub closed_stored : (f : Files) → stored (without_intent f) ≡ stored f
+closed_stored : (f : Files) → stored (without_intent f) ≡ stored f
 closed_stored f =
     same_stored f (without_intent f) (closed_other f folded_file folded_not_intent) (closed_other f config_file config_not_intent)
     (λ n. closed_other f (step_name n) (no_step_intent n))
 
 -- and has the same checkpoints
-pub closed_points : (f : Files) → points (without_intent f) ≡ points f
+closed_points : (f : Files) → points (without_intent f) ≡ points f
 closed_points f = points_kept f (without_intent f) (λ q other apart. closed_other f q apart)
 
 pub closed_stands : (what : Stored) (f : Files) → StandsFor what f → StandsFor what (without_intent f)

@@ -119,7 +119,7 @@ module _ (c : Change) where
 
   module _ (s : State) (none : steps c ≡ 0) (stands : StandsFor c.stored s.files) where
     -- the beginning that has those files
-    abbrev pub from_files : Files → State
+    abbrev from_files : Files → State
     from_files f = record s { files = f; pending = settled }
 
     is_begun : IsSettled s → (f : Files) → IsClosedOrNot s.files f → IsBegun c s (from_files f)
@@ -136,7 +136,7 @@ module _ (c : Change) where
         left_first (from_files left.files) (stands_at left.files files) (record left { output = out }) refl output restarts
 
     -- before its line is printed
-    pub closing_left : IsSettled s → (left : Left) → AreLeft IsClosedOrNot s left → LeftChanged c s left
+    closing_left : IsSettled s → (left : Left) → AreLeft IsClosedOrNot s left → LeftChanged c s left
     closing_left clean left h =
         let begins = is_begun clean left.files h.files in (
           from_files left.files,
@@ -147,7 +147,7 @@ module _ (c : Change) where
         )
 
     -- the line of a fault
-    pub fault_last : (t : State) → Leads IsClosedOrNot s t → (line : List ℕ) → line ≡ last_line (DiskFault 0)
+    fault_last : (t : State) → Leads IsClosedOrNot s t → (line : List ℕ) → line ≡ last_line (DiskFault 0)
         → IsLast c (from_files t.files) t (DiskFault 0) line
     fault_last t leads line is =
         (stopped_first (from_files t.files) t (stands_at t.files leads.reads) refl leads.inputs leads.output leads.restarts, is)

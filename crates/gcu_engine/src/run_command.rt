@@ -43,15 +43,15 @@ pub fn run<H: Host>(alloc: Global, words: &[Txt], kit: &mut Kit, host: &mut H) -
     requires kinds { ⟦<Kit as Boxes>⟧.HasKinds kit.old }
     ensures kinds { ⟦<Kit as Boxes>⟧.HasKinds kit.new }
     // The answer is the first refusal, or what the command asks for, and nothing changes but the output, a
-    // checkpoint that is saved or deleted, and the work of a plan that is done.
+    // checkpoint that is saved or deleted, `intent` that is given up, and the work of a plan that is done.
     ensures answers { Answers words.now
         (H.told host.old) (H.told host.new) (H.counts host.old) (H.counts host.new) result }
     // A fault is answered only where its count rose.
     ensures cause { HasCause (H.counts host.old) (H.counts host.new) result }
     ensures counts { NoneFell (H.counts host.old) (H.counts host.new) }
-    // A crash at a moment of it leaves the folder as it was, or with the checkpoint that is saved or without
-    // the one that is deleted, with a front of some output. Of a plan that is done it leaves the last
-    // acknowledged configuration or the next one.
+    // A crash at a moment of it leaves the folder as it was, or with the checkpoint that is saved, without the
+    // one that is deleted or without `intent`, with a front of some output. Of a plan that is done it leaves
+    // the last acknowledged configuration or the next one.
     ensures crash { LeavesOnly H.moment H.left_since host.old host.new
         (LeftMeanwhile words.now (H.told host.old)) }
     // What is printed of a plan is right, a crash leaves what is acknowledged or the next and whole
