@@ -1,5 +1,5 @@
 -- The last fold, by the bytes that are ready for it.
-use Rattle.std.proofs.Common.{◌≡◌, ◌<◌, ℕ, List, Option, Ok, sym, ap, ◌∙◌, subst, arith}
+use Rattle.std.proofs.Common.{◌≡◌, ℕ, List, Option, Ok, sym, ap, ◌∙◌, subst}
 use Rattle.std.specs.Prelude.{IfSome}
 use Rattle.std.specs.List.{AllPass}
 use Rattle.host_core.specs.Crashes.{Left, LeavesOnly}
@@ -11,8 +11,8 @@ use Rattle.conf_store.specs.Files.{is_step_name}
 use Rattle.conf_store.specs.Folds.{IsFolded, KeepsStored, StandsFor}
 use Rattle.conf_store.specs.Stored.{config_in}
 use Rattle.change_apply.specs.Change.{Change, goal, steps}
-use Rattle.change_apply.specs.Ends.{Finishes, Stops}
-use Rattle.change_apply.specs.Stages.{AtStep, first_steps}
+use Rattle.change_apply.specs.Ends.{Stops}
+use Rattle.change_apply.specs.Stages.{AtFolded, AtStep, first_steps}
 use Rattle.change_apply.specs.Work.{IsReady, change_in, count}
 use Rattle.change_apply.specs.declared.errors.ApplyFault.TheVariants.{Disk}
 use Rattle.change_apply.specs.declared.ready.Work.{Work}
@@ -44,10 +44,10 @@ module _ (work : Work) (ready : IsReady work) where
   holds : config_in (file_text (goal change)) ≡ Ok (goal change)
   holds = sym (ap config_in ready.goal_text) ∙ ready.goal_holds ∙ ap (λ (c : Config). Ok c) ready.goal_config
 
-  pub all_folded : 0 < count work → (bytes : List ℕ) → bytes ≡ work.goal_text.items → (o p n : Option State) → AtStep change (count work) o p
-      → Settles (IsFolded bytes) p n → Finishes change o n
-  all_folded some bytes is o p n at ends =
-      last_folded change (omega (arith, some, count_is work)) holds o p n (all_steps o p at) (subst (λ b. Settles (IsFolded b) p n) (is ∙ ready.goal_text) ends)
+  pub steps_folded : (bytes : List ℕ) → bytes ≡ work.goal_text.items → (o p n : Option State) → AtStep change (count work) o p
+      → Settles (IsFolded bytes) p n → AtFolded change o n
+  steps_folded bytes is o p n at ends =
+      last_folded change holds o p n (all_steps o p at) (subst (λ b. Settles (IsFolded b) p n) (is ∙ ready.goal_text) ends)
 
   pub fold_fails : (k : ℕ) → k ≡ count work → (o p n : Option State) → AtStep change (count work) o p → Changes KeepsStored p n → Stops change (Disk k) o n
   fold_fails k is o p n at ends =

@@ -1,6 +1,9 @@
 mod Counting
 mod Due
 mod FoldStages
+pub mod IntentNames
+mod IntentStages
+mod KeptIntents
 mod LastFold
 mod Moments
 mod ReadySteps

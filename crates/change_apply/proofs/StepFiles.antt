@@ -13,7 +13,7 @@ use Rattle.conf_doc.specs.Texts.{file_text}
 use Rattle.conf_doc.specs.declared.configuration.Config.{Config}
 use Rattle.patch_core.specs.Apply.{result_of}
 use Rattle.patch_core.specs.Reading.{patch}
-use Rattle.conf_store.specs.Files.{config_file, folded_file, is_step_name, last_step, scratch, step_name, step_names, without_scratch}
+use Rattle.conf_store.specs.Files.{config_file, folded_file, intent_file, is_step_name, last_step, scratch, step_name, step_names, without_scratch}
 use Rattle.conf_store.specs.Folds.{IsFolded, StandsFor}
 use Rattle.conf_store.specs.Puts.{IsPutOrNot, put}
 use Rattle.conf_store.specs.Steps.{CanStep, IsStep, IsStepPut, IsStepPutOrNot, IsStepped}
@@ -28,8 +28,9 @@ use Rattle.move_core.specs.Plans.{conf}
 use Rattle.move_core.specs.declared.moves.Move.{Move}
 use Rattle.change_apply.specs.Change.{Change, conf_at, goal, step_text, steps}
 use Rattle.change_apply.specs.Crashes.{HasSmallSteps, KeepsOthers, StandAt}
-use Rattle.change_apply.specs.Ends.{IsWhole}
-use Rattle.change_apply.specs.Stages.{AreSteps, first_steps}
+use Rattle.change_apply.specs.Intents.{HoldsGoal}
+use Rattle.change_apply.specs.Stages.{AreAllFolded, AreSteps, first_steps}
+use Rattle.change_apply.proofs.IntentNames.{intent_not_scratch, intent_other}
 use Rattle.change_apply.proofs.StepNames.{IsBehind, behind, behind_more, last_put, named}
 
 -- ---- small facts
@@ -87,9 +88,9 @@ conf_start c (m ∷ ms) = refl
 pub at_start : (change : Change) → ◌≡◌ {A = Result Config StoredWhy} (Ok change.stored.config) (Ok (conf_at change 0))
 at_start change = ap (λ (c : Config). Ok c) (sym (conf_start change.stored.config change.moves))
 
-module _ (change : Change) (f : Files) (stands : StandsFor change.stored f) where
+module _ (change : Change) (f : Files) (stands : StandsFor change.stored f) (before : Files) (others : KeepsOthers before f) (intent : HoldsGoal change f) where
   -- where there is nothing to fold
-  pub begins_unfolded : change.stored.steps ≡ [] → change.stored.folded ≡ false → AreSteps change 0 f f
+  pub begins_unfolded : change.stored.steps ≡ [] → change.stored.folded ≡ false → AreSteps change 0 before f
   begins_unfolded none isnt = found (get f config_file) refl
     where
       unfolded : get f folded_file ≡ None
@@ -98,7 +99,7 @@ module _ (change : Change) (f : Files) (stands : StandsFor change.stored f) wher
       no_steps_there : step_names f ≡ []
       no_steps_there = stands.steps ∙ none
 
-      found : (o : Option (List ℕ)) → get f config_file ≡ o → AreSteps change 0 f f
+      found : (o : Option (List ℕ)) → get f config_file ≡ o → AreSteps change 0 before f
       found None e =
           let fails : stored f ≡ Err NoFile =
           ap (λ (o : Option (List ℕ)). or_unfolded o (after_all_steps f)) unfolded
@@ -116,11 +117,12 @@ module _ (change : Change) (f : Files) (stands : StandsFor change.stored f) wher
         missing = λ n more small. no_step f (step_name n) no_steps_there (named n);
         names = no_steps_there;
         stands = stands.config ∙ at_start change;
-        others = λ q other. refl;
+        intent = intent;
+        others = others;
       }
 
   -- and where there is
-  pub begins_folded : (bytes : List ℕ) → config_in bytes ≡ Ok change.stored.config → (g : Files) → IsFolded bytes f g → AreSteps change 0 f g
+  pub begins_folded : (bytes : List ℕ) → config_in bytes ≡ Ok change.stored.config → (g : Files) → IsFolded bytes f g → AreSteps change 0 before g
   begins_folded bytes holds g folded = record {
     small = record {
       bytes = unwrap_or (get f folded_file) bytes;
@@ -132,7 +134,8 @@ module _ (change : Change) (f : Files) (stands : StandsFor change.stored f) wher
     missing = λ n more small. no_step g (step_name n) folded.steps (named n);
     names = folded.steps;
     stands = by_config (unwrap_or (get f folded_file) bytes) g folded.folded folded.config (no_step g (step_name 1) folded.steps refl) ∙ held (get f folded_file) refl ∙ at_start change;
-    others = folded.others;
+    intent = folded.others intent_file intent_other ∙ intent;
+    others = λ q other apart. folded.others q other ∙ others q other apart;
   }
     where
       held : (o : Option (List ℕ)) → get f folded_file ≡ o → config_in (unwrap_or o bytes) ≡ Ok change.stored.config
@@ -192,7 +195,10 @@ module _ (change : Change) (k : ℕ) (before f : Files) (at : AreSteps change k 
     }
 
     still_others : (g : Files) → ((q : List ℕ) → (q ≡ scratch → ⊥) → (q ≡ name → ⊥) → get g q ≡ get f q) → KeepsOthers before g
-    still_others g alike = λ q other. alike q other.not_scratch (no_step_name q (suc k) other.not_step) ∙ at.others q other
+    still_others g alike = λ q other apart. alike q other.not_scratch (no_step_name q (suc k) other.not_step) ∙ at.others q other apart
+
+    still_intent : (g : Files) → ((q : List ℕ) → (q ≡ scratch → ⊥) → (q ≡ name → ⊥) → get g q ≡ get f q) → HoldsGoal change g
+    still_intent g alike = alike intent_file intent_not_scratch (no_step_name intent_file (suc k) refl) ∙ at.intent
 
     -- put or not
     alike_either : (g : Files) → IsPutOrNot name (step_text m) f g → (q : List ℕ) → (q ≡ scratch → ⊥) → (q ≡ name → ⊥) → get g q ≡ get f q
@@ -205,6 +211,9 @@ module _ (change : Change) (k : ℕ) (before f : Files) (at : AreSteps change k 
 
     pub either_others : (g : Files) → IsStepPutOrNot name (step_text m) f g → KeepsOthers before g
     either_others g either = still_others g (alike_either g either.files)
+
+    pub either_intent : (g : Files) → IsStepPutOrNot name (step_text m) f g → HoldsGoal change g
+    either_intent g either = still_intent g (alike_either g either.files)
 
     pub either_stands : (g : Files) → IsStepPutOrNot name (step_text m) f g → StandAt change k g
     either_stands g either = ⊎_elim (λ same. inl (same ∙ at.stands)) (λ by. inr (stepped g by)) either.stands
@@ -234,6 +243,7 @@ module _ (change : Change) (k : ℕ) (before f : Files) (at : AreSteps change k 
           last_put name (step_text m) (named (suc k)) (without_scratch f) (subst (IsBehind name) (sym steps_seen) (behind_first k (suc k) (omega arith) small))
           ∙ ap (λ (names : List (List ℕ)). names ++ name ∷ []) steps_seen;
       stands = stepped (put name (step_text m) f) by.stepped;
+      intent = still_intent (put name (step_text m) f) alike_put;
       others = still_others (put name (step_text m) f) alike_put;
     }
       where
@@ -249,14 +259,15 @@ module _ (change : Change) (k : ℕ) (before f : Files) (at : AreSteps change k 
 -- ---- the last fold
 
 module _ (change : Change) (before f : Files) (at : AreSteps change (steps change) before f) where
-  pub whole : (g : Files) → IsFolded (file_text (goal change)) f g → IsWhole (goal change) before g
-  whole g folded = record {
-    config_text = folded.config ∙ ap (λ (o : Option (List ℕ)). Some (unwrap_or o (file_text (goal change)))) at.small.unfolded;
-    steps = folded.steps;
-    folded = folded.folded;
-    others = λ q other. folded.others q other ∙ at.others q other;
-  }
+  config_after : (g : Files) → IsFolded (file_text (goal change)) f g → get g config_file ≡ Some (file_text (goal change))
+  config_after g folded = folded.config ∙ ap (λ (o : Option (List ℕ)). Some (unwrap_or o (file_text (goal change)))) at.small.unfolded
 
-  pub whole_stands : config_in (file_text (goal change)) ≡ Ok (goal change) → (g : Files) → IsFolded (file_text (goal change)) f g → stored g ≡ Ok (goal change)
-  whole_stands holds g folded =
-      by_config (file_text (goal change)) g folded.folded (whole g folded).config_text (no_step g (step_name 1) folded.steps refl) ∙ holds
+  pub all_folded : config_in (file_text (goal change)) ≡ Ok (goal change) → (g : Files) → IsFolded (file_text (goal change)) f g → AreAllFolded change before g
+  all_folded holds g folded = record {
+    config_text = config_after g folded;
+    names = folded.steps;
+    folded = folded.folded;
+    stands = by_config (file_text (goal change)) g folded.folded (config_after g folded) (no_step g (step_name 1) folded.steps refl) ∙ holds;
+    intent = folded.others intent_file intent_other ∙ at.intent;
+    others = λ q other apart. folded.others q other ∙ at.others q other apart;
+  }

@@ -6,7 +6,7 @@ use Rattle.std.proofs.lemmas.List.{map_more, take-append-drop, take_all}
 use Rattle.host_core.specs.Crashes.{Left, LeavesOnly, MayLeave, MayLeaveInPrint, MayLeaveNow, Image}
 use Rattle.host_core.specs.State.{Files, PrintsPart, State, after_restart, printed, settled}
 use Rattle.conf_store.specs.Changes.{AreLeft, Changes, IsSettled, Settles}
-use Rattle.conf_store.specs.Files.{last_step, step_name}
+use Rattle.conf_store.specs.Files.{intent_file, last_step, step_name}
 use Rattle.conf_store.specs.Steps.{CanStep, IsStep, IsStepPut, IsStepPutOrNot}
 use Rattle.conf_store.specs.Stored.{stored}
 use Rattle.move_core.specs.declared.moves.Move.{Move}
@@ -17,8 +17,9 @@ use Rattle.change_apply.specs.Ends.{Stops, worked}
 use Rattle.change_apply.specs.Stages.{AreSteps, AtPut, AtStage, AtStep}
 use Rattle.change_apply.specs.declared.errors.ApplyFault.TheVariants.{Disk, Service, Print}
 use Rattle.change_apply.specs.declared.ready.Restart.{Restart}
+use Rattle.change_apply.proofs.KeptIntents.{held}
 use Rattle.change_apply.proofs.Moments.{LeavesOf, changes}
-use Rattle.change_apply.proofs.StepFiles.{either_others, either_small, either_stands, may_step, one_more}
+use Rattle.change_apply.proofs.StepFiles.{either_intent, either_others, either_small, either_stands, may_step, one_more}
 
 -- ---- what is told at a stage
 
@@ -39,11 +40,11 @@ module _ (change : Change) where
 
 -- ---- what a crash leaves
 
-not_empty : (k : ℕ) → ack k ≡ [] → ⊥
+pub not_empty : (k : ℕ) → ack k ≡ [] → ⊥
 not_empty k e = cc
 
 -- no part of the next acknowledgement is there
-pub quiet : (k : ℕ) (before after : List ℕ) → after ≡ before ++ acks k → HasAcknowledged k before after
+abbrev pub quiet : (k : ℕ) (before after : List ℕ) → after ≡ before ++ acks k → HasAcknowledged k before after
 quiet k before after e = record {
   part = [];
   rest = ack (suc k);
@@ -67,13 +68,15 @@ left_at_step change k within (Some s) n at left may =
       done = k;
       within = within;
       output = quiet k s.output left.output here.output;
+      unfinished = λ some. absurd (some refl);
       stands = inl (ap stored same ∙ at.2.stands);
       started = [];
       due = restarts_at change k;
       next = refl;
       restarts = here.restarts ∙ sym (append-nil (s.restarts ++ restarted change k));
       in_order = inl refl;
-      others = λ q other. ap (λ (g : Files). get g q) same ∙ at.2.others q other;
+      others = λ q other apart. ap (λ (g : Files). get g q) same ∙ at.2.others q other apart;
+      intent = held change k s.files left.files (ap (λ (g : Files). get g intent_file) same ∙ at.2.intent);
       small = λ one less. subst (HasSmallSteps change k) (sym same) at.2.small;
     }
 
@@ -141,6 +144,7 @@ module _ (change : Change) (k : ℕ) (m : Move) (due : IsDue change k m) where
           output = leads.output ∙ sym (append-nil (s.output ++ acks k));
           restarts = leads.restarts ∙ sym (append-nil (s.restarts ++ restarted change k));
           stands = either_stands change k s.files at.0 at.2 m due.is due.few due.leads later.0.files leads.reads;
+          intent = held change k s.files later.0.files (either_intent change k s.files at.0 at.2 m due.is due.few due.leads later.0.files leads.reads);
           others = either_others change k s.files at.0 at.2 m due.is due.few due.leads later.0.files leads.reads;
         },
       )
@@ -151,6 +155,7 @@ module _ (change : Change) (k : ℕ) (m : Move) (due : IsDue change k m) where
     done = k;
     within = omega (arith, due.within);
     output = quiet k s.output left.output left_so.output;
+    unfinished = λ some. absurd (some refl);
     stands = either_stands change k s.files f are m due.is due.few due.leads left.files left_so.files;
     started = [];
     due = restarts_at change k;
@@ -158,6 +163,7 @@ module _ (change : Change) (k : ℕ) (m : Move) (due : IsDue change k m) where
     restarts = left_so.restarts ∙ sym (append-nil (s.restarts ++ restarted change k));
     in_order = inl refl;
     others = either_others change k s.files f are m due.is due.few due.leads left.files left_so.files;
+    intent = held change k s.files left.files (either_intent change k s.files f are m due.is due.few due.leads left.files left_so.files);
     small = λ one less. either_small change k s.files f are m due.is due.few due.leads left.files left_so.files;
   }
 
@@ -182,13 +188,15 @@ module _ (change : Change) (k : ℕ) (m : Move) (due : IsDue change k m) where
         done = k;
         within = omega (arith, due.within);
         output = quiet k s.output left.output may.output;
+        unfinished = λ some. absurd (some refl);
         stands = inr (ap stored same ∙ are.stands);
         started = take i rs;
         due = drop i rs;
         next = sym (take-append-drop i rs);
         restarts = may.restarts ∙ sym (append_assoc s.restarts (restarted change k) (names (take i rs)));
         in_order = inr (ap stored same ∙ are.stands);
-        others = λ q other. ap (λ (g : Files). get g q) same ∙ are.others q other;
+        others = λ q other apart. ap (λ (g : Files). get g q) same ∙ are.others q other apart;
+        intent = held change k s.files left.files (ap (λ (g : Files). get g intent_file) same ∙ are.intent);
         small = λ one less. subst (HasSmallSteps change k) (sym same) (one_fewer change k f are.small);
       }
 
@@ -235,6 +243,7 @@ module _ (change : Change) (k : ℕ) (m : Move) (due : IsDue change k m) where
           output = sym (append-nil (s.output ++ acks k));
           restarts = sym (append_assoc s.restarts (restarted change k) (names (take i rs)));
           stands = inr at.2.stands;
+          intent = held change k s.files at.0 at.2.intent;
           others = at.2.others;
         };
         put = at.2.stands;
@@ -279,6 +288,7 @@ module _ (change : Change) (k : ℕ) (m : Move) (due : IsDue change k m) where
             sym (append_assoc s.restarts (restarted change k) (names (take (length rs) rs)))
             ∙ ap (λ (l : List Restart). s.restarts ++ restarted change k ++ names l) (take_all (length rs) rs (omega arith));
         stands = inr at.2.stands;
+        intent = held change k s.files at.0 at.2.intent;
         others = at.2.others;
       };
       put = at.2.stands;
@@ -292,13 +302,15 @@ module _ (change : Change) (k : ℕ) (m : Move) (due : IsDue change k m) where
     done = suc k;
     within = omega (arith, due.within);
     output = quiet (suc k) s.output left.output (output ∙ append_assoc s.output (acks k) part ∙ ap (λ (l : List ℕ). s.output ++ (acks k ++ l)) (sym (line ∙ append-nil part)));
+    unfinished = λ some. absurd (some refl);
     stands = inl (ap stored same ∙ are.stands);
     started = [];
     due = restarts_at change (suc k);
     next = refl;
     restarts = restarts ∙ ap (λ (l : List (List ℕ)). s.restarts ++ l) all_restarted ∙ sym (append-nil (s.restarts ++ restarted change (suc k)));
     in_order = inl refl;
-    others = λ q other. ap (λ (g : Files). get g q) same ∙ are.others q other;
+    others = λ q other apart. ap (λ (g : Files). get g q) same ∙ are.others q other apart;
+    intent = held change (suc k) s.files left.files (ap (λ (g : Files). get g intent_file) same ∙ are.intent);
     small = λ one less. subst (HasSmallSteps change (suc k)) (sym same) are.small;
   }
   left_printing part (x ∷ rest) line s f are left same output restarts = record {
@@ -311,6 +323,7 @@ module _ (change : Change) (k : ℕ) (m : Move) (due : IsDue change k m) where
       cut = some_left x rest;
       printed = output;
     };
+    unfinished = λ some. due.within;
     stands = inr (ap stored same ∙ are.stands);
     started = rs;
     due = [];
@@ -319,7 +332,8 @@ module _ (change : Change) (k : ℕ) (m : Move) (due : IsDue change k m) where
         restarts ∙ sym (append_assoc s.restarts (restarted change k) (names (take (length rs) rs)))
         ∙ ap (λ (l : List Restart). s.restarts ++ restarted change k ++ names l) (take_all (length rs) rs (omega arith));
     in_order = inr (ap stored same ∙ are.stands);
-    others = λ q other. ap (λ (g : Files). get g q) same ∙ are.others q other;
+    others = λ q other apart. ap (λ (g : Files). get g q) same ∙ are.others q other apart;
+    intent = held change k s.files left.files (ap (λ (g : Files). get g intent_file) same ∙ are.intent);
     small = λ one less. subst (HasSmallSteps change k) (sym same) (one_fewer change k f are.small);
   }
     where

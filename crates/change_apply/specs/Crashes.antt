@@ -1,19 +1,21 @@
 -- What a crash at any moment of a change leaves.
-use Rattle.std.specs.Prelude.{◌≡◌, ◌<◌, ◌≤◌, ◌⊎◌, ℕ, suc, List, [], ◌++◌, Option, Some, None, Ok, IfSome, slice_get}
+use Rattle.std.specs.Prelude.{◌≡◌, ◌≢◌, ◌<◌, ◌≤◌, ◌⊎◌, ℕ, suc, List, [], ◌++◌, Option, Some, None, Ok, IfSome, slice_get}
 use Rattle.std.specs.FinMap.{get}
 use Rattle.host_core.specs.Crashes.{Left, LeavesOnly}
 use Rattle.host_core.specs.State.{Files, State}
-use Rattle.conf_store.specs.Files.{config_file, folded_file, step_name}
+use Rattle.conf_store.specs.Files.{config_file, folded_file, intent_file, step_name}
 use Rattle.conf_store.specs.Folds.{IsOther}
 use Rattle.conf_store.specs.Stored.{config_in, stored}
 use Rattle.move_core.specs.declared.moves.Move.{Move}
 use Rattle.change_apply.specs.Acknowledgements.{HasAcknowledged}
 use Rattle.change_apply.specs.Change.{Change, conf_at, names, restarted, restarts_at, step_text, steps}
+use Rattle.change_apply.specs.Intents.{KeepsIntent}
 use Rattle.change_apply.specs.declared.ready.Restart.{Restart}
 
 -- the files that a change has nothing to do with are as before
 abbrev pub KeepsOthers : Files → Files → Type 0
-KeepsOthers before after = (name : List ℕ) → IsOther name → get after name ≡ get before name
+KeepsOthers before after =
+    (name : List ℕ) → IsOther name → name ≢ intent_file → get after name ≡ get before name
 
 -- the files stand for the configuration after the first k steps, or after one more
 abbrev pub StandAt : Change → ℕ → Files → Type 0
@@ -35,6 +37,8 @@ pub record IsLeft (change : Change) (before : State) (left : Left) : Type 0 wher
   pub done : ℕ
   pub within : done ≤ steps change
   pub output : HasAcknowledged done before.output left.output
+  -- behind the last acknowledgement there is none in part
+  pub unfinished : output.part ≢ [] → done < steps change
   pub stands : StandAt change done left.files
   -- the services that were restarted after the next step, and those that weren't
   pub started : List Restart
@@ -44,6 +48,7 @@ pub record IsLeft (change : Change) (before : State) (left : Left) : Type 0 wher
   -- none of them before the next step is on the disk
   pub in_order : (started ≡ []) ⊎ (stored left.files ≡ Ok (conf_at change (suc done)))
   pub others : KeepsOthers before.files left.files
+  pub intent : KeepsIntent change done before.files left.files
   pub small : 1 ≤ done → done < steps change → HasSmallSteps change done left.files
 
 -- a crash at any moment since that stage leaves this, of each beginning of the change

@@ -5,11 +5,12 @@ use Rattle.host_core.specs.Counts.{Counts, Rose}
 use Rattle.host_core.specs.State.{Files, State, settled}
 use Rattle.conf_doc.specs.Texts.{file_text}
 use Rattle.conf_doc.specs.declared.configuration.Config.{Config}
-use Rattle.conf_store.specs.Files.{config_file, folded_file, step_names}
+use Rattle.conf_store.specs.Files.{config_file, folded_file, intent_file, step_names}
 use Rattle.conf_store.specs.Stored.{stored}
 use Rattle.change_apply.specs.Acknowledgements.{ack, acks}
 use Rattle.change_apply.specs.Change.{Change, conf_at, goal, names, restarted, restarts_at, steps}
 use Rattle.change_apply.specs.Crashes.{KeepsOthers, StandAt}
+use Rattle.change_apply.specs.Intents.{KeepsIntent}
 use Rattle.change_apply.specs.declared.errors.ApplyFault.{ApplyFault}
 use Rattle.change_apply.specs.declared.errors.ApplyFault.TheVariants.{Disk, Service, Print}
 use Rattle.change_apply.specs.declared.ready.Restart.{Restart}
@@ -25,11 +26,12 @@ worked files acked services s = record s {
 
 -- ---- finished
 
--- the one file is the file text of the configuration, and all else is as before
+-- the one file is the file text of the configuration, no intent is there, and all else is as before
 pub record IsWhole (config : Config) (before after : Files) : Type 0 where
   pub config_text : get after config_file ≡ Some (file_text config)
   pub steps : step_names after ≡ []
   pub folded : get after folded_file ≡ None
+  pub intent : get after intent_file ≡ None
   pub others : KeepsOthers before after
 
 -- the files stand for the goal; without steps nothing was written
@@ -56,6 +58,7 @@ pub record IsStopped (change : Change) (k : ℕ) (part : List ℕ) (started : Li
   pub output : after.output ≡ before.output ++ acks k ++ part
   pub restarts : after.restarts ≡ before.restarts ++ restarted change k ++ names started
   pub stands : StandAt change k after.files
+  pub intent : KeepsIntent change k before.files after.files
   pub others : KeepsOthers before.files after.files
 
 -- stopped at the restart of that service of the next step, which is on the disk

@@ -2,13 +2,15 @@
 use Rattle.std.specs.Prelude.{◌≡◌, ◌<◌, ◌≤◌, ℕ, zero, suc, List, [], ◌∷◌, ◌++◌, Option, Some, None, Ok, take}
 use Rattle.std.specs.FinMap.{get}
 use Rattle.host_core.specs.State.{Files, State}
+use Rattle.conf_doc.specs.Texts.{file_text}
 use Rattle.conf_store.specs.Changes.{IsSettled}
-use Rattle.conf_store.specs.Files.{last_step, step_name, step_names}
+use Rattle.conf_store.specs.Files.{config_file, folded_file, last_step, step_name, step_names}
 use Rattle.conf_store.specs.Folds.{StandsFor}
 use Rattle.conf_store.specs.Stored.{stored}
-use Rattle.change_apply.specs.Change.{Change, conf_at, names, restarted, restarts_at}
+use Rattle.change_apply.specs.Change.{Change, conf_at, goal, names, restarted, restarts_at, steps}
 use Rattle.change_apply.specs.Crashes.{HasSmallSteps, KeepsOthers}
 use Rattle.change_apply.specs.Ends.{worked}
+use Rattle.change_apply.specs.Intents.{HoldsGoal}
 
 -- the names of the first step files
 abbrev pub first_steps : ℕ → List (List ℕ)
@@ -21,6 +23,7 @@ pub record AreSteps (change : Change) (k : ℕ) (before after : Files) : Type 0 
   pub missing : (n : ℕ) → k < n → n ≤ last_step → get after (step_name n) ≡ None
   pub names : step_names after ≡ first_steps k
   pub stands : stored after ≡ Ok (conf_at change k)
+  pub intent : HoldsGoal change after
   pub others : KeepsOthers before after
 
 -- so many steps are put, these services were restarted, and so many steps are acknowledged
@@ -44,6 +47,36 @@ abbrev pub AtBeginning : Change → Option State → Option State → Type 0
 AtBeginning change None now = now ≡ None
 AtBeginning change (Some began) now =
     (now ≡ Some began) × IsSettled began × StandsFor change.stored began.files
+
+-- the intent is put, and the files stand for what was loaded
+pub record IsIntended (change : Change) (before after : Files) : Type 0 where
+  pub stands : StandsFor change.stored after
+  pub intent : HoldsGoal change after
+  pub others : KeepsOthers before after
+
+-- nothing is done yet but that
+abbrev pub AtIntent : Change → Option State → Option State → Type 0
+AtIntent change None now = now ≡ None
+AtIntent change (Some began) now =
+    (files : Files) × (now ≡ Some (worked files 0 (restarted change 0) began))
+    × IsIntended change began.files files
+
+-- all steps are folded, and the intent is there
+pub record AreAllFolded (change : Change) (before after : Files) : Type 0 where
+  pub config_text : get after config_file ≡ Some (file_text (goal change))
+  pub names : step_names after ≡ []
+  pub folded : get after folded_file ≡ None
+  pub stands : stored after ≡ Ok (goal change)
+  pub intent : HoldsGoal change after
+  pub others : KeepsOthers before after
+
+-- all is done but that the intent is there
+abbrev pub AtFolded : Change → Option State → Option State → Type 0
+AtFolded change None now = now ≡ None
+AtFolded change (Some began) now =
+    (files : Files)
+    × (now ≡ Some (worked files (steps change) (restarted change (steps change)) began))
+    × AreAllFolded change began.files files
 
 -- it is at that stage of some beginning
 abbrev pub HasStage : (Option State → Option State → Type 0) → Option State → Type 0

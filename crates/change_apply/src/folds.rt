@@ -1,9 +1,9 @@
 //! The folds before the first step and behind the last.
-ghost use Rattle.std.specs.Prelude.{◌<◌, ◌≤◌, IfErr, OnOk};
+ghost use Rattle.std.specs.Prelude.{◌≤◌, IfErr, OnOk};
 ghost use Rattle.host_core.specs.Names.{longest_plain_name};
 ghost use Rattle.change_apply.specs.Crashes.{LeavesAt};
-ghost use Rattle.change_apply.specs.Ends.{Finishes, HasCause, MayRise, Stops};
-ghost use Rattle.change_apply.specs.Stages.{AtBeginning, AtStep, HasStage, Leads};
+ghost use Rattle.change_apply.specs.Ends.{HasCause, MayRise, Stops};
+ghost use Rattle.change_apply.specs.Stages.{AtFolded, AtIntent, AtStep, HasStage, Leads};
 ghost use Rattle.change_apply.specs.Work.{IsReady, change_in, count};
 
 use crate::ApplyFault;
@@ -15,13 +15,13 @@ use host_core::Host;
 pub(crate) fn fold_first<H: Host>(host: &mut H, work: &Work) -> Result<(), ApplyFault>
     requires longest { longest_plain_name ≤ H.longest_name }
     requires ready { IsReady work.now }
-    requires stage { HasStage (AtBeginning (change_in work.now)) (H.told host.old) }
-    ensures ok { OnOk result (Leads (AtBeginning (change_in work.now))
+    requires stage { HasStage (AtIntent (change_in work.now)) (H.told host.old) }
+    ensures ok { OnOk result (Leads (AtIntent (change_in work.now))
         (AtStep (change_in work.now) 0) (H.told host.old) (H.told host.new)) }
-    ensures err { IfErr result (λ fault. Leads (AtBeginning (change_in work.now))
+    ensures err { IfErr result (λ fault. Leads (AtIntent (change_in work.now))
         (Stops (change_in work.now) fault) (H.told host.old) (H.told host.new)) }
     ensures any_moment { LeavesAt H.moment H.left_since H.told (change_in work.now)
-        (AtBeginning (change_in work.now)) host.old host.new }
+        (AtIntent (change_in work.now)) host.old host.new }
     ensures later { H.moment host.old ≤ H.moment host.new }
     ensures counts { MayRise (H.counts host.old) (H.counts host.new) }
     ensures cause { IfErr result (HasCause (H.counts host.old) (H.counts host.new)) }
@@ -40,10 +40,9 @@ pub(crate) fn fold_first<H: Host>(host: &mut H, work: &Work) -> Result<(), Apply
 pub(crate) fn fold_last<H: Host>(host: &mut H, work: &Work) -> Result<(), ApplyFault>
     requires longest { longest_plain_name ≤ H.longest_name }
     requires ready { IsReady work.now }
-    requires some { 0 < count work.now }
     requires stage { HasStage (AtStep (change_in work.now) (count work.now)) (H.told host.old) }
     ensures ok { OnOk result (Leads (AtStep (change_in work.now) (count work.now))
-        (Finishes (change_in work.now)) (H.told host.old) (H.told host.new)) }
+        (AtFolded (change_in work.now)) (H.told host.old) (H.told host.new)) }
     ensures err { IfErr result (λ fault. Leads (AtStep (change_in work.now) (count work.now))
         (Stops (change_in work.now) fault) (H.told host.old) (H.told host.new)) }
     ensures any_moment { LeavesAt H.moment H.left_since H.told (change_in work.now)

@@ -5,6 +5,7 @@
 mod acknowledging;
 mod errors;
 mod folds;
+mod intents;
 mod laws;
 mod preparing;
 mod ready;
@@ -14,7 +15,8 @@ mod running;
 mod steps;
 
 pub use errors::ApplyFault;
-pub use laws::restarts_are_services;
+pub use intents::close;
+pub use laws::{intent_is_kept, restarts_are_services};
 pub use preparing::prepare;
 pub use ready::{Ready, Restart};
 pub use running::run;

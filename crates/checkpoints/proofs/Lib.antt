@@ -12,5 +12,5 @@ mod ReadCalls
 mod Sorting
 mod StoredKept
 mod OldOnes
-mod OtherFiles
+pub mod OtherFiles
 mod Written

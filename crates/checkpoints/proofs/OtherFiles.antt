@@ -6,7 +6,7 @@ use Rattle.std.specs.FinMap.{get}
 use Rattle.std.specs.List.{list_all, starts_with}
 use Rattle.std.proofs.lemmas.Bool.{eqb-true}
 use Rattle.host_core.specs.State.{Files}
-use Rattle.conf_store.specs.Files.{config_file, folded_file, is_step_name, step_begin, step_digits}
+use Rattle.conf_store.specs.Files.{config_file, folded_file, intent_file, is_step_name, step_begin, step_digits}
 use Rattle.conf_store.specs.Folds.{IsOther}
 use Rattle.checkpoints.specs.Names.{is_good_name, is_point_file, point_end, point_file}
 use Rattle.checkpoints.specs.Points.{points}
@@ -21,6 +21,11 @@ not_config name good e =
 not_folded : (name : List ℕ) → is_good_name name ≡ true → point_file name ≡ folded_file → ⊥
 not_folded name good e =
     let is : is_point_file folded_file ≡ true = ap is_point_file (sym e) ∙ good_file name good in
+    absurd cc
+
+not_intent : (name : List ℕ) → is_good_name name ≡ true → point_file name ≡ intent_file → ⊥
+not_intent name good e =
+    let is : is_point_file intent_file ≡ true = ap is_point_file (sym e) ∙ good_file name good in
     absurd cc
 
 last_false : (a b : Bool) → (a && b && false) ≡ false
@@ -68,5 +73,5 @@ is_other name good = record {
 }
 
 -- so what changes none of these changes no checkpoint
-pub points_kept : (before after : Files) → ((name : List ℕ) → IsOther name → get after name ≡ get before name) → points after ≡ points before
-points_kept before after others = alike_files after before (λ name good. others (point_file name) (is_other name good))
+pub points_kept : (before after : Files) → ((name : List ℕ) → IsOther name → (name ≡ intent_file → ⊥) → get after name ≡ get before name) → points after ≡ points before
+points_kept before after others = alike_files after before (λ name good. others (point_file name) (is_other name good) (not_intent name good))

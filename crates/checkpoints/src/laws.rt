@@ -1,13 +1,14 @@
 //! What holds of checkpoints.
-ghost use Rattle.std.specs.Prelude.{◌≡◌, ℕ, List};
+ghost use Rattle.std.specs.Prelude.{◌≡◌, ◌≢◌, ℕ, List};
 ghost use Rattle.std.specs.FinMap.{get};
 ghost use Rattle.host_core.specs.State.{Files};
+ghost use Rattle.conf_store.specs.Files.{intent_file};
 ghost use Rattle.conf_store.specs.Folds.{IsOther};
 ghost use Rattle.checkpoints.specs.Points.{points};
 
-/// What changes none of the files that a fold has nothing to do with changes no checkpoint.
+/// What changes none of the files that a fold has nothing to do with, but `intent`, changes no checkpoint.
 pub fn points_are_in_other_files()
     ensures { (before after : Files)
-        → ((name : List ℕ) → IsOther name → get after name ≡ get before name)
+        → ((name : List ℕ) → IsOther name → name ≢ intent_file → get after name ≡ get before name)
         → points after ≡ points before }
 {}

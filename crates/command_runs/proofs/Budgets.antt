@@ -8,9 +8,9 @@ use Rattle.patch_core.specs.Indexes.{digit_0, number}
 use Rattle.plan_options.specs.Decimals.{number_within}
 use Rattle.plan_options.specs.Demos.{demo_of, Demo}
 use Rattle.plan_options.specs.Options.{Options, budget_in, budget_word, dry_run_word, most_budget, options, with_budget}
-use Rattle.plan_options.specs.Targets.{Target, target_of}
+use Rattle.plan_options.specs.Targets.{Target, resumed, target_of}
 use Rattle.plan_options.specs.Words.{is_positional, is_word}
-use Rattle.gcu_requests.specs.Form.{Form, change, check, check_plan, delete_checkpoint, demo, form, form_of_check, form_of_demo, form_of_plan, list_checkpoints, plan, planned, preview, save_checkpoint}
+use Rattle.gcu_requests.specs.Form.{Form, abandon, change, check, check_plan, delete_checkpoint, demo, form, form_of_check, form_of_demo, form_of_interruption, form_of_plan, form_of_resume, list_checkpoints, plan, planned, preview, save_checkpoint, status}
 
 -- ---- options
 
@@ -95,9 +95,35 @@ check_budgeted patch [] = tt
 check_budgeted patch (saved ∷ []) = either_budgeted (is_positional patch && is_positional saved) (Some (check_plan patch saved)) None tt tt
 check_budgeted patch (a ∷ b ∷ ws) = tt
 
--- the forms of three words or more that come after the first one
+resume_budgeted : (ws : List (List ℕ)) → IsBudgeted (form_of_resume ws)
+resume_budgeted [] = omega arith
+resume_budgeted (a ∷ []) = tt
+resume_budgeted (a ∷ b ∷ []) = by (options (a ∷ b ∷ [])) (options_are_within (a ∷ b ∷ []))
+  where
+    by : (o : Option Options) → AreWithin o → IsBudgeted (option_map (λ given. change resumed given.budget) o)
+    by None h = tt
+    by (Some given) h = h
+resume_budgeted (a ∷ b ∷ c ∷ ws) = tt
+
+-- the forms of one word that come after the first ones
+abbrev giving_up : List ℕ → Option Form
+giving_up a = cond (is_word a (codes "abandon")) (Some abandon) None
+
+abbrev resuming : List ℕ → Option Form
+resuming a = cond (is_word a (codes "resume")) (form_of_resume []) (giving_up a)
+
+interruption_budgeted : (a : List ℕ) → IsBudgeted (form_of_interruption a)
+interruption_budgeted a =
+    either_budgeted (is_word a (codes "status")) (Some status) (resuming a) tt
+    (either_budgeted (is_word a (codes "resume")) (form_of_resume []) (giving_up a) (resume_budgeted [])
+    (either_budgeted (is_word a (codes "abandon")) (Some abandon) None tt tt))
+
+-- the forms of three words or more that come after the first ones
 abbrev checking : (a b : List ℕ) → List (List ℕ) → Option Form
 checking a b ws = cond (is_word a (codes "check-plan")) (form_of_check b ws) (form_of_plan a b ws)
+
+abbrev resuming_more : (a b : List ℕ) → List (List ℕ) → Option Form
+resuming_more a b ws = cond (is_word a (codes "resume")) (form_of_resume (b ∷ ws)) (checking a b ws)
 
 -- the forms of two words that come after the first one
 abbrev deleting : (a b : List ℕ) → Option Form
@@ -109,12 +135,13 @@ saving a b = cond (is_word a (codes "checkpoint") && is_positional b) (Some (sav
 pub form_is_budgeted : (ws : List (List ℕ)) → IsBudgeted (form ws)
 form_is_budgeted [] = tt
 form_is_budgeted (a ∷ []) =
-    either_budgeted (is_word a (codes "check")) (Some check) (cond (is_word a (codes "list-checkpoints")) (Some list_checkpoints) None) tt
-    (either_budgeted (is_word a (codes "list-checkpoints")) (Some list_checkpoints) None tt tt)
+    either_budgeted (is_word a (codes "check")) (Some check) (cond (is_word a (codes "list-checkpoints")) (Some list_checkpoints) (form_of_interruption a)) tt
+    (either_budgeted (is_word a (codes "list-checkpoints")) (Some list_checkpoints) (form_of_interruption a) tt (interruption_budgeted a))
 form_is_budgeted (a ∷ b ∷ []) =
     either_budgeted (is_word a (codes "preview") && is_positional b) (Some (preview b)) (saving a b) tt
     (either_budgeted (is_word a (codes "checkpoint") && is_positional b) (Some (save_checkpoint b)) (deleting a b) tt
     (either_budgeted (is_word a (codes "delete-checkpoint") && is_positional b) (Some (delete_checkpoint b)) (form_of_plan a b []) tt (plan_budgeted a b [])))
 form_is_budgeted (a ∷ b ∷ c ∷ ws) =
-    either_budgeted (is_word a (codes "demo")) (form_of_demo b (c ∷ ws)) (checking a b (c ∷ ws)) (demo_budgeted b (c ∷ ws))
-    (either_budgeted (is_word a (codes "check-plan")) (form_of_check b (c ∷ ws)) (form_of_plan a b (c ∷ ws)) (check_budgeted b (c ∷ ws)) (plan_budgeted a b (c ∷ ws)))
+    either_budgeted (is_word a (codes "demo")) (form_of_demo b (c ∷ ws)) (resuming_more a b (c ∷ ws)) (demo_budgeted b (c ∷ ws))
+    (either_budgeted (is_word a (codes "resume")) (form_of_resume (b ∷ c ∷ ws)) (checking a b (c ∷ ws)) (resume_budgeted (b ∷ c ∷ ws))
+    (either_budgeted (is_word a (codes "check-plan")) (form_of_check b (c ∷ ws)) (form_of_plan a b (c ∷ ws)) (check_budgeted b (c ∷ ws)) (plan_budgeted a b (c ∷ ws))))

@@ -1,6 +1,6 @@
 -- What a crash leaves of a command that does a plan: the last acknowledged configuration or the next, by what
 -- was printed.
-use Rattle.std.proofs.Common.{◌≡◌, ◌≤◌, ◌<◌, ◌^◌, ◌⊎◌, inl, inr, ℕ, suc, List, [], ◌++◌, length, append_assoc, Ok, refl, sym, ◌∙◌, subst}
+use Rattle.std.proofs.Common.{◌≡◌, ◌≤◌, ◌<◌, ◌^◌, ◌⊎◌, inl, inr, ℕ, suc, List, [], ◌++◌, length, append_assoc, Ok, refl, sym, ap, ◌∙◌, subst}
 use Rattle.std.proofs.lemmas.List.{append_cancel_left}
 use Rattle.host_core.specs.Crashes.{Image, Left}
 use Rattle.host_core.specs.State.{Files, State}
@@ -23,6 +23,7 @@ use Rattle.gcu_requests.specs.Request.{Planning, Request}
 use Rattle.gcu_engine.specs.Answers.{IsDoneOutput, Says}
 use Rattle.gcu_engine.specs.Changing.{IsChangeFor, IsLast, IsLastLine, acknowledged as acknowledged_in, begun}
 use Rattle.gcu_engine.specs.Crashes.{IsOutputFront, IsPlanFront, LeftChanged, LeftEarly, LeftOfChange}
+use Rattle.gcu_engine.proofs.Closed.{begun_output}
 use Rattle.command_runs.specs.Works.{AreAcknowledged, FitTheirPlaces, IsWork}
 use Rattle.command_runs.proofs.Acked.{acknowledged_by, cut_acknowledged, printed_acks, quiet_front}
 use Rattle.command_runs.proofs.LastLines.{last_is_quiet}
@@ -130,17 +131,19 @@ module _ (from : Target) (budget : ℕ) (few : budget ≤ most_budget) (s : Stat
 
   changed : (p : Planning) (c : Change) (left : Left) → asking.Gives (Ok (request.change p)) → IsChangeFor p s c → left.output ≡ s.output ++ output
       → LeftChanged c (begun c s) left → IsLeftAtWork s output left.files
-  changed p c left given is printed_is (inl h) =
+  changed p c left given is printed_is (answered, began, a, b, inl h) =
       at_work p c h.done (acks h.done ++ h.output.part) left.files given is
       (cut_acknowledged h.done h.output.part h.output.rest h.output.line h.output.cut)
-      (sym (append_assoc (begun c s).output (acks h.done) h.output.part) ∙ sym h.output.printed ∙ printed_is) h.stands
-  changed p c left given is printed_is (inr h) =
+      (sym (ap (λ (o : List ℕ). o ++ (acks h.done ++ h.output.part)) (begun_output c (begun c s) began b))
+      ∙ sym (append_assoc began.output (acks h.done) h.output.part) ∙ sym h.output.printed ∙ printed_is) h.stands
+  changed p c left given is printed_is (answered, began, a, b, inr h) =
       let done = acknowledged_in c h.answer in
-      let line = is_last_line c (begun c s) h.now h.answer (h.part ++ h.rest) h.line in
-      let same : h.is.done ≡ done = printed_acks h.is.done done (begun c s).output h.is.output in
+      let line = is_last_line c answered h.now h.answer (h.part ++ h.rest) h.line in
+      let same : h.is.done ≡ done = printed_acks h.is.done done began.output h.is.output in
       at_work p c done (acks done ++ h.part) left.files given is
       (acknowledged_by done h.part (quiet_front h.part h.rest (last_is_quiet (h.part ++ h.rest) line)))
-      (sym (append_assoc (begun c s).output (acks done) h.part) ∙ sym h.output ∙ printed_is)
+      (sym (ap (λ (o : List ℕ). o ++ (acks done ++ h.part)) (begun_output c (begun c s) began b))
+      ∙ sym (append_assoc began.output (acks done) h.part) ∙ sym h.output ∙ printed_is)
       (subst (λ (k : ℕ). StandAt c k left.files) same h.is.stands)
 
   -- whatever is left of such a command

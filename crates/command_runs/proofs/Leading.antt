@@ -23,6 +23,7 @@ use Rattle.gcu_requests.specs.Request as request
 use Rattle.gcu_requests.specs.Request.{Request}
 use Rattle.gcu_engine.specs.Answers.{Leaves}
 use Rattle.gcu_engine.specs.Crashes.{LeftByForm, LeftOf, LeftWriting}
+use Rattle.gcu_engine.proofs.Closed.{either_stored}
 use Rattle.command_runs.specs.Histories.{AllLead, AllStandFor, IsNext, LeadOn, Leads, StandFor, last_or_next}
 use Rattle.command_runs.specs.Noted.{found}
 use Rattle.command_runs.specs.Runs.{AreRun, IsPromised, IsRun, handed_on}
@@ -110,6 +111,7 @@ module _ (before : List Config) (s t : State) (output : List ℕ) (start : Confi
   writing_keeps : (r : Request) (part : List ℕ) (left : Left) → LeftWriting r (printed part s) left → stored left.files ≡ stored s.files
   writing_keeps (request.save_checkpoint name c) part left h = h.files.kept
   writing_keeps (request.delete_checkpoint name) part left h = h.files.kept
+  writing_keeps request.abandon part left h = either_stored s.files left.files h.files
   writing_keeps other part left h = absurd h
 
   stand_left : (o : Option Form) (left : Left) → Image s.pending s.files s.files → LeftOf (form_asked o s) s left → StandFor before left.files
@@ -128,6 +130,8 @@ module _ (before : List Config) (s t : State) (output : List ℕ) (start : Confi
   left_of (Some (forms.change from budget)) none left h = absurd none
   left_of (Some (forms.demo seed ports)) none left h = h
   left_of (Some (forms.check_plan patch plan)) none left h = h
+  left_of (Some forms.status) none left h = h
+  left_of (Some forms.abandon) none left h = h
 
   queries_lead : (now : Image s.pending s.files s.files) (o : Option Form) → IsNoChange o → IsBudgeted o → (old new : Counts) (e : Outcome)
       → Leaves (form_asked o s) s (Some t) old new e → ((left : Left) → MayLeave t left → LeftByForm o s left) → IsLed
@@ -174,6 +178,8 @@ promised_leads reads now before words s t output start stands all printed_is old
         changes_lead before s t output start stands all printed_is reads (now t.pending t.files) from budget few left
     by (Some (forms.demo seed ports)) few answers left = query (Some (forms.demo seed ports)) tt few answers left
     by (Some (forms.check_plan patch plan)) few answers left = query (Some (forms.check_plan patch plan)) tt few answers left
+    by (Some forms.status) few answers left = query (Some forms.status) tt few answers left
+    by (Some forms.abandon) few answers left = query (Some forms.abandon) tt few answers left
 
 -- ---- what is handed on
 

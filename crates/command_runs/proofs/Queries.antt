@@ -6,6 +6,7 @@ use Rattle.host_core.specs.State.{State}
 use Rattle.json.specs.Layout.{pretty_from}
 use Rattle.conf_doc.specs.Texts.{file_text}
 use Rattle.conf_doc.specs.declared.configuration.Config.{Config}
+use Rattle.conf_store.specs.Applied.{applied}
 use Rattle.checkpoints.specs.Numbers.{is_full, numbered_points}
 use Rattle.checkpoints.specs.Points.{Held, points}
 use Rattle.move_core.specs.Operations.{plan_text}
@@ -14,10 +15,12 @@ use Rattle.plan_options.specs.Options.{most_budget}
 use Rattle.gcu_output.specs.Lines.{last_line}
 use Rattle.gcu_output.specs.declared.outcomes.Outcome.{Outcome}
 use Rattle.gcu_output.specs.declared.outcomes.Outcome.TheVariants.{Done, Memory, InputFault, DiskFault, PrintFault, ServiceFault, Unorderable, Budget}
+use Rattle.gcu_output.specs.declared.statuses.Intent.{Intent}
 use Rattle.gcu_requests.specs.Asked.{absent_answer, form_asked, there_answer}
 use Rattle.gcu_requests.specs.Asking.{Asking}
 use Rattle.gcu_requests.specs.Form as forms
 use Rattle.gcu_requests.specs.Form.{Form}
+use Rattle.gcu_requests.specs.IntentAsked.{intent_of}
 use Rattle.gcu_requests.specs.PlanAsked.{planning_asked}
 use Rattle.plan_options.specs.Targets.{Target}
 use Rattle.gcu_requests.specs.Request as request
@@ -47,13 +50,16 @@ pub data Query (s : State) : Request → Type 0 where
   plans : (p : Planning) → p.budget ≤ most_budget → Query s (request.plan p)
   demos : (p : Planning) (ports : ℕ) → Query s (request.demo p ports)
   accepts : (count : ℕ) → Query s (request.accept_plan count)
+  tells : (intent : Intent) (steps : ℕ) → Query s (request.status intent steps)
+  gives_up : Query s request.abandon
 
 -- a plan is asked for with the budget of the words
 pub planning_budget : (from : Target) (budget : ℕ) (s : State) (p : Planning) → (planning_asked from budget s).Gives (Ok p) → p.budget ≡ budget
 planning_budget from budget s p (inl never) = absurd never
-planning_budget from budget s p (inr (ctx, g, inl never)) = absurd never
-planning_budget from budget s p (inr (ctx, g, inr (start, h, inl never))) = absurd never
-planning_budget from budget s p (inr (ctx, g, inr (start, h, inr (goal, k, e)))) =
+planning_budget from budget s p (inr (u, gate, inl never)) = absurd never
+planning_budget from budget s p (inr (u, gate, inr (ctx, g, inl never))) = absurd never
+planning_budget from budget s p (inr (u, gate, inr (ctx, g, inr (start, h, inl never)))) = absurd never
+planning_budget from budget s p (inr (u, gate, inr (ctx, g, inr (start, h, inr (goal, k, e))))) =
     let same : record { ctx = ctx; start = start; goal = goal; budget = budget } ≡ p = cc in
     sym (ap (λ (q : Planning). q.budget) same)
 
@@ -77,9 +83,11 @@ query_given (Some (forms.preview path)) none few s r (inl never) = absurd never
 query_given (Some (forms.preview path)) none few s r (inr (c, g, e)) =
     let same : request.preview c ≡ r = cc in subst (Query s) same (previews c)
 query_given (Some forms.check) none few s r (inl never) = absurd never
-query_given (Some forms.check) none few s r (inr (models, g, inl never)) = absurd never
-query_given (Some forms.check) none few s r (inr (models, g, inr (start, h, judged))) = subst (Query s) (sym judged.1) checks
-query_given (Some forms.list_checkpoints) none few s r e =
+query_given (Some forms.check) none few s r (inr (u, gate, inl never)) = absurd never
+query_given (Some forms.check) none few s r (inr (u, gate, inr (models, g, inl never))) = absurd never
+query_given (Some forms.check) none few s r (inr (u, gate, inr (models, g, inr (start, h, judged)))) = subst (Query s) (sym judged.1) checks
+query_given (Some forms.list_checkpoints) none few s r (inl never) = absurd never
+query_given (Some forms.list_checkpoints) none few s r (inr (u, gate, e)) =
     let same : request.list_checkpoints (numbered_points s.files) ≡ r = cc in subst (Query s) same lists
 query_given (Some (forms.save_checkpoint word)) none few s r (inl never) = absurd never
 query_given (Some (forms.save_checkpoint word)) none few s r (inr (name, g, inl never)) = absurd never
@@ -89,7 +97,8 @@ query_given (Some (forms.save_checkpoint word)) none few s r (inr (name, g, inr 
     saved s name start r (is_full s.files) (get (points s.files) name) e
 query_given (Some (forms.delete_checkpoint word)) none few s r (inl never) = absurd never
 query_given (Some (forms.delete_checkpoint word)) none few s r (inr (name, g, inl never)) = absurd never
-query_given (Some (forms.delete_checkpoint word)) none few s r (inr (name, g, inr (u, h, e))) =
+query_given (Some (forms.delete_checkpoint word)) none few s r (inr (name, g, inr (u, h, inl never))) = absurd never
+query_given (Some (forms.delete_checkpoint word)) none few s r (inr (name, g, inr (u, h, inr (v, gate, e)))) =
     deleted s name r (get (points s.files) name) e
 query_given (Some (forms.plan target budget)) none few s r (inl never) = absurd never
 query_given (Some (forms.plan target budget)) none few s r (inr (from, g, inl never)) = absurd never
@@ -103,6 +112,13 @@ query_given (Some (forms.demo seed ports)) none few s r (inr (p, g, e)) =
 query_given (Some (forms.check_plan patch plan)) none few s r (inl never) = absurd never
 query_given (Some (forms.check_plan patch plan)) none few s r (inr (p, g, inl never)) = absurd never
 query_given (Some (forms.check_plan patch plan)) none few s r (inr (p, g, inr (ms, h, accepted))) = subst (Query s) (sym accepted.1) (accepts (length ms))
+query_given (Some forms.status) none few s r (inl never) = absurd never
+query_given (Some forms.status) none few s r (inr (c, g, inl never)) = absurd never
+query_given (Some forms.status) none few s r (inr (c, g, inr (found, h, e))) =
+    let same : request.status (intent_of found) (applied s.files) ≡ r = cc in subst (Query s) same (tells (intent_of found) (applied s.files))
+query_given (Some forms.abandon) none few s r (inl never) = absurd never
+query_given (Some forms.abandon) none few s r (inr (u, g, inl never)) = absurd never
+query_given (Some forms.abandon) none few s r (inr (u, g, inr (v, gate, e))) = let same : request.abandon ≡ r = cc in subst (Query s) same gives_up
 
 -- ---- what is printed
 
@@ -146,6 +162,8 @@ query_told s _ text (demos p ports) (ms, is, e) =
     inl (λ ns (rest, same).
     let twice : 111 ≡ 108 = heads 111 108 _ _ (tails 112 112 _ _ (sym e ∙ same)) in omega (arith, twice))
 query_told s _ text (accepts count) out = inl (quiet_has_none text (subst Quiet (sym out) (acked.other 121 _ (omega arith) (omega arith))))
+query_told s _ text (tells intent steps) out = inl (quiet_has_none text (subst Quiet (sym out) (acked.other 105 _ (omega arith) (omega arith))))
+query_told s _ text gives_up out = last_told text Done out
 
 -- ---- what is left before it
 
@@ -158,6 +176,8 @@ leaves_output s now _ (deletes name) h = ap (λ (t : State). t.output) h.1
 leaves_output s now _ (plans p few) h = ap (λ (t : State). t.output) h
 leaves_output s now _ (demos p ports) h = ap (λ (t : State). t.output) h
 leaves_output s now _ (accepts count) h = ap (λ (t : State). t.output) h
+leaves_output s now _ (tells intent steps) h = ap (λ (t : State). t.output) h
+leaves_output s now _ gives_up h = ap (λ (t : State). t.output) h
 
 stopped_output : (s now : State) (r : Request) (step : ℕ) → Query s r → LeavesStopped r step s now → now.output ≡ s.output
 stopped_output s now _ step (previews c) h = absurd h
@@ -168,6 +188,8 @@ stopped_output s now _ step (deletes name) h = h.1.output
 stopped_output s now _ step (plans p few) h = absurd h
 stopped_output s now _ step (demos p ports) h = absurd h
 stopped_output s now _ step (accepts count) h = absurd h
+stopped_output s now _ step (tells intent steps) h = absurd h
+stopped_output s now _ step gives_up h = h.1.output
 
 no_change : (s : State) (p : Planning) (r : Request) → r ≡ request.change p → Query s r → ⊥
 no_change s p _ e (previews c) = cc
@@ -178,6 +200,8 @@ no_change s p _ e (deletes name) = cc
 no_change s p _ e (plans q few) = cc
 no_change s p _ e (demos q ports) = cc
 no_change s p _ e (accepts count) = cc
+no_change s p _ e (tells intent steps) = cc
+no_change s p _ e gives_up = cc
 
 module _ (s now : State) (asking : Asking Request) (query : (r : Request) → asking.Gives (Ok r) → Query s r) where
   untouched_output : IsUntouched asking s now → now.output ≡ s.output

@@ -9,12 +9,13 @@ use Rattle.conf_doc.specs.Shaping.{configuration}
 use Rattle.conf_doc.specs.Trees.{document}
 use Rattle.conf_doc.specs.declared.configuration.Config.{Config}
 use Rattle.conf_doc.specs.declared.trees.Tree.{Tree}
+use Rattle.conf_store.specs.Applied.{applied}
 use Rattle.conf_store.specs.Files.{config_file, folded_file, last_step, step_names}
-use Rattle.conf_store.specs.Loads.{IsStoredTree, Loads, LoadsTree, LoadsWhat}
+use Rattle.conf_store.specs.Loads.{CountsSteps, IsStoredTree, Loads, LoadsTree, LoadsWhat}
 use Rattle.conf_store.specs.Reads.{FoundIn, load_fault}
 use Rattle.conf_store.specs.Shapes.{is_config}
 use Rattle.conf_store.specs.Stored.{after_all_steps, after_steps, config_in, or_none, or_unfolded as config_or, or_why, stored}
-use Rattle.conf_store.specs.Walk.{document_after_all, document_found, document_stepped, document_stored, or_unfolded, shaped, shaped_in}
+use Rattle.conf_store.specs.Walk.{document_after_all, document_found, document_stepped, document_stored, or_unfolded, shaped, shaped_in, stepped_tree}
 use Rattle.conf_store.specs.declared.errors.LoadError.{LoadError}
 use Rattle.conf_store.specs.declared.errors.LoadError.TheVariants.{Bad, Disk, Memory}
 use Rattle.conf_store.specs.declared.errors.StoredWhy.{StoredWhy}
@@ -108,12 +109,12 @@ bad_config (Some s) bytes e h fails =
     subst (λ r. FailsAs (load_fault e) r) (sym (stepped s.files (Some bytes) (ok_same _ _ h)))
     (fails_on (load_fault e) _ (document_after_all s.files) fails)
 
-pub all_steps : (o : Option State) (bytes : List ℕ) (d : Document) (r : Result Tree LoadError) → IfSome o (HasFile config_file (Some bytes))
-    → shaped_in bytes ≡ Ok d → IfSome o (λ s. Gives document load_fault r (document_after_all s.files d))
-    → IfSome o (λ s. Gives document load_fault r (document_stepped s.files))
+pub all_steps : (o : Option State) (bytes : List ℕ) (d : Document) (r : Result (Tree × ℕ) LoadError) → IfSome o (HasFile config_file (Some bytes))
+    → shaped_in bytes ≡ Ok d → IfSome o (λ s. Gives stepped_tree load_fault r (document_after_all s.files d))
+    → IfSome o (λ s. Gives stepped_tree load_fault r (document_stepped s.files))
 all_steps None bytes d r h is gives = tt
 all_steps (Some s) bytes d r h is gives =
-    subst (λ x. Gives document load_fault r x) (sym (stepped s.files (Some bytes) (ok_same _ _ h) ∙ ap (λ x. x >>= document_after_all s.files) is)) gives
+    subst (λ x. Gives stepped_tree load_fault r x) (sym (stepped s.files (Some bytes) (ok_same _ _ h) ∙ ap (λ x. x >>= document_after_all s.files) is)) gives
 
 -- ---- the folder
 
@@ -222,6 +223,13 @@ pub loads_tree : (o : Option State) (t : Tree) (folded : Bool) → is_config (do
     → IfSome o (λ s. document_found s.files ≡ Ok (document t, folded)) → IfSome o (λ s. LoadsTree s.files (Ok t))
 loads_tree None t folded shape is = tt
 loads_tree (Some s) t folded shape is = is_shape s.files (document t) shape (stored_as s.files (document t) folded is).0
+
+pub loads_count : (o : Option State) (t : Tree) (folded : Bool) (count : ℕ) → is_config (document t) ≡ true
+    → IfSome o (λ s. document_found s.files ≡ Ok (document t, folded)) → IfSome o (λ s. count ≡ applied s.files) → IfSome o (λ s. CountsSteps s.files (Ok count))
+loads_count None t folded count shape is counted = tt
+loads_count (Some s) t folded count shape is counted =
+    let found = is_shape s.files (document t) shape (stored_as s.files (document t) folded is).0 in
+    record { config = found.config; stands = found.stands; steps = counted }
 
 pub loads : (o : Option State) (what : Stored) (d : Document) → IfSome o (λ s. document_found s.files ≡ Ok (d, what.folded))
     → config_of d ≡ Ok what.config → IfSome o (λ s. ok_of (step_names s.files) ≡ Ok what.steps) → IfSome o (λ s. Loads s.files (Ok what))

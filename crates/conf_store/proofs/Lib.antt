@@ -16,6 +16,7 @@ mod Shaping
 mod Stages
 pub mod Standing
 mod Stepping
+mod StepCount
 mod StepWalk
 mod StepsTaken
 mod Walking

@@ -21,6 +21,10 @@ config_file = codes "config_db.json"
 abbrev pub folded_file : List ℕ
 folded_file = codes "config_db.folded"
 
+-- while a change is under way it holds the file text of the change's goal
+abbrev pub intent_file : List ℕ
+intent_file = codes "intent"
+
 -- ---- step files
 
 -- how the name of a step file begins

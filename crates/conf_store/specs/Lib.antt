@@ -1,5 +1,7 @@
 -- what public clauses cite
+pub mod Applied
 pub mod Changes
+pub mod Clearing
 pub mod Files
 pub mod Folds
 pub mod Loads
@@ -7,7 +9,6 @@ pub mod Puts
 pub mod Steps
 pub mod Stored
 -- what only private clauses cite
-pub mod Clearing
 pub mod Reads
 pub mod Shapes
 pub mod Walk

@@ -1,5 +1,5 @@
 -- What loading a folder answers.
-use Rattle.std.specs.Prelude.{◌≡◌, Result, Ok, Err}
+use Rattle.std.specs.Prelude.{◌≡◌, ℕ, Result, Ok, Err}
 use Rattle.host_core.specs.State.{Files}
 use Rattle.conf_doc.specs.Configuration.{tree}
 use Rattle.conf_doc.specs.Document.{Document}
@@ -7,6 +7,7 @@ use Rattle.conf_doc.specs.Shaping.{configuration}
 use Rattle.conf_doc.specs.Trees.{document}
 use Rattle.conf_doc.specs.declared.configuration.Config.{Config}
 use Rattle.conf_doc.specs.declared.trees.Tree.{Tree}
+use Rattle.conf_store.specs.Applied.{AreApplied}
 use Rattle.conf_store.specs.Folds.{StandsFor}
 use Rattle.conf_store.specs.Stored.{stored}
 use Rattle.conf_store.specs.declared.errors.LoadError.{LoadError}
@@ -34,3 +35,7 @@ pub record IsStoredTree (files : Files) (d : Document) : Type 0 where
 -- the tree of what the files stand for
 abbrev pub LoadsTree : Files → Result Tree LoadError → Type 0
 LoadsTree files = LoadsWhat (λ t. IsStoredTree files (document t)) files
+
+-- how many step files are applied in what the files stand for
+abbrev pub CountsSteps : Files → Result ℕ LoadError → Type 0
+CountsSteps files = LoadsWhat (AreApplied files) files

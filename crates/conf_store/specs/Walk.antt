@@ -70,6 +70,10 @@ document_stored files = or_unfolded (get files folded_file) (document_stepped fi
 abbrev pub document_found : Files → Result (Document × Bool) StoredWhy
 document_found files = document_stored files >>= λ d. Ok (d, is_some (get files folded_file))
 
--- a tree that was found, seen so
-abbrev pub tree_found : Tree × Bool → Document × Bool
+-- a tree that was found behind so many steps, seen so
+abbrev pub stepped_tree : Tree × ℕ → Document
+stepped_tree f = document f.0
+
+-- the same with whether the folded file holds it
+abbrev pub tree_found : Tree × Bool × ℕ → Document × Bool
 tree_found f = (document f.0, f.1)

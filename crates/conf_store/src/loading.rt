@@ -6,7 +6,7 @@ ghost use Rattle.host_core.specs.Crashes.{Elapses, MayLeaveNow};
 ghost use Rattle.host_core.specs.Names.{longest_plain_name};
 ghost use Rattle.conf_doc.specs.WellFormed.{IsConfig};
 ghost use Rattle.conf_store.specs.Files.{is_step_name};
-ghost use Rattle.conf_store.specs.Loads.{Loads, LoadsTree};
+ghost use Rattle.conf_store.specs.Loads.{CountsSteps, Loads, LoadsTree};
 ghost use Rattle.conf_store.specs.declared.errors.LoadError.TheVariants.{Disk as disk_failed};
 
 use crate::folder_files::list_steps;
@@ -33,7 +33,7 @@ pub fn load<H: Host>(alloc: Global, host: &mut H) -> Result<Stored, LoadError>
     ensures time { Elapses H.moment H.left_since host.old host.new (MayLeaveNow (H.told host.old)) }
     ensures goes { H.goes_on host.old host.new }
 {
-    let (tree, folded) = find_tree(alloc, host)?;
+    let (tree, folded, _count) = find_tree(alloc, host)?;
     let config = shape_config(alloc, tree)?;
     let steps = list_steps(alloc, host)?;
     Ok(Stored {
@@ -57,6 +57,24 @@ pub fn load_tree<H: Host>(alloc: Global, host: &mut H) -> Result<Tree, LoadError
     ensures time { Elapses H.moment H.left_since host.old host.new (MayLeaveNow (H.told host.old)) }
     ensures goes { H.goes_on host.old host.new }
 {
-    let (tree, _folded) = find_tree(alloc, host)?;
+    let (tree, _folded, _count) = find_tree(alloc, host)?;
     Ok(tree)
+}
+
+/// How many step files are applied in what the folder stands for; none where `config_db.folded` is there.
+/// `Disk` comes only where the disk count rose.
+pub fn count_steps<H: Host>(alloc: Global, host: &mut H) -> Result<u32, LoadError>
+    requires { longest_plain_name ≤ H.longest_name }
+    // It is that number, or `Bad` with why the folder stands for no configuration.
+    ensures loads { IfSome (H.told host.old) (λ s. CountsSteps s.files result) }
+    ensures told { H.told host.new ≡ H.told host.old }
+    ensures counts { DiskMayRise (H.counts host.old) (H.counts host.new) }
+    ensures cause { IsErrOf result disk_failed
+        → Rose (H.counts host.old).disk (H.counts host.new).disk }
+    // A crash leaves at each moment what it would have left before.
+    ensures time { Elapses H.moment H.left_since host.old host.new (MayLeaveNow (H.told host.old)) }
+    ensures goes { H.goes_on host.old host.new }
+{
+    let (_tree, _folded, count) = find_tree(alloc, host)?;
+    Ok(count)
 }

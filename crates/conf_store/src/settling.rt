@@ -8,8 +8,10 @@ ghost use Rattle.conf_store.specs.Clearing.{IsDone, IsDoneOrNot};
 
 use host_core::{Failed, Host};
 
-/// Removes a file and settles that.
-pub(crate) fn remove_file<H: Host>(host: &mut H, name: &str) -> Result<(), Failed>
+/// Removes a file of the folder and settles that: a crash at any moment leaves the files from before or those
+/// without it, and all else as it was. Nothing may be pending, and the file is there. `Failed` comes only where
+/// the disk count rose.
+pub fn remove_file<H: Host>(host: &mut H, name: &str) -> Result<(), Failed>
     requires name { length name.now ≤ H.longest_name }
     requires ready { IfSome (H.told host.old) (CanMove name.now) }
     ensures ok { OnOk result

@@ -1,5 +1,5 @@
 //! The step files read and applied in their order, to one tree that each of them changes.
-ghost use Rattle.std.specs.Prelude.{◌≡◌, ◌≤◌, true, IfOk, IsErrOf};
+ghost use Rattle.std.specs.Prelude.{◌≡◌, ◌≤◌, true, IfOk, IfSome, IsErrOf};
 ghost use Rattle.std.specs.List.{list_all};
 ghost use Rattle.host_core.specs.Answers.{Gives};
 ghost use Rattle.host_core.specs.Counts.{Rose};
@@ -7,10 +7,12 @@ ghost use Rattle.host_core.specs.Names.{longest_plain_name};
 ghost use Rattle.conf_doc.specs.Trees.{document};
 ghost use Rattle.patch_core.specs.Operation.{operations};
 ghost use Rattle.patch_core.specs.Reading.{patch};
+ghost use Rattle.conf_store.specs.Applied.{steps_there};
+ghost use Rattle.conf_store.specs.Files.{last_step};
 ghost use Rattle.conf_store.specs.Reads.{FoundIn, OnlyReads, load_fault};
 ghost use Rattle.conf_store.specs.Shapes.{is_config, keeps_shape};
 ghost use Rattle.conf_store.specs.Stored.{or_why};
-ghost use Rattle.conf_store.specs.Walk.{document_after, document_after_all, document_after_file, shaped};
+ghost use Rattle.conf_store.specs.Walk.{document_after, document_after_all, document_after_file, shaped, stepped_tree};
 ghost use Rattle.conf_store.specs.declared.errors.LoadError.TheVariants.{Disk as disk_failed};
 ghost use Rattle.conf_store.specs.declared.errors.StoredWhy.TheVariants.{BadStep as bad_step};
 
@@ -26,17 +28,20 @@ use std::alloc::Global;
 /// How many numbers of steps there are.
 const LAST_STEP: u32 = 999_999;
 
-/// The tree of a configuration after all steps, up to the first number without a file.
+/// The tree of a configuration after all steps, up to the first number without a file, and how many steps
+/// these are.
 pub(crate) fn apply_steps<H: Host>(
     alloc: Global,
     host: &mut H,
     start: Tree,
-) -> Result<Tree, LoadError>
+) -> Result<(Tree, u32), LoadError>
     requires longest { longest_plain_name ≤ H.longest_name }
     requires shaped { is_config (document start) ≡ true }
-    ensures found { FoundIn (H.told host.old) document
+    ensures found { FoundIn (H.told host.old) stepped_tree
         (λ files. document_after_all files (document start)) result }
-    ensures shaped { IfOk result (λ t. is_config (document t) ≡ true) }
+    ensures counted { IfOk result (λ f. IfSome (H.told host.old)
+        (λ s. f.1 ≡ steps_there last_step 1 s.files)) }
+    ensures shaped { IfOk result (λ f. is_config (document f.0) ≡ true) }
     ensures reads { OnlyReads H.told H.counts H.moment H.left_since H.goes_on host.old host.new }
     ensures cause { IsErrOf result disk_failed
         → Rose (H.counts host.old).disk (H.counts host.new).disk }
@@ -44,11 +49,11 @@ pub(crate) fn apply_steps<H: Host>(
     let mut tree = start;
     for n in 1..LAST_STEP + 1 {
         match read_step_file(alloc, host, n)? {
-            None => return Ok(tree),
+            None => return Ok((tree, n - 1)),
             Some(bytes) => tree = apply_step(alloc, n, &bytes, tree)?,
         }
     }
-    Ok(tree)
+    Ok((tree, LAST_STEP))
 }
 
 /// The tree after the step of a number, whose file has these bytes.

@@ -5,7 +5,7 @@ ghost use Rattle.conf_doc.specs.Shaping.{configuration};
 ghost use Rattle.conf_doc.specs.Trees.{document};
 ghost use Rattle.conf_doc.specs.WellFormed.{IsConfig};
 ghost use Rattle.conf_store.specs.Reads.{load_fault};
-ghost use Rattle.conf_store.specs.Stored.{or_why};
+ghost use Rattle.conf_store.specs.Stored.{config_in, or_why};
 ghost use Rattle.conf_store.specs.Shapes.{is_config};
 ghost use Rattle.conf_store.specs.Walk.{document_in, shaped, shaped_in};
 ghost use Rattle.conf_store.specs.declared.errors.LoadError.TheVariants.{Disk as disk_failed};
@@ -27,6 +27,17 @@ pub(crate) fn read_document(alloc: Global, bytes: &[u8]) -> Result<Tree, LoadErr
         Err(ReadError::BadKind { .. }) => Err(LoadError::Bad(StoredWhy::BadKind)),
         Err(ReadError::Memory) => Err(LoadError::Memory),
     }
+}
+
+/// The configuration that the bytes of a file hold, in any layout, or `Bad` with why they hold none. It answers
+/// no `Disk`.
+pub fn read_config(alloc: Global, bytes: &[u8]) -> Result<Config, LoadError>
+    ensures config { Gives (λ c. c) load_fault result (config_in bytes.now) }
+    ensures formed { IfOk result IsConfig }
+    ensures cause { IsErrOf result disk_failed → ⊥ }
+{
+    let tree = read_document(alloc, bytes)?;
+    shape_config(alloc, tree)
 }
 
 /// The tree that the bytes of a file hold, where it is a configuration's.

@@ -8,15 +8,15 @@ use Rattle.move_core.specs.Operations.{plan_text}
 use Rattle.change_apply.specs.Change.{Change}
 use Rattle.gcu_output.specs.declared.outcomes.Outcome.{Outcome}
 use Rattle.gcu_engine.specs.Crashes.{LeftChanged}
-use Rattle.gcu_engine.specs.Doing.{EndsChange, EndsWork, LeftDoing}
-use Rattle.gcu_engine.proofs.Changes.{work_since}
+use Rattle.gcu_engine.specs.Doing.{EndsChange, EndsFrom, LeftDoing}
+use Rattle.gcu_engine.proofs.Changes.{from_since}
 
 -- all of it is printed
 pub plan_printed : (c : Change) (o told after : Option State) (text : List ℕ) (old mid new : Counts) (result : Outcome) → text ≡ plan_text c.moves
-    → told ≡ option_map (printed text) o → NoneFell old mid → EndsWork c told after mid new result → EndsChange c o after old new result
+    → told ≡ option_map (printed text) o → NoneFell old mid → EndsFrom c told after mid new result → EndsChange c o after old new result
 plan_printed c o told after text old mid new result same is fell h =
-    inr (work_since c (option_map (printed (plan_text c.moves)) o) after old mid new result fell
-    (subst (λ t. EndsWork c t after mid new result) (is ∙ ap (λ (t : List ℕ). option_map (printed t) o) same) h))
+    inr (from_since c (option_map (printed (plan_text c.moves)) o) after old mid new result fell
+    (subst (λ t. EndsFrom c t after mid new result) (is ∙ ap (λ (t : List ℕ). option_map (printed t) o) same) h))
 
 module _ {H : Type 0} (moment : H → ℕ) (left_since : H → ℕ → Left → Type 0) where
   -- while it is printed

@@ -1,14 +1,16 @@
 -- How a change ends whose plan is printed: its last line, and what a crash leaves until it is printed.
-use Rattle.std.proofs.Common.{◌≡◌, ◌≤◌, ◌<◌, inl, inr, ℕ, suc, List, [], ◌++◌, length, refl, sym, ap, ◌∙◌, subst, arith, Option, Some, None, IfSome, option_map}
+use Rattle.std.proofs.Common.{◌≡◌, ◌≤◌, ◌<◌, inl, inr, ℕ, zero, suc, List, [], ◌++◌, length, false, refl, sym, ap, ◌∙◌, subst, arith, Option, Some, None, IfSome, option_map}
 use Rattle.std.specs.Prelude.{unwrap_or}
+use Rattle.std.specs.FinMap.{get}
 use Rattle.host_core.specs.Counts.{Counts, PrintMayRise, Rose}
 use Rattle.host_core.specs.Crashes.{Elapses, Left, LeavesOnly, MayLeave, MayLeaveInPrint, MayLeaveNow}
-use Rattle.host_core.specs.State.{State, printed}
+use Rattle.host_core.specs.State.{Files, State, printed}
 use Rattle.host_core.proofs.Runs as runs
+use Rattle.conf_store.specs.Files.{intent_file}
 use Rattle.change_apply.specs.Acknowledgements.{acks}
-use Rattle.change_apply.specs.Change.{Change}
+use Rattle.change_apply.specs.Change.{Change, steps}
 use Rattle.change_apply.specs.Crashes.{IsLeft}
-use Rattle.change_apply.specs.Ends.{Finishes, Stops}
+use Rattle.change_apply.specs.Ends.{Finishes, IsApplied, Stops}
 use Rattle.change_apply.specs.declared.errors.ApplyFault.TheVariants.{Disk, Print, Service}
 use Rattle.gcu_output.specs.Lines.{last_line, service_line}
 use Rattle.gcu_output.specs.declared.outcomes.Outcome.{Outcome}
@@ -16,8 +18,8 @@ use Rattle.gcu_output.specs.declared.outcomes.Outcome.TheVariants.{Done, DiskFau
 use Rattle.gcu_engine.specs.FaultLines.{found, line_at, service_lines_at}
 use Rattle.gcu_engine.specs.Answers.{HasCause}
 use Rattle.gcu_engine.specs.Changing.{IsLast, IsLastLine, acknowledged}
-use Rattle.gcu_engine.specs.Crashes.{LeftChanged}
-use Rattle.gcu_engine.specs.Doing.{EndsWork, HasBytes, IsEnded}
+use Rattle.gcu_engine.specs.Crashes.{LeftSince}
+use Rattle.gcu_engine.specs.Doing.{ClosesAs, EndsWork, HasBytes, IsEnded}
 use Rattle.gcu_engine.specs.declared.change.ReadyChange.{ReadyChange}
 use Rattle.gcu_engine.proofs.FaultTexts.{disk_there, service_there}
 use Rattle.gcu_engine.proofs.Changes.{last_output}
@@ -29,10 +31,19 @@ IsLastIn c (Some began) told answer text = (now : State) × (told ≡ Some now) 
 
 -- ---- before the last line
 
+-- `intent` is gone where all is done
+gone_at_end : (c : Change) (before after : Files) → ClosesAs false c before → IsApplied c before after → get after intent_file ≡ None
+gone_at_end c before after (inl some) h = (h.some some).intent
+gone_at_end c before after (inr gone) h = by (steps c) refl
+  where
+    by : (n : ℕ) → steps c ≡ n → get after intent_file ≡ None
+    by zero e = ap (λ (f : Files). get f intent_file) (h.none e) ∙ gone
+    by (suc n) e = (h.some (omega (arith, e))).intent
+
 -- all is done
-pub done_last : (c : Change) (o told : Option State) → Finishes c o told → IsLastIn c o told Done (last_line Done)
-done_last c None told h = h
-done_last c (Some began) told h = (_, h.1, ((h.0, refl, h.2), refl))
+pub done_last : (c : Change) (o told : Option State) → IfSome o (λ s. ClosesAs false c s.files) → Finishes c o told → IsLastIn c o told Done (last_line Done)
+done_last c None told none h = h
+done_last c (Some began) told none h = (_, h.1, ((h.0, refl, h.2), refl, gone_at_end c began.files h.0 none h.2))
 
 within : {k n : ℕ} (m : ℕ) → k ≤ n → m ≡ n → k < suc m
 within m le e = omega (arith, le, e)
@@ -113,10 +124,10 @@ module _ {H : Type 0} (moment : H → ℕ) (left_since : H → ℕ → Left → 
   ends_in : (c : Change) (began now : State) (answer : Outcome) (text : List ℕ) (old mid new : H) → IsLast c began now answer text
       → ((left : Left) → moment old ≤ moment mid → MayLeave now left → left_since mid (moment old) left)
       → LeavesOnly moment left_since old mid (IsLeft c began) → Elapses moment left_since mid new (MayLeaveInPrint text (Some now))
-      → LeavesOnly moment left_since old new (LeftChanged c began)
+      → LeavesOnly moment left_since old new (LeftSince c began began)
   ends_in c began now answer text old mid new last here so_far time =
-      runs.goes_on moment left_since old mid new (LeftChanged c began) (MayLeaveInPrint text (Some now))
-      (runs.weaker moment left_since old mid (IsLeft c began) (LeftChanged c began) (λ left h. inl h) so_far) time
+      runs.goes_on moment left_since old mid new (LeftSince c began began) (MayLeaveInPrint text (Some now))
+      (runs.weaker moment left_since old mid (IsLeft c began) (LeftSince c began began) (λ left h. inl h) so_far) time
       (λ left h.
       let k = acknowledged c answer in
       let so_many : now.output ≡ began.output ++ acks k = last_output c began now answer text last in
@@ -136,7 +147,7 @@ module _ {H : Type 0} (moment : H → ℕ) (left_since : H → ℕ → Left → 
   pub ends_left : (c : Change) (o told : Option State) (answer : Outcome) (text : List ℕ) (old mid new : H) → IsLastIn c o told answer text
       → ((left : Left) → moment old ≤ moment mid → MayLeaveNow told left → left_since mid (moment old) left)
       → IfSome o (λ s. LeavesOnly moment left_since old mid (IsLeft c s)) → Elapses moment left_since mid new (MayLeaveInPrint text told)
-      → IfSome o (λ s. LeavesOnly moment left_since old new (LeftChanged c s))
+      → IfSome o (λ s. LeavesOnly moment left_since old new (LeftSince c s s))
   ends_left c None told answer text old mid new last here so_far time = tt
   ends_left c (Some began) told answer text old mid new last here so_far time =
       ends_in c began last.0 answer text old mid new last.2

@@ -1,11 +1,12 @@
 -- A command that does a plan: what its parts find makes what it answers, and what a crash leaves of it.
-use Rattle.std.proofs.Common.{◌≡◌, inl, inr, ℕ, List, [], ◌++◌, get_or, map, append-nil, refl, sym, ap, ◌∙◌, subst, Option, Some, None, Ok, Err, IfSome, option_map}
+use Rattle.std.proofs.Common.{◌≡◌, ◌≢◌, inl, inr, ℕ, List, [], ◌++◌, get_or, map, append-nil, refl, sym, ap, ◌∙◌, subst, Option, Some, None, Ok, Err, IfSome, option_map}
 use Rattle.std.specs.FinMap.{get}
 use Rattle.host_core.specs.Counts.{Counts, NoneFell}
 use Rattle.host_core.specs.Crashes.{Image, Left, MayLeave, MayLeaveNow}
 use Rattle.host_core.specs.State.{Files, PrintsPart, State, printed, settled, with_pending}
 use Rattle.checkpoints.specs.Points.{points}
 use Rattle.conf_doc.specs.declared.configuration.Config.{Config}
+use Rattle.conf_store.specs.Files.{intent_file}
 use Rattle.conf_store.specs.Folds.{IsOther, StandsFor}
 use Rattle.move_core.specs.Operations.{plan_text}
 use Rattle.move_core.specs.Services.{services_of}
@@ -14,12 +15,13 @@ use Rattle.change_apply.specs.Acknowledgements.{acks}
 use Rattle.change_apply.specs.Change.{Change, name_at, restarts_at}
 use Rattle.change_apply.specs.Ends.{IsStopped, IsStoppedInRestarts}
 use Rattle.change_apply.specs.declared.ready.Restart.{Restart}
-use Rattle.plan_options.specs.Targets.{Target, patched, replaced, rolled_back}
+use Rattle.plan_options.specs.Targets.{Target, patched, replaced, resumed, rolled_back}
 use Rattle.gcu_output.specs.Lines.{last_line, service_line}
 use Rattle.gcu_output.specs.declared.outcomes.Outcome.{Outcome}
 use Rattle.gcu_output.specs.declared.outcomes.Outcome.TheVariants.{Done, Memory, Usage, InputFault, DiskFault, PrintFault, ServiceFault, Unorderable, Budget, TargetInvalid}
 use Rattle.gcu_requests.specs.Asking.{Asking, a_file, follows, follows_by, ◌>>>◌}
 use Rattle.gcu_requests.specs.ChangeAsked.{settled_asked}
+use Rattle.gcu_requests.specs.IntentAsked.{gate_asked}
 use Rattle.gcu_requests.specs.PlanAsked.{HasKeys, IsElsewhereAs, IsValidOr, made_asked, planning_asked, start_asked}
 use Rattle.gcu_requests.specs.ReadPlannings.{planning_of}
 use Rattle.gcu_requests.specs.Preparing.{FailsIn, Refuses, StandsIn, refusal}
@@ -28,16 +30,17 @@ use Rattle.gcu_requests.specs.RulesAsked.{settings_asked}
 use Rattle.gcu_requests.specs.declared.planning.Planning as code
 use Rattle.gcu_engine.specs.FaultLines.{AreNamed}
 use Rattle.gcu_engine.specs.Answers.{HasCause, Leaves, Prints, Says}
-use Rattle.gcu_engine.specs.Changing.{AreAcknowledged, IsChangeFor, IsLast, acknowledged, begun}
+use Rattle.gcu_engine.specs.Changing.{AreAcknowledged, IsBegun, IsChangeFor, IsLast, acknowledged, begun}
 use Rattle.gcu_engine.specs.Commands.{AnswersTo}
 use Rattle.gcu_engine.specs.Crashes.{LeftChanged, LeftOfChange}
-use Rattle.gcu_engine.specs.Doing.{EndsChange, EndsWork, IsCutInLast, IsCutInStep, IsMissed, IsReadyIn, IsTold, LeftDoing, LeftToChange, LeftToEarly, change_by}
+use Rattle.gcu_engine.specs.Doing.{ClosesAs, EndsChange, EndsFrom, EndsWork, IsCutInLast, IsCutInStep, IsMissed, IsReadyIn, IsTold, LeftDoing, LeftToChange, LeftToEarly, change_by}
 use Rattle.gcu_engine.specs.PlanCommands.{IsSolved, RefusesOrEnds}
 use Rattle.gcu_engine.specs.Plannings.{IsPlanFor}
 use Rattle.gcu_engine.specs.declared.change.ReadyChange.{ReadyChange}
 use Rattle.gcu_engine.proofs.FaultTexts.{all_named}
 use Rattle.gcu_engine.proofs.Answering.{says_prints}
 use Rattle.gcu_engine.proofs.Causes.{rose_from}
+use Rattle.gcu_engine.proofs.Closed.{begun_output, begun_points}
 use Rattle.gcu_engine.proofs.Elapsing.{no_front, with_none}
 use Rattle.gcu_engine.proofs.Savings.{models_settled}
 use Rattle.gcu_engine.proofs.Writing.{as_is}
@@ -48,10 +51,18 @@ made_settled : (from : Target) (start : Config) (s : State) → made_asked from 
 made_settled (patched path) start s = refl
 made_settled (replaced path) start s = refl
 made_settled (rolled_back name) start s = refl
+made_settled resumed start s = refl
+
+gate_settled : (from : Target) (s : State) → gate_asked from (with_pending settled s) ≡ gate_asked from s
+gate_settled (patched path) s = refl
+gate_settled (replaced path) s = refl
+gate_settled (rolled_back name) s = refl
+gate_settled resumed s = refl
 
 -- what is pending tells nothing of what a plan needs
 planning_settled : (from : Target) (budget : ℕ) (s : State) → planning_asked from budget (with_pending settled s) ≡ planning_asked from budget s
 planning_settled from budget s = λ i.
+    gate_settled from s i >>> λ _.
     (models_settled s i >>> λ models. settings_asked s >>> λ settings. follows (Ok (record { models = models; settings = settings }))) >>> λ ctx.
     start_asked ctx s >>> λ start.
     (made_settled from start s i >>> λ goal. follows_by (IsElsewhereAs ctx start goal) >>> λ _. follows_by (HasKeys ctx goal) >>> λ _. follows_by (IsValidOr TargetInvalid ctx goal)) >>> λ goal.
@@ -62,7 +73,7 @@ pub ready_before : (from : Target) (budget : ℕ) (s : State) (ready : ReadyChan
     → IsReadyIn (planning_asked from budget s) s ready
 ready_before from budget s ready h =
     let given = subst (λ (a : Asking Planning). a.Gives (Ok h.0)) (planning_settled from budget s) h.1 in
-    (h.0, given, record { stands = h.2.stands; start = h.2.start; plan = h.2.plan; restarts = h.2.restarts })
+    (h.0, given, record { stands = h.2.stands; start = h.2.start; plan = h.2.plan; restarts = h.2.restarts }, h.3)
 
 -- ---- why there is no plan
 
@@ -100,9 +111,9 @@ missed_before from budget s e h = subst (λ (a : Asking Planning). IsMissed a e)
 
 -- it is that of the plan
 pub change_for : (asking : Asking Planning) (s : State) (p : code.Planning) (ms : List Move) (ready : ReadyChange) → asking.Gives (Ok (planning_of p))
-    → IsPlanFor (planning_of p) ms → StandsFor p.stored s.files → ready.ready ≡ change_by p.ctx.settings p.stored ms → IsReadyIn asking s ready
-change_for asking s p ms ready given plan stands is =
-    (planning_of p, given, subst (IsChangeFor (planning_of p) s) (sym is) (record { stands = stands; start = refl; plan = plan; restarts = refl }))
+    → IsPlanFor (planning_of p) ms → StandsFor p.stored s.files → ready.ready ≡ change_by p.ctx.settings p.stored ms → ClosesAs ready.closes ready.ready s.files → IsReadyIn asking s ready
+change_for asking s p ms ready given plan stands is closes =
+    (planning_of p, given, subst (IsChangeFor (planning_of p) s) (sym is) (record { stands = stands; start = refl; plan = plan; restarts = refl }), closes)
 
 -- ---- what is answered
 
@@ -140,40 +151,42 @@ name_is p s c is k service began now h =
     step_named p s c is k h.started h.refused h.due h.next ∙ ap (λ (i : ℕ). name_at p.ctx.settings i) h.named
 
 module _ (asking : Asking Request) (s : State) (p : Planning) (c : Change) (given : asking.Gives (Ok (change p))) (reads : asking.Reads a_file) (is : IsChangeFor p s c) where
-  last_says : (now : State) (answer : Outcome) (text : List ℕ) → IsLast c (begun c s) now answer text → Says asking s now answer text
-  last_says now Done text h = (change p, given, (c, is, h.0), h.1)
-  last_says now (DiskFault k) text h = (reads, inr (change p, given, (c, is, h.0)), h.1)
-  last_says now (ServiceFault k service) text h =
-      (p, given, (c, is, h.0), h.1 ∙ ap (λ (n : List ℕ). service_line k service n) (name_is p s c is k service (begun c s) now h.0))
-  last_says now other text never = absurd never
+  module _ (began : State) (begins : IsBegun c (begun c s) began) where
+    last_says : (now : State) (answer : Outcome) (text : List ℕ) → IsLast c began now answer text → Says asking s now answer text
+    last_says now Done text h = (change p, given, (c, is, began, begins, h.0, h.2), h.1)
+    last_says now (DiskFault k) text h = (reads, inr (change p, given, (c, is, began, begins, h.0)), h.1)
+    last_says now (ServiceFault k service) text h =
+        (p, given, (c, is, began, begins, h.0), h.1 ∙ ap (λ (n : List ℕ). service_line k service n) (name_is p s c is k service began now h.0))
+    last_says now other text never = absurd never
 
-  -- so many acknowledgements stand behind the plan
-  counted : (now : State) (answer : Outcome) (text : List ℕ) → IsLast c (begun c s) now answer text → AreAcknowledged (acknowledged c answer) s now
-  counted now answer text h =
-      inr (c.moves, last_output c (begun c s) now answer text h)
+    -- so many acknowledgements stand behind the plan
+    counted : (now : State) (answer : Outcome) (text : List ℕ) → IsLast c began now answer text → AreAcknowledged (acknowledged c answer) s now
+    counted now answer text h =
+        inr (c.moves, last_output c began now answer text h ∙ ap (λ (o : List ℕ). o ++ acks (acknowledged c answer)) (begun_output c (begun c s) began begins))
 
   module _ (old new : Counts) (after : Option State) (result : Outcome) where
-    told_leaves : IsTold c (begun c s) after result → Leaves asking s after old new result
-    told_leaves h = (h.0, h.1, h.3, says_prints asking s h.0 old new result h.1 (last_says h.0 result h.1 h.2))
+    module _ (began : State) (begins : IsBegun c (begun c s) began) where
+      told_leaves : IsTold c began after result → Leaves asking s after old new result
+      told_leaves h = (h.0, h.1, h.3, says_prints asking s h.0 old new result h.1 (last_says began begins h.0 result h.1 h.2))
 
-    cut_leaves : IsCutInLast c (begun c s) after old new result → Leaves asking s after old new result
-    cut_leaves h =
-        let says = last_says h.0 h.1 (h.2 ++ h.3) h.4 in
-        (h.0, h.2, h.7, subst (λ x. Prints asking s h.0 old new x h.2) (sym h.6) (inl (counted h.0 h.1 (h.2 ++ h.3) h.4, (h.1, h.3, h.5, says))))
+      cut_leaves : IsCutInLast c began after old new result → Leaves asking s after old new result
+      cut_leaves h =
+          let says = last_says began begins h.0 h.1 (h.2 ++ h.3) h.4 in
+          (h.0, h.2, h.7, subst (λ x. Prints asking s h.0 old new x h.2) (sym h.6) (inl (counted began begins h.0 h.1 (h.2 ++ h.3) h.4, (h.1, h.3, h.5, says))))
 
-    step_leaves : IsCutInStep c (begun c s) after result → Leaves asking s after old new result
-    step_leaves h =
-        let all : Some h.0 ≡ Some (printed [] h.0) = ap (λ (o : List ℕ). Some (record h.0 { output = o })) (sym (append-nil h.0.output)) in
-        (h.0, [], h.4 ∙ all, subst (λ x. Prints asking s h.0 old new x []) (sym h.3) (inr (p, given, inr ((c, is, h.2), refl))))
+      step_leaves : IsCutInStep c began after result → Leaves asking s after old new result
+      step_leaves h =
+          let all : Some h.0 ≡ Some (printed [] h.0) = ap (λ (o : List ℕ). Some (record h.0 { output = o })) (sym (append-nil h.0.output)) in
+          (h.0, [], h.4 ∙ all, subst (λ x. Prints asking s h.0 old new x []) (sym h.3) (inr (p, given, inr ((c, is, began, begins, h.2), refl))))
 
     plan_leaves : result ≡ PrintFault 0 → PrintsPart (plan_text c.moves) (Some (with_pending settled s)) after → Leaves asking s after old new result
     plan_leaves fault h =
         (with_pending settled s, h.0, h.3, subst (λ x. Prints asking s (with_pending settled s) old new x h.0) (sym fault) (inr (p, given, inl (refl, (c, h.1, is, h.2, refl)))))
 
-    work_leaves : EndsWork c (Some (begun c s)) after old new result → Leaves asking s after old new result
-    work_leaves (inl h) = told_leaves h
-    work_leaves (inr (inl h)) = cut_leaves h
-    work_leaves (inr (inr h)) = step_leaves h
+    work_leaves : EndsFrom c (Some (begun c s)) after old new result → Leaves asking s after old new result
+    work_leaves (began, begins, inl h) = told_leaves began begins h
+    work_leaves (began, begins, inr (inl h)) = cut_leaves began begins h
+    work_leaves (began, begins, inr (inr h)) = step_leaves began begins h
 
     ends_leaves : EndsChange c (Some (with_pending settled s)) after old new result → Leaves asking s after old new result
     ends_leaves (inl h) = plan_leaves h.0 h.1
@@ -191,10 +204,15 @@ work_since c (Some began) after old mid new result fell (inl h) = inl h
 work_since c (Some began) after old mid new result fell (inr (inl h)) = inr (inl (cut_since c began after old mid new result fell h))
 work_since c (Some began) after old mid new result fell (inr (inr h)) = inr (inr h)
 
+pub from_since : (c : Change) (o after : Option State) (old mid new : Counts) (result : Outcome) → NoneFell old mid
+    → EndsFrom c o after mid new result → EndsFrom c o after old new result
+from_since c None after old mid new result fell h = h
+from_since c (Some told) after old mid new result fell (began, begins, h) = (began, begins, work_since c (Some began) after old mid new result fell h)
+
 pub ends_since : (c : Change) (o after : Option State) (old mid new : Counts) (result : Outcome) → NoneFell old mid
     → EndsChange c o after mid new result → EndsChange c o after old new result
 ends_since c o after old mid new result fell (inl h) = inl h
-ends_since c o after old mid new result fell (inr h) = inr (work_since c (option_map (printed (plan_text c.moves)) o) after old mid new result fell h)
+ends_since c o after old mid new result fell (inr h) = inr (from_since c (option_map (printed (plan_text c.moves)) o) after old mid new result fell h)
 
 -- nothing is told of what isn't told
 untold : (c : Change) (after : Option State) (old new : Counts) (result : Outcome) → EndsChange c None after old new result → after ≡ None
@@ -224,11 +242,12 @@ part_left s part left may = record {
 
 -- what changes no other file changes no checkpoint
 abbrev pub KeepsPoints : Type 0
-KeepsPoints = (before after : Files) → ((name : List ℕ) → IsOther name → get after name ≡ get before name) → points after ≡ points before
+KeepsPoints =
+    (before after : Files) → ((name : List ℕ) → IsOther name → name ≢ intent_file → get after name ≡ get before name) → points after ≡ points before
 
 kept_points : (c : Change) (s : State) (left : Left) → KeepsPoints → LeftChanged c (begun c s) left → points left.files ≡ points s.files
-kept_points c s left law (inl h) = law s.files left.files h.others
-kept_points c s left law (inr h) = law s.files left.files h.is.others
+kept_points c s left law (answered, began, a, b, inl h) = law began.files left.files h.others ∙ begun_points c (begun c s) began b
+kept_points c s left law (answered, began, a, b, inr h) = law began.files left.files h.is.others ∙ begun_points c (begun c s) began b
 
 pub doing_left : (from : Target) (budget : ℕ) → KeepsPoints → (o told : Option State) (ready : ReadyChange) → IfSome o (λ s. IsReadyIn (planning_asked from budget s) s ready)
     → told ≡ option_map (with_pending settled) o → (left : Left) → IfSome told (λ s. LeftDoing ready.ready s left) → LeftToChange (settled_asked from budget) o left

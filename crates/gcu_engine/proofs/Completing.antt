@@ -23,6 +23,8 @@ finishes (request.delete_checkpoint name) = refl
 finishes (request.plan p) = inl refl
 finishes (request.change p) = inl refl
 finishes (request.demo p ports) = inl refl
+finishes (request.status intent steps) = refl
+finishes request.abandon = refl
 finishes (request.accept_plan count) = refl
 
 -- so is a plan that isn't found
@@ -35,6 +37,8 @@ unsolved_finishes (request.list_checkpoints names) e never = absurd never
 unsolved_finishes request.check e never = absurd never
 unsolved_finishes (request.save_checkpoint name config) e never = absurd never
 unsolved_finishes (request.delete_checkpoint name) e never = absurd never
+unsolved_finishes (request.status intent steps) e never = absurd never
+unsolved_finishes request.abandon e never = absurd never
 unsolved_finishes (request.accept_plan count) e never = absurd never
 
 module _ (asking : Asking Request) (s now : State) (old new : Counts) (none : NoneRose old new) where

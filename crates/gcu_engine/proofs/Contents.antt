@@ -15,6 +15,9 @@ use Rattle.conf_doc.specs.declared.errors.ReadError.{ReadError}
 use Rattle.conf_doc.specs.declared.errors.ReadError.TheVariants as read
 use Rattle.conf_doc.specs.declared.errors.ShapeError.{ShapeError}
 use Rattle.conf_doc.specs.declared.errors.ShapeError.TheVariants as shape
+use Rattle.conf_store.specs.Files.{intent_file}
+use Rattle.conf_store.specs.Stored.{config_in}
+use Rattle.conf_store.specs.declared.errors.StoredWhy.{StoredWhy}
 use Rattle.patch_core.specs.Apply.{apply}
 use Rattle.patch_core.specs.Operation.{Operation}
 use Rattle.patch_core.specs.Reading.{patch}
@@ -32,8 +35,9 @@ use Rattle.move_core.specs.declared.contexts.Ctx.{Ctx}
 use Rattle.move_core.specs.declared.errors.RulesError.{RulesError}
 use Rattle.move_core.specs.declared.errors.RulesError.TheVariants as wrong
 use Rattle.move_core.specs.declared.settings.Settings.{Settings}
-use Rattle.plan_options.specs.Targets.{Target, patched, replaced, rolled_back}
+use Rattle.plan_options.specs.Targets.{Target, patched, replaced, resumed, rolled_back}
 use Rattle.gcu_output.specs.declared.outcomes.Outcome.{Outcome}
+use Rattle.gcu_requests.specs.IntentAsked.{held_answer as intent_held, intended_answer, intended_asked}
 use Rattle.gcu_requests.specs.FileAsked.{config_answer, document_answer, file_asked, file_limit}
 use Rattle.gcu_requests.specs.ModelFiles.{AreModels, File, Text, bytes_asked, bytes_in, files_asked, list_limit, list_path, model_limit, models_asked, paths_asked, statements_of, text_answer, texts_asked, texts_in}
 use Rattle.gcu_requests.specs.PatchAsked.{patch_answer, patch_in, patch_limit, target, target_shape}
@@ -41,7 +45,7 @@ use Rattle.gcu_requests.specs.PatchAsked as patches
 use Rattle.gcu_requests.specs.PlanAsked.{made_asked}
 use Rattle.gcu_requests.specs.PointAsked.{held_answer}
 use Rattle.gcu_requests.specs.RulesAsked.{ctx_asked, rules_answer, rules_limit, rules_path, settings_asked}
-use Rattle.gcu_engine.specs.Contents.{AreModelsIn, HoldFiles, Holds, HoldsConfig, IsContextIn, IsMade, Patches}
+use Rattle.gcu_engine.specs.Contents.{AreModelsIn, HoldFiles, Holds, HoldsConfig, HoldsIntent, IsContextIn, IsMade, Patches}
 
 -- ---- bytes
 
@@ -194,6 +198,16 @@ point_held name None goal e = absurd cc
 point_held name (Some None) goal e = absurd cc
 point_held name (Some (Some c)) goal e = let same : c ≡ goal = cc in ap (λ (x : Config). Some (Some x)) same
 
+config_held : (r : Result Config StoredWhy) (goal : Config) → intent_held r ≡ Ok goal → r ≡ Ok goal
+config_held (Ok c) goal e = let same : c ≡ goal = cc in ap (λ (x : Config). Ok x) same
+config_held (Err why) goal e = absurd cc
+
+intent_in : (s : State) (goal : Config) → (intended_asked s).Gives (Ok goal) → HoldsIntent s goal
+intent_in s goal (inl never) = absurd never
+intent_in s goal (inr (None, is, e)) = absurd cc
+intent_in s goal (inr (Some bytes, is, e)) =
+    let there : get s.files intent_file ≡ Some bytes = cc in (bytes, there, config_held (config_in bytes) goal e)
+
 -- the goal is what the target makes of the start
 pub target_made : (from : Target) (start : Config) (s : State) (goal : Config) → (made_asked from start s).Gives (Ok goal) → IsMade from s start goal
 target_made (patched path) start s goal (inl never) = absurd never
@@ -203,3 +217,4 @@ target_made (patched path) start s goal (inr (ops, found, e)) =
     (ops, d, (bytes, at, reads), is, shapes)
 target_made (replaced path) start s goal h = file_in path s goal h
 target_made (rolled_back name) start s goal e = point_held name (get (points s.files) name) goal e
+target_made resumed start s goal h = intent_in s goal h

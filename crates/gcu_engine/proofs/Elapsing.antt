@@ -57,6 +57,7 @@ writing_on : (r : Request) (s : State) (left : Left) (base p q : List ℕ) → L
     → left.output ≡ s.output ++ q → LeftWriting r (printed q s) left
 writing_on (request.delete_checkpoint name) s left base p q h e = record { files = h.files; output = e; restarts = h.restarts }
 writing_on (request.save_checkpoint name config) s left base p q h e = record { files = h.files; output = e; restarts = h.restarts }
+writing_on request.abandon s left base p q h e = record { files = h.files; output = e; restarts = h.restarts }
 writing_on other s left base p q never e = absurd never
 
 left_on : (asking : Asking Request) (s : State) (left : Left) (base p q : List ℕ) → LeftBy asking (printed p s) (record left { output = base })

@@ -30,7 +30,7 @@ use Rattle.gcu_requests.specs.PlanAsked.{dry_run_asked}
 use Rattle.gcu_requests.specs.Request as request
 use Rattle.gcu_requests.specs.Request.{Planning, Request}
 use Rattle.gcu_engine.specs.Answers.{Answers, IsDoneOutput, IsRefusal, IsUntouched, Leaves, LeavesDone, LeavesStopped, Prints, Says}
-use Rattle.gcu_engine.specs.Changing.{IsChangeFor, IsLastLine, acknowledged, begun}
+use Rattle.gcu_engine.specs.Changing.{IsBegun, IsChangeFor, IsLastLine, acknowledged, begun}
 use Rattle.gcu_engine.specs.Crashes.{LeftByForm, LeftChanged, LeftEarly, LeftMeanwhile, LeftOf, LeftOfChange, LeftWriting}
 use Rattle.gcu_engine.specs.Doing.{LeftToEarly}
 use Rattle.gcu_engine.specs.Headline.{HasNoOrder, HasWholePoints, IsBefore, IsForeseen, IsHeadline, IsLastOrNext, IsOneChange, IsPlanOutput, IsQuiet, PrintsPlan, StandsAfter, StoresPoint, StoresTarget, target_in}
@@ -38,12 +38,13 @@ use Rattle.gcu_engine.specs.Plannings.{IsUnsolved}
 use Rattle.gcu_engine.proofs.Acknowledged.{acked_is}
 use Rattle.gcu_engine.proofs.ChangeEnds.{is_last_line}
 use Rattle.gcu_engine.proofs.Changes.{some_is}
+use Rattle.gcu_engine.proofs.Closed.{begun_output, either_points, either_stored}
 use Rattle.gcu_engine.proofs.Requests.{IsRequestOf, change_given, plan_given, requested}
 use Rattle.gcu_engine.proofs.RightPlans.{IsAsked, right_plan, way_last}
 
 -- ---- what is planned
 
-same_change : (p q : Planning) → request.change p ≡ request.change q → p ≡ q
+pub same_change : (p q : Planning) → request.change p ≡ request.change q → p ≡ q
 same_change p q e = let same : p ≡ q = cc in same
 
 -- ---- what is printed
@@ -97,27 +98,28 @@ module _ (from : Target) (s now : State) where
     doing = change_asked from budget s
 
     -- behind the text of a plan
-    behind : (p : Planning) (c : Change) → IsAsked from s p → IsChangeFor p s c → (more text : List ℕ) → now.output ≡ (begun c s).output ++ more → IsText from s now text
-    behind p c asks is more text printed_is = record {
+    behind : (p : Planning) (c : Change) → IsAsked from s p → IsChangeFor p s c → (began : State) → IsBegun c (begun c s) began
+        → (more text : List ℕ) → now.output ≡ began.output ++ more → IsText from s now text
+    behind p c asks is began begins more text printed_is = record {
       front = plan_text c.moves ++ more;
-      printed_is = printed_is ∙ append_assoc s.output (plan_text c.moves) more;
+      printed_is = printed_is ∙ ap (λ (o : List ℕ). o ++ more) (begun_output c (begun c s) began begins) ∙ append_assoc s.output (plan_text c.moves) more;
       right = inr (c.moves, more ++ text, right_plan from s p c.moves asks is.plan, append_assoc (plan_text c.moves) more text);
     }
 
-    stopped_text : (p : Planning) (c : Change) → IsAsked from s p → IsChangeFor p s c → (k : ℕ) (part : List ℕ) (started : List Restart) → IsStopped c k part started (begun c s) now
-        → (text : List ℕ) → IsText from s now text
-    stopped_text p c asks is k part started stopped text =
-        behind p c asks is (acks k ++ part) text (stopped.output ∙ append_assoc (begun c s).output (acks k) part)
+    stopped_text : (p : Planning) (c : Change) → IsAsked from s p → IsChangeFor p s c → (began : State) → IsBegun c (begun c s) began
+        → (k : ℕ) (part : List ℕ) (started : List Restart) → IsStopped c k part started began now → (text : List ℕ) → IsText from s now text
+    stopped_text p c asks is began begins k part started stopped text =
+        behind p c asks is began begins (acks k ++ part) text (stopped.output ∙ append_assoc began.output (acks k) part)
 
     changed_text : (p : Planning) (r : Request) → IsAsked from s p → request.change p ≡ r → LeavesDone r s now → (text : List ℕ) → IsText from s now text
     changed_text p r asks same leaves text =
         let h = subst (λ (q : Request). LeavesDone q s now) (sym same) leaves in
-        behind p h.0 asks h.1 (acks (steps h.0)) text (ap (λ (t : State). t.output) (some_is now _ h.2.1))
+        behind p h.0 asks h.1 h.2 h.3 (acks (steps h.0)) text (ap (λ (t : State). t.output) (some_is now _ h.4.1))
 
     halted_text : (step : ℕ) (p : Planning) (r : Request) → IsAsked from s p → request.change p ≡ r → LeavesStopped r step s now → (text : List ℕ) → IsText from s now text
     halted_text step p r asks same stopped text =
         let h = subst (λ (q : Request). LeavesStopped q step s now) (sym same) stopped in
-        stopped_text p h.0 asks h.1 step [] [] h.2 text
+        stopped_text p h.0 asks h.1 h.2 h.3 step [] [] h.4 text
 
     change_text_is : (e : Outcome) (text : List ℕ) → Says doing s now e text → IsText from s now text
     change_text_is Done text (r, given, leaves, out) = let g = change_given from budget s r given in changed_text g.0 r g.1 g.2 leaves text
@@ -130,7 +132,7 @@ module _ (from : Target) (s now : State) where
     change_text_is (ServiceFault step service) text (p, given, h, is) =
         let g = change_given from budget s (request.change p) given in
         let asks = subst (IsAsked from s) (same_change g.0 p g.2) g.1 in
-        stopped_text p h.0 asks h.1 step [] h.2.started h.2.stopped text
+        stopped_text p h.0 asks h.1 h.2 h.3 step [] h.4.started h.4.stopped text
     change_text_is Unorderable text h = last_alone from s now text Unorderable (untouched_output doing h.1) h.2
     change_text_is (Budget n) text h = last_alone from s now text (Budget n) (untouched_output doing h.1) h.2
     change_text_is other text h = last_alone from s now text other (untouched_output doing h.1) h.2
@@ -169,10 +171,10 @@ module _ (from : Target) (budget : ℕ) (s now : State) (after : Option State) (
       prints_text from s now after output rest is
       (alone from s now (output ++ rest) (ap (λ (t : State). t.output) same)
       (inr (c.moves, [], right_plan from s p c.moves asks fits.plan, sym text ∙ sym (append-nil (plan_text c.moves)))))
-  change_cut step (inr (p, given, inr ((c, fits, stopped), none))) =
+  change_cut step (inr (p, given, inr ((c, fits, began, begins, stopped), none))) =
       let g = change_given from budget s (request.change p) given in
       let asks = subst (IsAsked from s) (same_change g.0 p g.2) g.1 in
-      whole_text from s now after output is (stopped_text from s now budget p c asks fits step stopped.part _ stopped.stopped output)
+      whole_text from s now after output is (stopped_text from s now budget p c asks fits began begins step stopped.part _ stopped.stopped output)
 
   -- what a plan that is done prints
   change_prints : (result : Outcome) → Prints (change_asked from budget s) s now old new result output → PrintsPlan from s after
@@ -193,6 +195,8 @@ plans_print (Some forms.check) from s after old new result is h = absurd cc
 plans_print (Some forms.list_checkpoints) from s after old new result is h = absurd cc
 plans_print (Some (forms.save_checkpoint name)) from s after old new result is h = absurd cc
 plans_print (Some (forms.delete_checkpoint name)) from s after old new result is h = absurd cc
+plans_print (Some forms.status) from s after old new result is h = absurd cc
+plans_print (Some forms.abandon) from s after old new result is h = absurd cc
 plans_print (Some (forms.demo seed ports)) from s after old new result is h = absurd cc
 plans_print (Some (forms.check_plan patch plan)) from s after old new result is h = absurd cc
 
@@ -229,6 +233,8 @@ none_of (Some (forms.demo seed ports)) s r (p, read, start, goal, same) h = reco
 none_of (Some (forms.save_checkpoint name)) s r (c, there, same) h = absurd (unsolved (request.save_checkpoint name c) r same h)
 none_of (Some (forms.delete_checkpoint name)) s r same h = absurd (unsolved (request.delete_checkpoint name) r same h)
 none_of (Some (forms.preview path)) s r (c, same) h = absurd (unsolved (request.preview c) r same h)
+none_of (Some forms.status) s r (intent, count, same) h = absurd (unsolved (request.status intent count) r same h)
+none_of (Some forms.abandon) s r same h = absurd (unsolved request.abandon r same h)
 none_of (Some (forms.check_plan patch plan)) s r (count, same) h = absurd (unsolved (request.accept_plan count) r same h)
 none_of (Some forms.check) s r same h = absurd (unsolved request.check r same h)
 none_of (Some forms.list_checkpoints) s r (names, same) h = absurd (unsolved (request.list_checkpoints names) r same h)
@@ -249,14 +255,14 @@ finishes from budget s after old new h =
     let c = done.0 in
     let p = g.0 in
     let last = way_last p.ctx p.goal p.start c.moves p.goal done.1.plan.0 in
-    let files = ap (λ (t : State). t.files) (some_is h.0 _ done.2.1) in (
+    let files = ap (λ (t : State). t.files) (some_is h.0 _ done.4.1) in (
       printed h.1 h.0,
       p.start,
       p.goal,
       h.2,
       g.1.start.stands,
       g.1.made,
-      ap stored files ∙ done.2.2.stands
+      ap stored files ∙ done.4.2.stands
           ∙ ap (λ (x : Config). Ok (conf x c.moves (length c.moves))) done.1.start ∙ ap (λ (x : Config). Ok x) last,
     )
 
@@ -309,7 +315,7 @@ foreseen asking s now old new other output h any = h.0
 
 -- ---- a crash
 
-settled_files : (s : State) (part : List ℕ) (left : Left) → IsSettled s → MayLeave (printed part s) left → left.files ≡ s.files
+pub settled_files : (s : State) (part : List ℕ) (left : Left) → IsSettled s → MayLeave (printed part s) left → left.files ≡ s.files
 settled_files s part left clean may = subst (λ p. Image p s.files left.files) clean may.files
 
 -- what is said of a change ends with the last line of an answer
@@ -326,7 +332,7 @@ line_said from budget s now Unorderable text h = inl (Unorderable, h.2)
 line_said from budget s now (Budget n) text h = inl (Budget n, h.2)
 line_said from budget s now other text h = inl (other, h.2)
 
-early_before : (from : Target) (budget : ℕ) (s : State) (left : Left) → IsSettled s → LeftEarly (change_asked from budget s) s left → IsBefore from s left
+pub early_before : (from : Target) (budget : ℕ) (s : State) (left : Left) → IsSettled s → LeftEarly (change_asked from budget s) s left → IsBefore from s left
 early_before from budget s left clean (part, inl (now, answer, rest, says, same), may) = record {
   part = part;
   rest = rest;
@@ -352,26 +358,26 @@ at_start p s c fits k left (inl e) = inl (e ∙ ap (λ (x : Config). Ok (conf x 
 at_start p s c fits k left (inr e) = inr (e ∙ ap (λ (x : Config). Ok (conf x c.moves (suc k))) fits.start)
 
 changed_next : (from : Target) (s : State) (p : Planning) (c : Change) (left : Left) → IsAsked from s p → IsChangeFor p s c → LeftChanged c (begun c s) left → IsLastOrNext from s left
-changed_next from s p c left asks fits (inl h) = record {
+changed_next from s p c left asks fits (answered, began, a, b, inl h) = record {
   ms = c.moves;
   right = right_plan from s p c.moves asks fits.plan;
   done = h.done;
   within = h.within;
   part = h.output.part;
   cut = inl (h.output.rest, h.output.line, h.output.cut);
-  output = h.output.printed;
+  output = h.output.printed ∙ ap (λ (o : List ℕ). o ++ acks h.done ++ h.output.part) (begun_output c (begun c s) began b);
   stands = at_start p s c fits h.done left h.stands;
 }
-changed_next from s p c left asks fits (inr h) =
-    let k : h.is.done ≡ acknowledged c h.answer = acked_is h.is.done (acknowledged c h.answer) (begun c s).output h.is.output in
+changed_next from s p c left asks fits (answered, began, a, b, inr h) =
+    let k : h.is.done ≡ acknowledged c h.answer = acked_is h.is.done (acknowledged c h.answer) began.output h.is.output in
     record {
       ms = c.moves;
       right = right_plan from s p c.moves asks fits.plan;
       done = acknowledged c h.answer;
       within = subst (λ (n : ℕ). n ≤ steps c) k h.is.within;
       part = h.part;
-      cut = inr (h.rest, is_last_line c (begun c s) h.now h.answer (h.part ++ h.rest) h.line);
-      output = h.output;
+      cut = inr (h.rest, is_last_line c answered h.now h.answer (h.part ++ h.rest) h.line);
+      output = h.output ∙ ap (λ (o : List ℕ). o ++ acks (acknowledged c h.answer) ++ h.part) (begun_output c (begun c s) began b);
       stands = at_start p s c fits (acknowledged c h.answer) left (subst (λ (n : ℕ). StandAt c n left.files) k h.is.stands);
     }
 
@@ -388,6 +394,7 @@ change_points asking s left clean (inr (p, c, given, fits, h, kept)) = kept
 writing_stands : (r : Request) (s : State) (left : Left) → LeftWriting r s left → stored left.files ≡ stored s.files
 writing_stands (request.delete_checkpoint name) s left h = h.files.kept
 writing_stands (request.save_checkpoint name config) s left h = h.files.kept
+writing_stands request.abandon s left h = either_stored s.files left.files h.files
 writing_stands other s left never = absurd never
 
 other_stands : (asking : Asking Request) (s : State) (left : Left) → IsSettled s → LeftOf asking s left → stored left.files ≡ stored s.files
@@ -407,6 +414,9 @@ one_change (Some (forms.plan from budget)) s now r left files (p, is, same) h = 
 one_change (Some (forms.change from budget)) s now r left files (p, is, same) h = absurd (subst (λ (q : Request). LeftWriting q now left) (sym same) h)
 one_change (Some (forms.demo seed ports)) s now r left files (p, read, start, goal, same) h = absurd (subst (λ (q : Request). LeftWriting q now left) (sym same) h)
 one_change (Some (forms.preview path)) s now r left files (c, same) h = absurd (subst (λ (q : Request). LeftWriting q now left) (sym same) h)
+one_change (Some forms.abandon) s now r left files same h =
+    let writing = subst (λ (q : Request). LeftWriting q now left) (sym same) h in inl (either_points now.files left.files writing.files ∙ ap points files)
+one_change (Some forms.status) s now r left files (intent, count, same) h = absurd (subst (λ (q : Request). LeftWriting q now left) (sym same) h)
 one_change (Some (forms.check_plan patch plan)) s now r left files (count, same) h = absurd (subst (λ (q : Request). LeftWriting q now left) (sym same) h)
 one_change (Some forms.check) s now r left files same h = absurd (subst (λ (q : Request). LeftWriting q now left) (sym same) h)
 one_change (Some forms.list_checkpoints) s now r left files (names, same) h = absurd (subst (λ (q : Request). LeftWriting q now left) (sym same) h)

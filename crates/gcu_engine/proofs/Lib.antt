@@ -1,3 +1,4 @@
+mod Abandoning
 mod Acknowledged
 mod Answering
 mod Causes
@@ -5,6 +6,8 @@ mod ChangeBegins
 mod ChangeEnds
 mod Changes
 mod CheckSaying
+pub mod Closed
+mod Closing
 mod Completing
 mod Contents
 mod Deletions
@@ -12,6 +15,7 @@ mod DemoSaying
 mod Elapsing
 mod FaultTexts
 mod Headlines
+mod Intending
 mod Listing
 mod Naming
 mod PlanCheckSaying
@@ -19,7 +23,10 @@ mod PlanSaying
 mod ReadyChanges
 mod ReadyOrNot
 mod Requests
+mod Resuming
 mod RightPlans
 mod Savings
+mod StatusSaying
+mod StepsElsewhere
 mod SummaryTexts
 mod Writing

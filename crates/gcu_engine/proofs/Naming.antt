@@ -6,7 +6,7 @@ use Rattle.host_core.specs.Crashes.{Left, LeavesOnly}
 use Rattle.host_core.specs.State.{State}
 use Rattle.host_core.proofs.Runs as runs
 use Rattle.checkpoints.specs.Names.{is_good_name}
-use Rattle.plan_options.specs.Targets.{Target, patched, replaced, rolled_back}
+use Rattle.plan_options.specs.Targets.{Target, patched, replaced, resumed, rolled_back}
 use Rattle.gcu_output.specs.Lines.{last_line}
 use Rattle.gcu_output.specs.declared.outcomes.Outcome.{Outcome}
 use Rattle.gcu_output.specs.declared.outcomes.Outcome.TheVariants.{Done, Memory, InputFault, DiskFault, PrintFault, ServiceFault, Unorderable, Budget, BadName}
@@ -32,6 +32,7 @@ pub named_is : (word x : Target) → target_answer word ≡ Ok x → x ≡ word
 named_is (patched path) x e = let same : patched path ≡ x = cc in sym same
 named_is (replaced path) x e = let same : replaced path ≡ x = cc in sym same
 named_is (rolled_back name) x e = named_by (is_good_name name) name x e
+named_is resumed x e = let same : resumed ≡ x = cc in sym same
 
 -- ---- a name that is refused
 

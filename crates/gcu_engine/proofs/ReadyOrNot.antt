@@ -1,19 +1,25 @@
 -- A change that is made ready once all is settled, or the reason why there is none.
-use Rattle.std.proofs.Common.{◌≡◌, ◌≤◌, inl, inr, ℕ, List, refl, sym, ◌∙◌, subst, arith, Option, Some, None, Result, Ok, Err, IfErr, IfOk, IfSome, option_map}
+use Rattle.std.proofs.Common.{◌≡◌, ◌≤◌, ◌<◌, inl, inr, ℕ, suc, List, [], ◌∷◌, length, refl, sym, ◌∙◌, subst, arith, Option, Some, None, Result, Ok, Err, IfErr, IfOk, IfSome, option_map}
+use Rattle.std.specs.FinMap.{get}
 use Rattle.host_core.specs.Counts.{Counts, NoneFell, PrintMayRise}
 use Rattle.host_core.specs.Crashes.{Elapses, Left, LeavesOnly, MayLeaveNow}
 use Rattle.host_core.specs.State.{State, printed, settled, with_pending}
 use Rattle.host_core.proofs.Runs as runs
 use Rattle.conf_store.specs.Changes.{IsSettled}
+use Rattle.conf_store.specs.Files.{intent_file}
 use Rattle.conf_store.specs.Folds.{StandsFor}
+use Rattle.conf_store.specs.declared.loaded.Stored.{Stored}
 use Rattle.move_core.specs.declared.moves.Move.{Move}
-use Rattle.plan_options.specs.Targets.{Target}
+use Rattle.move_core.specs.declared.settings.Settings.{Settings}
+use Rattle.change_apply.specs.Change.{Change}
+use Rattle.plan_options.specs.Targets.{Target, patched, replaced, resumed, rolled_back}
 use Rattle.gcu_output.specs.Lines.{last_line}
 use Rattle.gcu_output.specs.Printing.{IsSaid, LeftInText}
 use Rattle.gcu_output.specs.declared.outcomes.Outcome.{Outcome}
 use Rattle.gcu_output.specs.declared.outcomes.Outcome.TheVariants.{Memory, InputFault, DiskFault, Unorderable, Budget}
 use Rattle.gcu_requests.specs.Asking.{Asking}
 use Rattle.gcu_requests.specs.ChangeAsked.{settled_asked}
+use Rattle.gcu_requests.specs.IntentAsked.{gate_asked, uninterrupted}
 use Rattle.gcu_requests.specs.PlanAsked.{planning_asked}
 use Rattle.gcu_requests.specs.ReadPlannings.{planning_of}
 use Rattle.gcu_requests.specs.Preparing.{Finds, Refuses}
@@ -22,11 +28,12 @@ use Rattle.gcu_requests.specs.declared.planning.Planning as code
 use Rattle.gcu_engine.specs.Answers.{HasCause, Says}
 use Rattle.gcu_engine.specs.Commands.{AnswersTo, IsReady}
 use Rattle.gcu_engine.specs.Crashes.{IsOutputFront}
-use Rattle.gcu_engine.specs.Doing.{IsKept, IsMissed, IsPrepared, IsReadyIn, LeftDoing, LeftToChange, LeftToEarly, change_by}
+use Rattle.gcu_engine.specs.Doing.{ClosesAs, IsKept, IsMissed, IsPrepared, IsReadyIn, LeftDoing, LeftToChange, LeftToEarly, change_by, is_over}
 use Rattle.gcu_engine.specs.PlanCommands.{IsSolved, RefusesOrEnds}
 use Rattle.gcu_engine.specs.Plannings.{IsPlanFor}
 use Rattle.gcu_engine.specs.declared.change.ReadyChange.{ReadyChange}
 use Rattle.gcu_output.proofs.Elapsing.{elapses_both}
+use Rattle.gcu_engine.proofs.Abandoning.{stopped_some}
 use Rattle.gcu_engine.proofs.Causes.{rose_from}
 use Rattle.gcu_engine.proofs.Changes.{KeepsPoints, change_for, doing_left, early_changes, early_left, missed_before, missed_says, part_left, ready_before, refused_missed, settled_early, solved_missed}
 use Rattle.gcu_engine.proofs.Elapsing.{memory_front, said_front}
@@ -74,6 +81,27 @@ module _ (asking : State → Asking Request) where
     pub early_leaves : (o : Option State) (old new : H) → LeavesOnly moment left_since old new (LeftToEarly asking o) → LeavesOnly moment left_since old new (LeftToChange asking o)
     early_leaves o old new run = runs.weaker moment left_since old new (LeftToEarly asking o) (LeftToChange asking o) (early_changes asking o) run
 
+-- ---- whether a change is under way
+
+-- none is
+open_none : (s : State) → (uninterrupted s).Gives (Ok tt) → get s.files intent_file ≡ None
+open_none s (inl never) = absurd never
+open_none s (inr (None, is, passes)) = let same : get s.files intent_file ≡ None = cc in same
+open_none s (inr (Some bytes, is, passes)) = absurd cc
+
+-- so it is closed, or none is there where there are no steps
+gate_closes : (from : Target) (s : State) (what : Stored) (settings : Settings) (ms : List Move) → (gate_asked from s).Gives (Ok tt)
+    → ClosesAs (is_over from ms) (change_by settings what ms) s.files
+gate_closes (patched path) s what settings ms gate = inr (open_none s gate)
+gate_closes (replaced path) s what settings ms gate = inr (open_none s gate)
+gate_closes (rolled_back name) s what settings ms gate = inr (open_none s gate)
+gate_closes resumed s what settings [] gate = (refl, stopped_some s gate)
+gate_closes resumed s what settings (m ∷ ms) gate = let some : 0 < suc (length ms) = omega arith in inl some
+
+gate_given : (from : Target) (budget : ℕ) (s : State) (p : Planning) → (planning_asked from budget s).Gives (Ok p) → (gate_asked from s).Gives (Ok tt)
+gate_given from budget s p (inl never) = absurd never
+gate_given from budget s p (inr (u, gate, needs)) = gate
+
 -- ---- with nothing pending
 
 module _ (from : Target) (budget : ℕ) where
@@ -93,16 +121,21 @@ module _ (from : Target) (budget : ℕ) where
   plan_missed (Some s) p e f h = solved_missed (needs s) p e f.gives h
 
   made_of : (s : State) (p : code.Planning) (ms : List Move) (r : Result ReadyChange Outcome) → (needs s).Gives (Ok (planning_of p)) → IsPlanFor (planning_of p) ms
-      → StandsFor p.stored s.files → IfOk r (λ ready. ready.ready ≡ change_by p.ctx.settings p.stored ms) → IfErr r (λ e. e ≡ Memory) → IsPrepared (needs s) s r
-  made_of s p ms (Ok ready) given plan stands is none = change_for (needs s) s p ms ready given plan stands is
-  made_of s p ms (Err e) given plan stands is none = subst (IsMissed (needs s)) (sym none) (tt, tt)
+      → StandsFor p.stored s.files → IfOk r (λ ready. ready.ready ≡ change_by p.ctx.settings p.stored ms) → IfErr r (λ e. e ≡ Memory)
+      → IfOk r (λ ready. ready.closes ≡ is_over from ms) → IsPrepared (needs s) s r
+  made_of s p ms (Ok ready) given plan stands is none over =
+      change_for (needs s) s p ms ready given plan stands is
+      (subst (λ b. ClosesAs b ready.ready s.files) (sym over)
+      (subst (λ (c : Change). ClosesAs (is_over from ms) c s.files) (sym is)
+      (gate_closes from s p.stored p.ctx.settings ms (gate_given from budget s (planning_of p) given))))
+  made_of s p ms (Err e) given plan stands is none over = subst (IsMissed (needs s)) (sym none) (tt, tt)
 
   -- it is made ready, unless memory is wanting
   pub made_ready : (o : Option State) (p : code.Planning) (ms : List Move) (r : Result ReadyChange Outcome) → Finds o planning_of (Ok p) needs → IsPlanFor (planning_of p) ms
       → IfSome o (λ s. StandsFor p.stored s.files) → IfOk r (λ ready. ready.ready ≡ change_by p.ctx.settings p.stored ms) → IfErr r (λ e. e ≡ Memory)
-      → IfSome o (λ s. IsPrepared (needs s) s r)
-  made_ready None p ms r f plan stands is none = tt
-  made_ready (Some s) p ms r f plan stands is none = made_of s p ms r f.gives plan stands is none
+      → IfOk r (λ ready. ready.closes ≡ is_over from ms) → IfSome o (λ s. IsPrepared (needs s) s r)
+  made_ready None p ms r f plan stands is none over = tt
+  made_ready (Some s) p ms r f plan stands is none over = made_of s p ms r f.gives plan stands is none over
 
   -- ---- once all is settled
 
@@ -179,6 +212,11 @@ pub stands_now : (from : Target) (budget : ℕ) (o told : Option State) (ready :
     → told ≡ option_map (with_pending settled) o → IfSome told (λ s. StandsFor ready.ready.stored s.files)
 stands_now from budget None told ready in_it is = subst (λ t. IfSome t (λ s. StandsFor ready.ready.stored s.files)) (sym is) tt
 stands_now from budget (Some s) told ready in_it is = subst (λ t. IfSome t (λ s. StandsFor ready.ready.stored s.files)) (sym is) in_it.2.stands
+
+pub closes_now : (from : Target) (budget : ℕ) (o told : Option State) (ready : ReadyChange) → IfSome o (λ s. IsReadyIn (planning_asked from budget s) s ready)
+    → told ≡ option_map (with_pending settled) o → IfSome told (λ s. ClosesAs ready.closes ready.ready s.files)
+closes_now from budget None told ready in_it is = subst (λ t. IfSome t (λ s. ClosesAs ready.closes ready.ready s.files)) (sym is) tt
+closes_now from budget (Some s) told ready in_it is = subst (λ t. IfSome t (λ s. ClosesAs ready.closes ready.ready s.files)) (sym is) in_it.3
 
 -- ---- of each result
 

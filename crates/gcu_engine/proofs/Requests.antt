@@ -4,6 +4,7 @@ use Rattle.std.specs.FinMap.{get}
 use Rattle.host_core.specs.Answers.{map_ok}
 use Rattle.host_core.specs.State.{State, printed}
 use Rattle.conf_doc.specs.declared.configuration.Config.{Config}
+use Rattle.conf_store.specs.Applied.{applied}
 use Rattle.conf_store.specs.Stored.{stored}
 use Rattle.checkpoints.specs.Names.{is_good_name}
 use Rattle.checkpoints.specs.Numbers.{is_full, numbered_points}
@@ -14,10 +15,12 @@ use Rattle.plan_options.specs.Options.{default_budget}
 use Rattle.plan_options.specs.Targets.{Target}
 use Rattle.gcu_output.specs.declared.outcomes.Outcome.{Outcome}
 use Rattle.gcu_output.specs.declared.outcomes.Outcome.TheVariants.{BadName}
-use Rattle.gcu_requests.specs.Asked.{absent_answer, delete_asked, form_asked, preview_asked, save_asked, there_answer}
+use Rattle.gcu_output.specs.declared.statuses.Intent.{Intent}
+use Rattle.gcu_requests.specs.Asked.{absent_answer, delete_asked, form_asked, list_asked, preview_asked, save_asked, there_answer}
 use Rattle.gcu_requests.specs.ChangeAsked.{change_asked}
 use Rattle.gcu_requests.specs.Checking.{check_asked}
 use Rattle.gcu_requests.specs.DemoAsked.{demo_asked, generated_asked}
+use Rattle.gcu_requests.specs.IntentAsked.{abandon_asked, intent_of, status_asked}
 use Rattle.gcu_requests.specs.PlanCheckAsked.{check_plan_asked}
 use Rattle.gcu_requests.specs.Form.{Form, form}
 use Rattle.gcu_requests.specs.Form as forms
@@ -61,6 +64,8 @@ IsRequestOf (Some (forms.save_checkpoint name)) s r = (c : Config) × (stored s.
 IsRequestOf (Some (forms.delete_checkpoint name)) s r = request.delete_checkpoint name ≡ r
 IsRequestOf (Some (forms.preview path)) s r = (c : Config) × (request.preview c ≡ r)
 IsRequestOf (Some (forms.check_plan patch plan)) s r = (count : ℕ) × (request.accept_plan count ≡ r)
+IsRequestOf (Some forms.status) s r = (intent : Intent) × (steps : ℕ) × (request.status intent steps ≡ r)
+IsRequestOf (Some forms.abandon) s r = request.abandon ≡ r
 IsRequestOf (Some forms.check) s r = request.check ≡ r
 IsRequestOf (Some forms.list_checkpoints) s r = (all : List (List ℕ × Option ℕ)) × (request.list_checkpoints all ≡ r)
 IsRequestOf None s r = ⊥
@@ -81,7 +86,8 @@ generated_is seed ports ctx s p read (inr (start, (valid, is), inr (goal, inr (u
 demo_given : (seed ports : ℕ) (s : State) (r : Request) → (demo_asked seed ports s).Gives (Ok r) → IsRequestOf (Some (forms.demo seed ports)) s r
 demo_given seed ports s r (inl never) = absurd never
 demo_given seed ports s r (inr (p, inl never, e)) = absurd never
-demo_given seed ports s r (inr (p, inr (ctx, read, given), e)) =
+demo_given seed ports s r (inr (p, inr (u, gate, inl never), e)) = absurd never
+demo_given seed ports s r (inr (p, inr (u, gate, inr (ctx, read, given)), e)) =
     let (context, start, goal) = generated_is seed ports ctx s p (context_in s ctx read) given in
     (p, context, start, goal, request_is (request.demo p ports) r _ refl e)
 
@@ -113,14 +119,16 @@ save_given word s r (inr (name, named, inr (u, settles, inr (q, checks, inr (sta
 delete_given : (word : List ℕ) (s : State) (r : Request) → (delete_asked word s).Gives (Ok r) → IsRequestOf (Some (forms.delete_checkpoint word)) s r
 delete_given word s r (inl never) = absurd never
 delete_given word s r (inr (name, named, inl never)) = absurd never
-delete_given word s r (inr (name, named, inr (u, settles, e))) =
+delete_given word s r (inr (name, named, inr (u, settles, inl never))) = absurd never
+delete_given word s r (inr (name, named, inr (u, settles, inr (v, gate, e)))) =
     let same = name_of (is_good_name word) word name named in
     subst (λ (n : List ℕ). request.delete_checkpoint n ≡ r) (sym same) (deleted_is name (get (points s.files) name) r e)
 
 check_given : (s : State) (r : Request) → (check_asked s).Gives (Ok r) → request.check ≡ r
 check_given s r (inl never) = absurd never
-check_given s r (inr (models, read, inl never)) = absurd never
-check_given s r (inr (models, read, inr (start, there, (valid, is)))) = sym is
+check_given s r (inr (u, gate, inl never)) = absurd never
+check_given s r (inr (u, gate, inr (models, read, inl never))) = absurd never
+check_given s r (inr (u, gate, inr (models, read, inr (start, there, (valid, is))))) = sym is
 
 preview_given : (path : List ℕ) (s : State) (r : Request) → (preview_asked path s).Gives (Ok r) → (c : Config) × (request.preview c ≡ r)
 preview_given path s r (inl never) = absurd never
@@ -130,6 +138,21 @@ accept_given : (patch plan : List ℕ) (s : State) (r : Request) → (check_plan
 accept_given patch plan s r (inl never) = absurd never
 accept_given patch plan s r (inr (p, read, inl never)) = absurd never
 accept_given patch plan s r (inr (p, read, inr (ms, held, (is_plan, same)))) = (length ms, sym same)
+
+list_given : (s : State) (r : Request) → (list_asked s).Gives (Ok r) → IsRequestOf (Some forms.list_checkpoints) s r
+list_given s r (inl never) = absurd never
+list_given s r (inr (u, gate, e)) = (numbered_points s.files, request_is (request.list_checkpoints (numbered_points s.files)) r _ refl e)
+
+status_given : (s : State) (r : Request) → (status_asked s).Gives (Ok r) → IsRequestOf (Some forms.status) s r
+status_given s r (inl never) = absurd never
+status_given s r (inr (c, there, inl never)) = absurd never
+status_given s r (inr (c, there, inr (found, is, e))) =
+    (intent_of found, applied s.files, request_is (request.status (intent_of found) (applied s.files)) r _ refl e)
+
+abandon_given : (s : State) (r : Request) → (abandon_asked s).Gives (Ok r) → request.abandon ≡ r
+abandon_given s r (inl never) = absurd never
+abandon_given s r (inr (u, settles, inl never)) = absurd never
+abandon_given s r (inr (u, settles, inr (v, gate, e))) = request_is request.abandon r _ refl e
 
 -- what is requested is what the form says
 pub requested : (f : Option Form) (s : State) (r : Request) → (form_asked f s).Gives (Ok r) → IsRequestOf f s r
@@ -141,5 +164,7 @@ requested (Some (forms.delete_checkpoint name)) s r given = delete_given name s 
 requested (Some (forms.preview path)) s r given = preview_given path s r given
 requested (Some (forms.check_plan patch plan)) s r given = accept_given patch plan s r given
 requested (Some forms.check) s r given = check_given s r given
-requested (Some forms.list_checkpoints) s r e = (numbered_points s.files, request_is (request.list_checkpoints (numbered_points s.files)) r _ refl e)
+requested (Some forms.list_checkpoints) s r given = list_given s r given
+requested (Some forms.status) s r given = status_given s r given
+requested (Some forms.abandon) s r given = abandon_given s r given
 requested None s r e = absurd cc

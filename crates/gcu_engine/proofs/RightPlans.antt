@@ -57,9 +57,10 @@ planning_is q p r a e = let same : q ≡ p = cc in same
 
 pub asked_is : (from : Target) (budget : ℕ) (s : State) (p : Planning) → (planning_asked from budget s).Gives (Ok p) → IsAsked from s p
 asked_is from budget s p (inl never) = absurd never
-asked_is from budget s p (inr (ctx, read, inl never)) = absurd never
-asked_is from budget s p (inr (ctx, read, inr (start, st, inl never))) = absurd never
-asked_is from budget s p (inr (ctx, read, inr (start, st, inr (goal, go, e)))) =
+asked_is from budget s p (inr (u, gate, inl never)) = absurd never
+asked_is from budget s p (inr (u, gate, inr (ctx, read, inl never))) = absurd never
+asked_is from budget s p (inr (u, gate, inr (ctx, read, inr (start, st, inl never)))) = absurd never
+asked_is from budget s p (inr (u, gate, inr (ctx, read, inr (start, st, inr (goal, go, e))))) =
     subst (IsAsked from s) (planning_is (record { ctx = ctx; start = start; goal = goal; budget = budget }) p _ refl e) (record { read = context_in s ctx read; start = start_is ctx s start st; made = made_is from ctx start s goal go })
 
 -- ---- a way

@@ -14,6 +14,7 @@ use Rattle.gcu_output.specs.declared.outcomes.Outcome.TheVariants.{BadName, Disk
 use Rattle.gcu_requests.specs.Asked.{absent_answer, absent_asked, save_asked}
 use Rattle.gcu_requests.specs.Asking.{Asking, a_settling, follows, follows_by, settles_first, ◌>>>◌}
 use Rattle.gcu_requests.specs.Checking.{IsJudged, check_asked}
+use Rattle.gcu_requests.specs.IntentAsked.{uninterrupted}
 use Rattle.gcu_requests.specs.ModelFiles.{AreModels, File, bytes_asked, files_asked, model_limit, models_asked, paths_asked, texts_in}
 use Rattle.gcu_requests.specs.Preparing.{Finds, Found}
 use Rattle.gcu_requests.specs.Request as request
@@ -47,6 +48,7 @@ models_settled s = λ i.
 -- so a check asks the same
 check_settled : (s : State) → check_asked (with_pending settled s) ≡ check_asked s
 check_settled s = λ i.
+    uninterrupted s >>> λ _.
     models_settled s i >>> λ models.
     stored_asked s >>> λ start.
     follows_by (IsJudged models start)

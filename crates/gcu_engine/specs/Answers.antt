@@ -9,14 +9,16 @@ use Rattle.checkpoints.specs.Changes.{IsDeleted, IsDeletedOrNot, IsSaved, IsSave
 use Rattle.move_core.specs.Operations.{plan_text}
 use Rattle.move_core.specs.declared.moves.Move.{Move}
 use Rattle.change_apply.specs.Change.{name_at}
+use Rattle.change_apply.specs.Intents.{IsClosedOrNot}
 use Rattle.change_apply.specs.declared.errors.ApplyFault.TheVariants.{Disk, Service}
 use Rattle.gcu_output.specs.Lines.{last_line, service_line}
+use Rattle.gcu_output.specs.Statuses.{status_text}
 use Rattle.gcu_output.specs.declared.outcomes.Outcome.{Outcome}
 use Rattle.gcu_output.specs.declared.outcomes.Outcome.TheVariants.{Done, Memory, Usage, InputFault, DiskFault, PrintFault, ServiceFault, Unorderable, Budget}
 use Rattle.gcu_requests.specs.Asked.{asked}
 use Rattle.gcu_requests.specs.Asking.{Asking, an_input, a_file, a_settling}
-use Rattle.gcu_requests.specs.Request.{Planning, Request, accept_plan, change, delete_checkpoint, demo, list_checkpoints, plan, preview, check, save_checkpoint}
-use Rattle.gcu_engine.specs.Changing.{AreAcknowledged, IsChanged, IsCutShort, IsHalted}
+use Rattle.gcu_requests.specs.Request.{Planning, Request, abandon, accept_plan, change, check, delete_checkpoint, demo, list_checkpoints, plan, preview, save_checkpoint, status}
+use Rattle.gcu_engine.specs.Changing.{AreAcknowledged, IsChanged, IsCutShort, IsHalted, closed}
 use Rattle.gcu_engine.specs.Plannings.{IsPlanFor, IsUnsolved}
 use Rattle.gcu_engine.specs.PointLines.{point_lines}
 use Rattle.gcu_engine.specs.Summary.{summary, yes_line}
@@ -45,6 +47,7 @@ LeavesDone (save_checkpoint name config) before now =
     (files : Files) × (now ≡ record before { files = files; pending = settled })
     × IsSaved name config before.files files
 LeavesDone (change p) before now = IsChanged p before now
+LeavesDone abandon before now = now ≡ closed before
 LeavesDone other before now = now ≡ before
 
 -- what a request leaves that a fault of the disk stops once it has begun to write, after so many
@@ -55,6 +58,8 @@ LeavesStopped (delete_checkpoint name) step before now =
 LeavesStopped (save_checkpoint name config) step before now =
     (step ≡ 0) × Leads (IsSavedOrNot name config) (with_pending settled before) now
 LeavesStopped (change p) step before now = IsHalted p (Disk step) before now
+LeavesStopped abandon step before now =
+    (step ≡ 0) × Leads IsClosedOrNot (with_pending settled before) now
 LeavesStopped other step before now = ⊥
 
 -- what a fault of the disk leaves: nothing is done, or a request that is right is stopped
@@ -75,6 +80,8 @@ done_output (save_checkpoint name config) = last_line Done
 done_output (delete_checkpoint name) = last_line Done
 done_output (plan p) = last_line Done
 done_output (change p) = last_line Done
+done_output (status intent steps) = status_text intent steps ++ last_line Done
+done_output abandon = last_line Done
 done_output (demo p ports) = last_line Done
 done_output (accept_plan count) = yes_line count ++ last_line Done
 
@@ -168,6 +175,8 @@ Finishes (save_checkpoint name config) result = result ≡ Done
 Finishes (delete_checkpoint name) result = result ≡ Done
 Finishes (plan p) result = (result ≡ Done) ⊎ IsUnsolved (plan p) result
 Finishes (change p) result = (result ≡ Done) ⊎ IsUnsolved (change p) result
+Finishes (status intent steps) result = result ≡ Done
+Finishes abandon result = result ≡ Done
 Finishes (demo p ports) result = (result ≡ Done) ⊎ IsUnsolved (demo p ports) result
 Finishes (accept_plan count) result = result ≡ Done
 

@@ -1,6 +1,8 @@
 -- What a change leaves and has printed that does what is planned: finished, or stopped.
-use Rattle.std.specs.Prelude.{◌≡◌, ◌⊎◌, ℕ, List, [], ◌++◌, map, Some}
+use Rattle.std.specs.Prelude.{◌≡◌, ◌⊎◌, ℕ, List, [], ◌++◌, map, Some, None}
+use Rattle.std.specs.FinMap.{get}
 use Rattle.host_core.specs.State.{State, printed, settled, with_pending}
+use Rattle.conf_store.specs.Files.{intent_file}
 use Rattle.conf_store.specs.Folds.{StandsFor}
 use Rattle.move_core.specs.Operations.{plan_text}
 use Rattle.move_core.specs.Services.{services_of}
@@ -8,6 +10,7 @@ use Rattle.move_core.specs.declared.moves.Move.{Move}
 use Rattle.change_apply.specs.Acknowledgements.{acks}
 use Rattle.change_apply.specs.Change.{Change, restarts_of, steps}
 use Rattle.change_apply.specs.Ends.{Finishes as IsFinished, IsStoppedBy, IsStoppedInRestarts}
+use Rattle.change_apply.specs.Intents.{without_intent}
 use Rattle.change_apply.specs.declared.errors.ApplyFault.{ApplyFault}
 use Rattle.change_apply.specs.declared.errors.ApplyFault.TheVariants.{Disk, Print}
 use Rattle.gcu_output.specs.Lines.{last_line, service_line}
@@ -24,21 +27,32 @@ pub record IsChangeFor (p : Planning) (before : State) (c : Change) : Type 0 whe
   pub restarts :
       c.restarts ≡ map (restarts_of p.ctx.settings) (map (services_of p.ctx.settings) c.moves)
 
--- where it begins: nothing is pending any more, and the text of its plan is printed
+-- nothing is pending any more, and the text of its plan is printed
 abbrev pub begun : Change → State → State
 begun c before = printed (plan_text c.moves) (with_pending settled before)
 
+-- the same with `intent` gone, and nothing pending
+abbrev pub closed : State → State
+closed s = record s { files = without_intent s.files; pending = settled }
+
+-- where it begins: there, or with `intent` gone where no step is left of a change that was stopped
+abbrev pub IsBegun : Change → State → State → Type 0
+IsBegun c told began = (began ≡ told) ⊎ ((steps c ≡ 0) × (began ≡ closed told))
+
 -- ---- finished and stopped
 
--- all its steps are done and acknowledged
+-- all its steps are done and acknowledged, and `intent` is gone
 abbrev pub IsChanged : Planning → State → State → Type 0
 IsChanged p before now =
-    (c : Change) × IsChangeFor p before c × IsFinished c (Some (begun c before)) (Some now)
+    (c : Change) × IsChangeFor p before c
+    × (began : State) × IsBegun c (begun c before) began
+    × IsFinished c (Some began) (Some now) × (get now.files intent_file ≡ None)
 
 -- it is stopped by this fault
 abbrev pub IsHalted : Planning → ApplyFault → State → State → Type 0
 IsHalted p fault before now =
-    (c : Change) × IsChangeFor p before c × IsStoppedBy c fault (begun c before) now
+    (c : Change) × IsChangeFor p before c
+    × (began : State) × IsBegun c (begun c before) began × IsStoppedBy c fault began now
 
 -- a front of the text of its plan is printed, and nothing is begun
 abbrev pub IsCutInPlan : Planning → State → State → List ℕ → Type 0
@@ -70,6 +84,7 @@ IsLastLine text =
 abbrev pub IsLast : Change → State → State → Outcome → List ℕ → Type 0
 IsLast c began now Done text =
     IsFinished c (Some began) (Some now) × (text ≡ last_line Done)
+    × (get now.files intent_file ≡ None)
 IsLast c began now (DiskFault step) text =
     IsStoppedBy c (Disk step) began now × (text ≡ last_line (DiskFault step))
 IsLast c began now (ServiceFault step service) text =

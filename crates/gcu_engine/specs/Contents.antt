@@ -7,6 +7,8 @@ use Rattle.conf_doc.specs.Document.{Document}
 use Rattle.conf_doc.specs.Reading as documents
 use Rattle.conf_doc.specs.Shaping.{shaping}
 use Rattle.conf_doc.specs.declared.configuration.Config.{Config}
+use Rattle.conf_store.specs.Files.{intent_file}
+use Rattle.conf_store.specs.Stored.{config_in}
 use Rattle.patch_core.specs.Apply.{apply}
 use Rattle.patch_core.specs.Operation.{Operation}
 use Rattle.patch_core.specs.Reading.{patch}
@@ -20,7 +22,7 @@ use Rattle.yang_model.specs.Shapes.{models_of}
 use Rattle.checkpoints.specs.Points.{points}
 use Rattle.move_core.specs.RulesFile.{rules}
 use Rattle.move_core.specs.declared.contexts.Ctx.{Ctx}
-use Rattle.plan_options.specs.Targets.{Target, patched, replaced, rolled_back}
+use Rattle.plan_options.specs.Targets.{Target, patched, replaced, resumed, rolled_back}
 
 -- the input at a path has bytes that are read as this
 abbrev pub Holds : {X E : Type 0} → State → List ℕ → (List ℕ → Result X E) → X → Type 0
@@ -61,8 +63,15 @@ Patches s path start goal =
     (ops : List Operation) × (d : Document) × Holds s path patch ops
     × (apply ops (tree start) ≡ Ok d) × (shaping d ≡ Ok goal)
 
--- what the target makes of a configuration: the patched one, that of a file, or that of a checkpoint
+-- `intent` holds the configuration
+abbrev pub HoldsIntent : State → Config → Type 0
+HoldsIntent s config =
+    (bytes : List ℕ) × (get s.files intent_file ≡ Some bytes) × (config_in bytes ≡ Ok config)
+
+-- what the target makes of a configuration: the patched one, that of a file, that of a checkpoint, or that of
+-- a change that was stopped
 abbrev pub IsMade : Target → State → Config → Config → Type 0
 IsMade (patched path) s start goal = Patches s path start goal
 IsMade (replaced path) s start goal = HoldsConfig s path goal
 IsMade (rolled_back name) s start goal = get (points s.files) name ≡ Some (Some goal)
+IsMade resumed s start goal = HoldsIntent s goal

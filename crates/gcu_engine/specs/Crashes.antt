@@ -9,15 +9,16 @@ use Rattle.move_core.specs.Operations.{plan_text}
 use Rattle.change_apply.specs.Acknowledgements.{acks}
 use Rattle.change_apply.specs.Change.{Change}
 use Rattle.change_apply.specs.Crashes.{IsLeft}
+use Rattle.change_apply.specs.Intents.{IsClosedOrNot}
 use Rattle.gcu_output.specs.declared.outcomes.Outcome.{Outcome}
 use Rattle.gcu_requests.specs.Asked.{form_asked}
 use Rattle.gcu_requests.specs.Asking.{Asking}
 use Rattle.gcu_requests.specs.ChangeAsked.{change_asked}
 use Rattle.gcu_requests.specs.Form as forms
 use Rattle.gcu_requests.specs.Form.{Form, form}
-use Rattle.gcu_requests.specs.Request.{Planning, Request, change, delete_checkpoint, save_checkpoint}
+use Rattle.gcu_requests.specs.Request.{Planning, Request, abandon, change, delete_checkpoint, save_checkpoint}
 use Rattle.gcu_engine.specs.Answers.{Says}
-use Rattle.gcu_engine.specs.Changing.{IsChangeFor, IsLast, acknowledged, begun}
+use Rattle.gcu_engine.specs.Changing.{IsBegun, IsChangeFor, IsLast, acknowledged, begun}
 
 -- ---- the output
 
@@ -40,6 +41,7 @@ abbrev pub LeftWriting : Request → State → Left → Type 0
 LeftWriting (delete_checkpoint name) before left = AreLeft (IsDeletedOrNot name) before left
 LeftWriting (save_checkpoint name config) before left =
     AreLeft (IsSavedOrNot name config) before left
+LeftWriting abandon before left = AreLeft IsClosedOrNot before left
 LeftWriting other before left = ⊥
 
 -- what was there, or what a request leaves that is right and writes
@@ -61,19 +63,26 @@ LeftEarly asking before left =
     (part : List ℕ) × (IsOutputFront asking before part ⊎ IsPlanFront asking before part)
     × MayLeave (printed part before) left
 
--- what a change leaves while its last line is printed, behind its acknowledgements
-pub record LeftLast (c : Change) (before : State) (left : Left) : Type 0 where
+-- what a change leaves while its last line is printed, behind its acknowledgements; the line is that of the
+-- change as it is answered
+pub record LeftLast (c : Change) (answered before : State) (left : Left) : Type 0 where
   pub now : State
   pub answer : Outcome
   pub part : List ℕ
   pub rest : List ℕ
-  pub line : IsLast c before now answer (part ++ rest)
+  pub line : IsLast c answered now answer (part ++ rest)
   pub output : left.output ≡ before.output ++ acks (acknowledged c answer) ++ part
   pub is : IsLeft c before (record left { output = before.output ++ acks (acknowledged c answer) })
 
--- what a change leaves: the last acknowledged configuration or the next one
+-- what a change leaves from such a beginning: the last acknowledged configuration or the next one
+abbrev pub LeftSince : Change → (answered began : State) → Left → Type 0
+LeftSince c answered began left = IsLeft c began left ⊎ LeftLast c answered began left
+
+-- what it leaves once the text of its plan is printed, wherever it begins
 abbrev pub LeftChanged : Change → State → Left → Type 0
-LeftChanged c before left = IsLeft c before left ⊎ LeftLast c before left
+LeftChanged c told left =
+    (answered : State) × (began : State) × IsBegun c told answered × IsBegun c told began
+    × LeftSince c answered began left
 
 -- what a command leaves that does a plan: what was there, or what its change leaves with the checkpoints from
 -- before

@@ -1,8 +1,10 @@
 -- What the parts of a command that does a plan give and leave.
-use Rattle.std.specs.Prelude.{◌≡◌, ◌⊎◌, ℕ, List, ◌++◌, length, map, Option, Some, None, Result, Ok, Err, option_map, ⊤}
+use Rattle.std.specs.Prelude.{◌≡◌, ◌<◌, ◌⊎◌, ℕ, List, [], ◌∷◌, ◌++◌, Bool, true, false, IsSome, length, map, Option, Some, None, Result, Ok, Err, option_map, ⊤}
+use Rattle.std.specs.FinMap.{get}
 use Rattle.host_core.specs.Counts.{Counts, Rose}
 use Rattle.host_core.specs.Crashes.{Left, MayLeaveInPrint}
-use Rattle.host_core.specs.State.{State, printed, settled, with_pending, PrintsPart}
+use Rattle.host_core.specs.State.{Files, State, printed, settled, with_pending, PrintsPart}
+use Rattle.conf_store.specs.Files.{intent_file}
 use Rattle.conf_store.specs.declared.loaded.Stored.{Stored}
 use Rattle.move_core.specs.Operations.{plan_text}
 use Rattle.move_core.specs.Services.{services_of}
@@ -11,6 +13,7 @@ use Rattle.move_core.specs.declared.settings.Settings.{Settings}
 use Rattle.change_apply.specs.Change.{Change, change_of, restarts_at, steps}
 use Rattle.change_apply.specs.Ends.{IsStoppedBy}
 use Rattle.change_apply.specs.declared.errors.ApplyFault.TheVariants.{Print}
+use Rattle.plan_options.specs.Targets.{Target, resumed}
 use Rattle.gcu_output.specs.declared.outcomes.Outcome.{Outcome}
 use Rattle.gcu_output.specs.declared.outcomes.Outcome.TheVariants.{PrintFault, Unorderable, Budget}
 use Rattle.gcu_requests.specs.Asking.{Asking}
@@ -18,7 +21,7 @@ use Rattle.gcu_requests.specs.Preparing.{FailsIn, StandsIn, refusal}
 use Rattle.gcu_requests.specs.Request.{Planning, Request}
 use Rattle.gcu_engine.specs.FaultLines.{AreFaultLines, AreNamed}
 use Rattle.gcu_engine.specs.Answers.{HasCause}
-use Rattle.gcu_engine.specs.Changing.{IsChangeFor, IsLast, acknowledged}
+use Rattle.gcu_engine.specs.Changing.{IsBegun, IsChangeFor, IsLast, acknowledged}
 use Rattle.gcu_engine.specs.Crashes.{LeftChanged, LeftEarly, LeftOfChange}
 use Rattle.gcu_engine.specs.Plannings.{HasNone}
 use Rattle.gcu_engine.specs.declared.change.ReadyChange.{ReadyChange}
@@ -38,9 +41,22 @@ pub record HasBytes (ready : ReadyChange) : Type 0 where
   pub settings : Settings
   pub named : (k : ℕ) → AreNamed settings (restarts_at ready.ready k)
 
+-- no step is left of a change that was stopped
+abbrev pub is_over : Target → List Move → Bool
+is_over resumed [] = true
+is_over resumed (m ∷ ms) = false
+is_over other ms = false
+
+-- `intent` is there and to be closed by a change without steps; or it isn't there where there are none
+abbrev pub ClosesAs : Bool → Change → Files → Type 0
+ClosesAs true c files = (steps c ≡ 0) × IsSome (get files intent_file)
+ClosesAs false c files = (0 < steps c) ⊎ (get files intent_file ≡ None)
+
 -- it is the change for what is to be planned of that state
 abbrev pub IsReadyIn : Asking Planning → State → ReadyChange → Type 0
-IsReadyIn asking s ready = (p : Planning) × asking.Gives (Ok p) × IsChangeFor p s ready.ready
+IsReadyIn asking s ready =
+    (p : Planning) × asking.Gives (Ok p) × IsChangeFor p s ready.ready
+    × ClosesAs ready.closes ready.ready s.files
 
 -- nothing is changed, or what was pending is settled
 abbrev pub IsKept : Option State → Option State → Type 0
@@ -92,11 +108,17 @@ EndsWork c (Some began) after old new result =
     IsTold c began after result
     ⊎ (IsCutInLast c began after old new result ⊎ IsCutInStep c began after result)
 
+-- the same, wherever it begins then
+abbrev pub EndsFrom : Change → Option State → Option State → Counts → Counts → Outcome → Type 0
+EndsFrom c None after old new result = after ≡ None
+EndsFrom c (Some told) after old new result =
+    (began : State) × IsBegun c told began × EndsWork c (Some began) after old new result
+
 -- a front of the text of the plan is printed, or all of it
 abbrev pub EndsChange : Change → Option State → Option State → Counts → Counts → Outcome → Type 0
 EndsChange c before after old new result =
     ((result ≡ PrintFault 0) × PrintsPart (plan_text c.moves) before after)
-    ⊎ EndsWork c (option_map (printed (plan_text c.moves)) before) after old new result
+    ⊎ EndsFrom c (option_map (printed (plan_text c.moves)) before) after old new result
 
 -- ---- what a crash leaves
 

@@ -5,8 +5,8 @@
 -- arrives; after a crash at any moment the stored configuration is the plan's last acknowledged or the next, and
 -- checkpoints are whole; a finished rollback stores exactly its checkpoint.
 --
--- Of `replace` and `rollback` the last configuration is that of the file and of the checkpoint. Where no plan is
--- done, or the command is refused, the stored configuration after a crash is that of the beginning.
+-- Of `replace`, `rollback` and `resume` the last configuration is that of the file, of the checkpoint and of
+-- `intent`. Where no plan is done, or the command is refused, the stored configuration after a crash is that of the beginning.
 use Rattle.std.specs.Prelude.{◌≡◌, ◌≢◌, ◌≤◌, ◌⊎◌, ℕ, suc, List, [], ◌++◌, length, slice_get, Option, Some, None, IfSome, Ok}
 use Rattle.std.specs.FinMap.{get}
 use Rattle.host_core.specs.Crashes.{Left}

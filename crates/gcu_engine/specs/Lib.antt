@@ -4,8 +4,10 @@ pub mod Changing
 pub mod Contents
 pub mod Crashes
 pub mod Headline
+pub mod Intending
 pub mod Plannings
 pub mod PointLines
+pub mod Resuming
 pub mod Summary
 -- what only private clauses cite
 pub mod Commands

@@ -1,6 +1,6 @@
-//! `gcu apply-patch PATCH`, `gcu replace FILE` and `gcu rollback NAME`: a plan printed and then done, step by
-//! step.
-ghost use Rattle.std.specs.Prelude.{◌≡◌, ◌≤◌, ◌<◌, IfErr, IfOk, IfSome, map, option_map};
+//! `gcu apply-patch PATCH`, `gcu replace FILE`, `gcu rollback NAME` and `gcu resume`: a plan printed and then
+//! done, step by step.
+ghost use Rattle.std.specs.Prelude.{◌≡◌, ◌≤◌, ◌<◌, false, true, IfErr, IfOk, IfSome, map, option_map};
 ghost use Rattle.host_core.specs.Counts.{NoneFell, PrintMayRise};
 ghost use Rattle.host_core.specs.Crashes.{Elapses, LeavesOnly, MayLeaveInPrint, MayLeaveNow};
 ghost use Rattle.host_core.specs.Names.{longest_scoped_name};
@@ -16,21 +16,21 @@ ghost use Rattle.gcu_requests.specs.PlanAsked.{planning_asked};
 ghost use Rattle.gcu_requests.specs.ReadPlannings.{HasGoodName, IsReadyToSearch, planning_of};
 ghost use Rattle.gcu_engine.specs.Answers.{HasCause, IsRefusal};
 ghost use Rattle.gcu_engine.specs.Commands.{AnswersTo, CompleteTo, IsReady};
-ghost use Rattle.gcu_engine.specs.Crashes.{LeftChanged};
-ghost use Rattle.gcu_engine.specs.Doing.{EndsChange, EndsWork, HasBytes, IsEnded, IsKept, IsPrepared, IsReadyIn, LeftDoing, LeftToChange, LeftToEarly, change_by};
+ghost use Rattle.gcu_engine.specs.Crashes.{LeftChanged, LeftSince};
+ghost use Rattle.gcu_engine.specs.Doing.{ClosesAs, EndsChange, EndsFrom, EndsWork, HasBytes, IsEnded, IsKept, IsPrepared, IsReadyIn, LeftDoing, LeftToChange, LeftToEarly, change_by, is_over};
 ghost use Rattle.gcu_engine.specs.PlanCommands.{RefusesOrEnds};
 ghost use Rattle.gcu_engine.specs.Plannings.{IsPlanFor};
 
 use crate::Outcome;
 use crate::fault_lines::{FaultLines, fault_lines};
 use crate::solving::find_plan;
-use change_apply::{ApplyFault, Ready, prepare as prepare_change, run};
+use change_apply::{ApplyFault, Ready, close, prepare as prepare_change, run};
 use checkpoints::points_are_in_other_files;
 use gcu_output::say;
 use gcu_requests::{Planning, prepare, test_target};
 use host_core::{Host, Memory, Sequence};
 use move_core::{Boxes, Kit, Plan, Settings, listed_moves_are_defined, plan_text};
-use plan_options::Target;
+use plan_options::{Source, Target};
 use std::alloc::Global;
 use svc_rules::{Services, services_of};
 
@@ -42,6 +42,8 @@ pub(crate) struct ReadyChange {
     text: Vec<u8>,
     /// How many steps it has.
     steps: usize,
+    /// Whether it has none, and closes a change that was stopped.
+    closes: bool,
     lines: FaultLines,
 }
 
@@ -174,32 +176,55 @@ fn plan_settled<H: Host>(
 {
     let planning = prepare(alloc, target, budget, host)?;
     let plan = find_plan(alloc, kit, &planning)?;
-    ready_change(alloc, &planning, &plan)
+    let closes = closes_stopped(target, &plan);
+    ready_change(alloc, &planning, &plan, closes)
+}
+
+/// Whether no step is left of a change that was stopped.
+fn closes_stopped(target: Target<'_>, plan: &Plan) -> bool
+    ensures { result ≡ is_over (target_view target.entry) plan.now }
+{
+    match target.source {
+        Source::Patch | Source::File | Source::Checkpoint => false,
+        Source::Intent => plan.len() == 0,
+    }
 }
 
 /// Makes the change of a plan ready.
-fn ready_change(alloc: Global, planning: &Planning, plan: &Plan) -> Result<ReadyChange, Outcome>
+fn ready_change(
+    alloc: Global,
+    planning: &Planning,
+    plan: &Plan,
+    closes: bool,
+) -> Result<ReadyChange, Outcome>
     requires ready { IsReadyToSearch planning.now }
     requires most { planning.now.budget ≤ most_budget }
     requires found { IsPlanFor (planning_of planning.now) plan.now }
     ensures change { IfOk result (λ r.
         r.ready ≡ change_by planning.now.ctx.settings planning.now.stored plan.now) }
+    ensures closes { IfOk result (λ r. r.closes ≡ closes) }
     ensures bytes { IfOk result HasBytes }
     ensures err { IfErr result (λ e. e ≡ no_memory) }
 {
-    match ready_bytes(alloc, planning, plan) {
+    match ready_bytes(alloc, planning, plan, closes) {
         Ok(ready) => Ok(ready),
         Err(Memory) => Err(Outcome::Memory),
     }
 }
 
 /// Makes every byte that the change of a plan writes and prints.
-fn ready_bytes(alloc: Global, planning: &Planning, plan: &Plan) -> Result<ReadyChange, Memory>
+fn ready_bytes(
+    alloc: Global,
+    planning: &Planning,
+    plan: &Plan,
+    closes: bool,
+) -> Result<ReadyChange, Memory>
     requires ready { IsReadyToSearch planning.now }
     requires most { planning.now.budget ≤ most_budget }
     requires found { IsPlanFor (planning_of planning.now) plan.now }
     ensures change { IfOk result (λ r.
         r.ready ≡ change_by planning.now.ctx.settings planning.now.stored plan.now) }
+    ensures closes { IfOk result (λ r. r.closes ≡ closes) }
     ensures bytes { IfOk result HasBytes }
 {
     listed_moves_are_defined();
@@ -212,6 +237,7 @@ fn ready_bytes(alloc: Global, planning: &Planning, plan: &Plan) -> Result<ReadyC
         ready,
         text,
         steps: plan.len(),
+        closes,
         lines,
     })
 }
@@ -236,6 +262,8 @@ fn do_change<H: Host>(change: &ReadyChange, host: &mut H) -> Outcome
     requires longest { longest_scoped_name ≤ H.longest_name }
     requires clean { IfSome (H.told host.old) IsSettled }
     requires stands { IfSome (H.told host.old) (λ s. StandsFor change.now.ready.stored s.files) }
+    requires closes { IfSome (H.told host.old)
+        (λ s. ClosesAs change.now.closes change.now.ready s.files) }
     requires bytes { HasBytes change.now }
     ensures answers { EndsChange change.now.ready
         (H.told host.old) (H.told host.new) (H.counts host.old) (H.counts host.new) result }
@@ -249,23 +277,77 @@ fn do_change<H: Host>(change: &ReadyChange, host: &mut H) -> Outcome
     ensures form { result ≡ usage → ⊥ }
 {
     match host.print(&change.text) {
-        Ok(()) => do_steps(change, host),
+        Ok(()) => finish_change(change, host),
         Err(_) => Outcome::PrintFault { step: 0 },
     }
 }
 
 /// Does a change whose plan is printed.
+fn finish_change<H: Host>(change: &ReadyChange, host: &mut H) -> Outcome
+    requires longest { longest_scoped_name ≤ H.longest_name }
+    requires clean { IfSome (H.told host.old) IsSettled }
+    requires stands { IfSome (H.told host.old) (λ s. StandsFor change.now.ready.stored s.files) }
+    requires closes { IfSome (H.told host.old)
+        (λ s. ClosesAs change.now.closes change.now.ready s.files) }
+    requires bytes { HasBytes change.now }
+    ensures answers { EndsFrom change.now.ready
+        (H.told host.old) (H.told host.new) (H.counts host.old) (H.counts host.new) result }
+    ensures cause { HasCause (H.counts host.old) (H.counts host.new) result }
+    ensures counts { NoneFell (H.counts host.old) (H.counts host.new) }
+    ensures any_moment { IfSome (H.told host.old)
+        (λ s. LeavesOnly H.moment H.left_since host.old host.new (LeftChanged change.now.ready s)) }
+    ensures later { H.moment host.old ≤ H.moment host.new }
+    ensures goes { H.goes_on host.old host.new }
+    ensures works { IsRefusal result → ⊥ }
+    ensures form { result ≡ usage → ⊥ }
+{
+    if change.closes {
+        return close_stopped(change, host);
+    }
+    do_steps(change, host)
+}
+
+/// Removes `intent`, and ends a change without steps.
+fn close_stopped<H: Host>(change: &ReadyChange, host: &mut H) -> Outcome
+    requires longest { longest_scoped_name ≤ H.longest_name }
+    requires clean { IfSome (H.told host.old) IsSettled }
+    requires stands { IfSome (H.told host.old) (λ s. StandsFor change.now.ready.stored s.files) }
+    requires over { IfSome (H.told host.old) (λ s. ClosesAs true change.now.ready s.files) }
+    requires bytes { HasBytes change.now }
+    ensures answers { EndsFrom change.now.ready
+        (H.told host.old) (H.told host.new) (H.counts host.old) (H.counts host.new) result }
+    ensures cause { HasCause (H.counts host.old) (H.counts host.new) result }
+    ensures counts { NoneFell (H.counts host.old) (H.counts host.new) }
+    ensures any_moment { IfSome (H.told host.old)
+        (λ s. LeavesOnly H.moment H.left_since host.old host.new (LeftChanged change.now.ready s)) }
+    ensures later { H.moment host.old ≤ H.moment host.new }
+    ensures goes { H.goes_on host.old host.new }
+    ensures works { IsRefusal result → ⊥ }
+    ensures form { result ≡ usage → ⊥ }
+{
+    match close(host) {
+        Ok(()) => do_steps(change, host),
+        Err(_) => {
+            let line = change.lines.disk_line(0);
+            end(Outcome::DiskFault { step: 0 }, line, 0, host)
+        }
+    }
+}
+
+/// Does the steps of a change.
 fn do_steps<H: Host>(change: &ReadyChange, host: &mut H) -> Outcome
     requires longest { longest_scoped_name ≤ H.longest_name }
     requires clean { IfSome (H.told host.old) IsSettled }
     requires stands { IfSome (H.told host.old) (λ s. StandsFor change.now.ready.stored s.files) }
+    requires closed { IfSome (H.told host.old) (λ s. ClosesAs false change.now.ready s.files) }
     requires bytes { HasBytes change.now }
     ensures answers { EndsWork change.now.ready
         (H.told host.old) (H.told host.new) (H.counts host.old) (H.counts host.new) result }
     ensures cause { HasCause (H.counts host.old) (H.counts host.new) result }
     ensures counts { NoneFell (H.counts host.old) (H.counts host.new) }
     ensures any_moment { IfSome (H.told host.old)
-        (λ s. LeavesOnly H.moment H.left_since host.old host.new (LeftChanged change.now.ready s)) }
+        (λ s. LeavesOnly H.moment H.left_since host.old host.new
+        (LeftSince change.now.ready s s)) }
     ensures later { H.moment host.old ≤ H.moment host.new }
     ensures goes { H.goes_on host.old host.new }
     ensures works { IsRefusal result → ⊥ }

@@ -20,6 +20,7 @@ ghost use Rattle.gcu_engine.specs.Commands.{AnswersTo, CompleteTo, IsReady, Leav
 use crate::{Outcome, PointWhy};
 use checkpoints::{PointError, delete, is_good_name};
 use gcu_output::tell;
+use gcu_requests::test_uninterrupted;
 use host_core::{Host, Txt};
 use std::alloc::Global;
 
@@ -41,7 +42,7 @@ pub(crate) fn delete_checkpoint<H: Host>(alloc: Global, name: &Txt, host: &mut H
     tell(alloc, done, host)
 }
 
-/// Settles what is pending, and deletes the checkpoint.
+/// Settles what is pending, and deletes the checkpoint, where no change was stopped before its end.
 fn remove_checkpoint<H: Host>(alloc: Global, name: &Txt, host: &mut H) -> Result<(), Outcome>
     requires { longest_scoped_name ≤ H.longest_name }
     ensures left { IsReady (delete_asked name.now)
@@ -57,7 +58,10 @@ fn remove_checkpoint<H: Host>(alloc: Global, name: &Txt, host: &mut H) -> Result
         return Err(Outcome::BadName { name });
     }
     match host.settle() {
-        Ok(()) => delete_settled(alloc, name, host),
+        Ok(()) => {
+            test_uninterrupted(alloc, host)?;
+            delete_settled(alloc, name, host)
+        }
         Err(_) => Err(Outcome::DiskFault { step: 0 }),
     }
 }

@@ -1,6 +1,7 @@
 //! What the program `gcu` does: its commands, their answers and what they print.
 #![tactic(auto)]
 
+mod abandon;
 mod change;
 mod check;
 mod check_plan;
@@ -13,6 +14,7 @@ mod list_checkpoints;
 mod run_command;
 mod save_checkpoint;
 mod solving;
+mod status;
 
 pub use conf_check::Rule;
 pub use conf_store::StoredWhy;

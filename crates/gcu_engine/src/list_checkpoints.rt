@@ -7,7 +7,7 @@ ghost use Rattle.checkpoints.specs.Answers.{numbered_view};
 ghost use Rattle.gcu_output.specs.Printing.{LeftInText, IsSaid};
 ghost use Rattle.gcu_output.specs.Lines.{last_line, line_feed};
 ghost use Rattle.gcu_output.specs.declared.outcomes.Outcome.TheVariants.{Done as done, Usage as usage};
-ghost use Rattle.gcu_requests.specs.Asked.{list_asked};
+ghost use Rattle.gcu_requests.specs.Asked.{list_asked, numbers_asked};
 ghost use Rattle.gcu_requests.specs.Preparing.{Finds, Refuses};
 ghost use Rattle.gcu_requests.specs.Request.{list_checkpoints as list_of};
 ghost use Rattle.gcu_engine.specs.Answers.{HasCause};
@@ -17,6 +17,7 @@ ghost use Rattle.gcu_engine.specs.PointLines.{named_number, point_lines};
 use crate::Outcome;
 use checkpoints::{Numbered, PointError, numbers};
 use gcu_output::{print, say, say_memory};
+use gcu_requests::test_uninterrupted;
 use host_core::{Host, Memory, Sequence};
 use std::alloc::{AllocError, Global};
 
@@ -40,11 +41,26 @@ pub(crate) fn list_checkpoints<H: Host>(alloc: Global, host: &mut H) -> Outcome
     }
 }
 
-/// All checkpoints with their numbers.
+/// All checkpoints with their numbers, where no change was stopped before its end.
 fn find_numbers<H: Host>(alloc: Global, host: &mut H) -> Result<Sequence<Numbered>, Outcome>
     requires { longest_scoped_name ≤ H.longest_name }
     ensures answer { Finds (H.told host.old) (λ all. list_of (map numbered_view all)) result
         list_asked }
+    ensures told { H.told host.new ≡ H.told host.old }
+    ensures counts { DiskMayRise (H.counts host.old) (H.counts host.new) }
+    ensures cause { IfErr result (Refuses (H.counts host.old) (H.counts host.new)) }
+    ensures time { Elapses H.moment H.left_since host.old host.new (MayLeaveNow (H.told host.old)) }
+    ensures goes { H.goes_on host.old host.new }
+{
+    test_uninterrupted(alloc, host)?;
+    read_numbers(alloc, host)
+}
+
+/// All checkpoints with their numbers.
+fn read_numbers<H: Host>(alloc: Global, host: &mut H) -> Result<Sequence<Numbered>, Outcome>
+    requires { longest_scoped_name ≤ H.longest_name }
+    ensures answer { Finds (H.told host.old) (λ all. list_of (map numbered_view all)) result
+        numbers_asked }
     ensures told { H.told host.new ≡ H.told host.old }
     ensures counts { DiskMayRise (H.counts host.old) (H.counts host.new) }
     ensures cause { IfErr result (Refuses (H.counts host.old) (H.counts host.new)) }

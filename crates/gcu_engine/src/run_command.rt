@@ -9,8 +9,11 @@ ghost use Rattle.gcu_requests.specs.Form.{form};
 ghost use Rattle.gcu_engine.specs.Answers.{Answers, Complete, HasCause, TellsUsage};
 ghost use Rattle.gcu_engine.specs.Crashes.{LeftMeanwhile};
 ghost use Rattle.gcu_engine.specs.Headline.{IsHeadline};
+ghost use Rattle.gcu_engine.specs.Intending.{KeepsIntent};
+ghost use Rattle.gcu_engine.specs.Resuming.{IsStoppedIn, Resumes};
 
 use crate::Outcome;
+use crate::abandon::abandon;
 use crate::change::change;
 use crate::check::check;
 use crate::check_plan::check_plan;
@@ -19,16 +22,18 @@ use crate::demo::demo;
 use crate::dry_run::dry_run;
 use crate::list_checkpoints::list_checkpoints;
 use crate::save_checkpoint::save_checkpoint;
+use crate::status::status;
 use gcu_output::{say, show};
 use gcu_requests::{Form, asked_has_one_answer, preview, read_form};
 use host_core::{Host, Txt};
-use move_core::{Boxes, Kit};
+use move_core::{Boxes, Kit, listed_moves_have_models};
 use std::alloc::Global;
 
 /// Does the command that the words are, and prints its answer. `preview PATCH` prints the stored
 /// configuration as the patch would leave it, `check` says whether it is valid, `apply-patch PATCH` prints a
 /// plan for the patch and does it, `replace FILE` one for the configuration in a file and `rollback NAME` one
-/// for that of a checkpoint, and each of the three with `--dry-run` only prints it. `checkpoint NAME` saves the
+/// for that of a checkpoint, and each of the three with `--dry-run` only prints it. `status` says whether a
+/// change was stopped, `resume` finishes it, and `abandon` gives it up. `checkpoint NAME` saves the
 /// stored configuration under a name, `list-checkpoints` prints the names of all checkpoints, and
 /// `delete-checkpoint NAME` deletes one. `demo SEED N` plans between two generated configurations with `N`
 /// ports, and counts the steps. `check-plan PATCH PLAN` says whether the moves in an input are a plan for the
@@ -38,15 +43,15 @@ pub fn run<H: Host>(alloc: Global, words: &[Txt], kit: &mut Kit, host: &mut H) -
     requires kinds { ⟦<Kit as Boxes>⟧.HasKinds kit.old }
     ensures kinds { ⟦<Kit as Boxes>⟧.HasKinds kit.new }
     // The answer is the first refusal, or what the command asks for, and nothing changes but the output, a
-    // checkpoint that is saved or deleted, and the work of a plan that is done.
+    // checkpoint that is saved or deleted, `intent` that is given up, and the work of a plan that is done.
     ensures answers { Answers words.now
         (H.told host.old) (H.told host.new) (H.counts host.old) (H.counts host.new) result }
     // A fault is answered only where its count rose.
     ensures cause { HasCause (H.counts host.old) (H.counts host.new) result }
     ensures counts { NoneFell (H.counts host.old) (H.counts host.new) }
-    // A crash at a moment of it leaves the folder as it was, or with the checkpoint that is saved or without
-    // the one that is deleted, with a front of some output. Of a plan that is done it leaves the last
-    // acknowledged configuration or the next one.
+    // A crash at a moment of it leaves the folder as it was, or with the checkpoint that is saved, without the
+    // one that is deleted or without `intent`, with a front of some output. Of a plan that is done it leaves
+    // the last acknowledged configuration or the next one.
     ensures crash { LeavesOnly H.moment H.left_since host.old host.new
         (LeftMeanwhile words.now (H.told host.old)) }
     // What is printed of a plan is right, a crash leaves what is acknowledged or the next and whole
@@ -54,6 +59,9 @@ pub fn run<H: Host>(alloc: Global, words: &[Txt], kit: &mut Kit, host: &mut H) -
     ensures headline { IfSome (H.told host.old)
         (λ s. IsHeadline words.now s (H.told host.new) result
         (H.left_since host.new (H.moment host.old))) }
+    // While a plan is done `intent` holds its goal, unless nothing is written yet or all is.
+    ensures intent { IfSome (H.told host.old)
+        (λ s. KeepsIntent words.now s (H.left_since host.new (H.moment host.old))) }
     // What the host's calls keep is kept.
     ensures goes { H.goes_on host.old host.new }
     // The words alone tell whether they are a command.
@@ -63,8 +71,13 @@ pub fn run<H: Host>(alloc: Global, words: &[Txt], kit: &mut Kit, host: &mut H) -
     ensures complete { IfSome (H.told host.old)
         (λ s. NoneRose (H.counts host.old) (H.counts host.new)
         → Complete (asked words.now s) result) }
+    // A change that was stopped is finished by `resume`, where nothing fails and memory and budget last.
+    ensures resumes { IfSome (H.told host.old)
+        (λ s. NoneRose (H.counts host.old) (H.counts host.new)
+        → IsStoppedIn s → Resumes words.now result) }
 {
     asked_has_one_answer();
+    listed_moves_have_models();
     match read_form(words) {
         Form::Unknown => say(alloc, Outcome::Usage, host),
         Form::Preview { patch } => match preview(alloc, patch, host) {
@@ -77,6 +90,8 @@ pub fn run<H: Host>(alloc: Global, words: &[Txt], kit: &mut Kit, host: &mut H) -
         Form::DeleteCheckpoint { name } => delete_checkpoint(alloc, name, host),
         Form::Plan { target, options } => dry_run(alloc, target, options.budget, kit, host),
         Form::Change { target, options } => change(alloc, target, options.budget, kit, host),
+        Form::Status => status(alloc, host),
+        Form::Abandon => abandon(alloc, host),
         Form::Demo { size } => demo(alloc, size, kit, host),
         Form::CheckPlan { patch, plan } => check_plan(alloc, patch, plan, host),
     }

@@ -17,7 +17,7 @@ use Rattle.plan_check.specs.declared.errors.NoWhy.TheVariants as plans
 use Rattle.yang_text.specs.declared.errors.ModelWhy.{ModelWhy}
 use Rattle.yang_text.specs.declared.errors.ModelWhy.TheVariants as models
 use Rattle.gcu_output.specs.declared.outcomes.Outcome.{Outcome}
-use Rattle.gcu_output.specs.declared.outcomes.Outcome.TheVariants.{Done, Memory, Usage, InputFault, DiskFault, PrintFault, ServiceFault, NoInput, TooBig, BadJson, BadConfig, BadModels, BadRules, BadPatch, PatchFailed, TargetShape, CurrentInvalid, TargetInvalid, NoModel, EmptyTable, Unorderable, Budget, NoCheckpoint, CheckpointExists, BadName, BadStored, SequenceFull, BadPlan, PlanRejected}
+use Rattle.gcu_output.specs.declared.outcomes.Outcome.TheVariants.{Done, Memory, Usage, InputFault, DiskFault, PrintFault, ServiceFault, NoInput, TooBig, BadJson, BadConfig, BadModels, BadRules, BadPatch, PatchFailed, TargetShape, CurrentInvalid, TargetInvalid, NoModel, EmptyTable, Unorderable, Budget, NoCheckpoint, CheckpointExists, BadName, BadStored, Interrupted, NoIntent, BadIntent, SequenceFull, BadPlan, PlanRejected}
 use Rattle.gcu_output.specs.declared.outcomes.PointWhy.{PointWhy}
 use Rattle.gcu_output.specs.declared.outcomes.PointWhy.TheVariants as point
 
@@ -149,6 +149,9 @@ answer (EmptyTable table) = (19, codes "empty table " ++ quoted table)
 answer Unorderable = (20, codes "unorderable")
 answer (Budget n) = (21, codes "budget " ++ decimal n)
 answer (BadStored why) = (25, codes "bad stored " ++ stored_why why)
+answer Interrupted = (26, codes "interrupted")
+answer NoIntent = (27, codes "no intent")
+answer BadIntent = (28, codes "bad intent")
 answer SequenceFull = (29, codes "sequence full")
 answer (BadPlan path line) = (30, codes "bad plan " ++ quoted path ++ space ++ decimal line)
 answer (PlanRejected n why) = (31, codes "no plan " ++ decimal n ++ space ++ no_why why)

@@ -5,8 +5,10 @@
 mod lines;
 mod outcomes;
 mod printing;
+mod statuses;
 mod tree_text;
 
 pub use lines::{line, numbered_line, quoted};
 pub use outcomes::{Outcome, PointWhy};
 pub use printing::{print, say, say_memory, show, show_plan, tell};
+pub use statuses::{Intent, show_status};

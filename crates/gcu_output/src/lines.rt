@@ -134,6 +134,9 @@ fn said(alloc: Global, outcome: &Outcome) -> Result<String, AllocError>
             let why = stored_why_text(alloc, *why)?;
             format!(in alloc; "bad stored {why}")
         }
+        Outcome::Interrupted => String::from_str(alloc, "interrupted"),
+        Outcome::NoIntent => String::from_str(alloc, "no intent"),
+        Outcome::BadIntent => String::from_str(alloc, "bad intent"),
         Outcome::SequenceFull => String::from_str(alloc, "sequence full"),
         Outcome::BadPlan { path, line } => {
             let path = quoted(alloc, path.as_str())?;

@@ -75,6 +75,12 @@ pub enum Outcome {
     Budget { n: u32 },
     /// The folder stands for no configuration.
     BadStored { why: StoredWhy },
+    /// A change was stopped before its end: its goal is still on the disk.
+    Interrupted,
+    /// No change was stopped before its end.
+    NoIntent,
+    /// The file of a change that was stopped holds no configuration.
+    BadIntent,
     /// The greatest sequence number of checkpoints is taken.
     SequenceFull,
     /// The file of a plan isn't the text of one: this line, counted from 1, is the first at fault.
@@ -115,6 +121,9 @@ impl Outcome {
             Outcome::Unorderable => 20,
             Outcome::Budget { .. } => 21,
             Outcome::BadStored { .. } => 25,
+            Outcome::Interrupted => 26,
+            Outcome::NoIntent => 27,
+            Outcome::BadIntent => 28,
             Outcome::SequenceFull => 29,
             Outcome::BadPlan { .. } => 30,
             Outcome::PlanRejected { .. } => 31,

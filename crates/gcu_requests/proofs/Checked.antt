@@ -4,7 +4,7 @@ use Rattle.host_core.specs.State.{State}
 use Rattle.conf_doc.specs.declared.configuration.Config.{Config}
 use Rattle.yang_model.specs.ModelSets.{ModelSet}
 use Rattle.gcu_output.specs.declared.outcomes.Outcome.{Outcome}
-use Rattle.gcu_requests.specs.Checking.{IsJudged, check_asked}
+use Rattle.gcu_requests.specs.Checking.{IsJudged, judging_asked}
 use Rattle.gcu_requests.specs.ModelFiles.{AreModels, Text, models_asked, texts_asked}
 use Rattle.gcu_requests.specs.Preparing.{Finds, IsRightBy, RefusesAlways}
 use Rattle.gcu_requests.specs.Request as request
@@ -34,13 +34,13 @@ abbrev pub check_of : {X : Type 0} → X → request.Request
 check_of x = request.check
 
 -- there are no models
-pub no_models : (o : Option State) (e : Outcome) → Finds {X = ModelSet} o self (Err e) models_asked → Finds {X = Config} o check_of (Err e) check_asked
+pub no_models : (o : Option State) (e : Outcome) → Finds {X = ModelSet} o self (Err e) models_asked → Finds {X = Config} o check_of (Err e) judging_asked
 no_models None e h = tt
 no_models (Some s) e h = first_refused self check_of e (models_asked s) _ h
 
 -- the folder stands for no configuration
 pub no_config : (o : Option State) (models : ModelSet) (e : Outcome) → Finds o self (Ok models) models_asked
-    → Finds {X = Config} o self (Err e) stored_asked → Finds {X = Config} o check_of (Err e) check_asked
+    → Finds {X = Config} o self (Err e) stored_asked → Finds {X = Config} o check_of (Err e) judging_asked
 no_config None models e h f = tt
 no_config (Some s) models e h f =
     then_found self check_of models (Err e) (models_asked s) _ h (first_refused self check_of e (stored_asked s) _ f)
@@ -48,7 +48,7 @@ no_config (Some s) models e h f =
 -- what is said of the configuration
 pub judged : (o : Option State) (models : ModelSet) (config : Config) (r : Result Config Outcome) → Finds o self (Ok models) models_asked
     → Finds o self (Ok config) stored_asked → IsRightBy check_of r (IsJudged models config) → IfErr r RefusesAlways
-    → Finds o check_of r check_asked
+    → Finds o check_of r judging_asked
 judged None models config r h f told always = tt
 judged (Some s) models config r h f told always =
     then_found self check_of models r (models_asked s) _ h

@@ -8,7 +8,7 @@ use Rattle.plan_options.specs.Options.{default_budget}
 use Rattle.gcu_output.specs.declared.outcomes.Outcome.{Outcome}
 use Rattle.gcu_output.specs.declared.outcomes.Outcome.TheVariants.{CurrentInvalid}
 use Rattle.gcu_requests.specs.Asking.{follows_by}
-use Rattle.gcu_requests.specs.DemoAsked.{demo_planning_asked, generated_asked}
+use Rattle.gcu_requests.specs.DemoAsked.{generating_asked, generated_asked}
 use Rattle.gcu_requests.specs.PlanAsked.{IsValidOr, judged_asked}
 use Rattle.gcu_requests.specs.ReadPlannings.{planning_of}
 use Rattle.gcu_requests.specs.Preparing.{Finds, Found, IsRightBy}
@@ -58,12 +58,12 @@ generated_found seed ports made p is same valid h =
 
 -- there is nothing to judge by
 pub no_demo_ctx : (o : Option State) (seed ports : ℕ) (e : Outcome) → Finds {X = Ctx} o self (Err e) ctx_asked
-    → Finds {X = code.Planning} o planning_of (Err e) (demo_planning_asked seed ports)
+    → Finds {X = code.Planning} o planning_of (Err e) (generating_asked seed ports)
 no_demo_ctx None seed ports e h = tt
 no_demo_ctx (Some s) seed ports e h = first_refused self planning_of e (ctx_asked s) _ h
 
 -- there is what is generated
 pub demo_found : (o : Option State) (seed ports : ℕ) (ctx : Ctx) (r : Result code.Planning Outcome) → Finds o self (Ok ctx) ctx_asked
-    → Found planning_of r (generated_asked seed ports ctx) → Finds o planning_of r (demo_planning_asked seed ports)
+    → Found planning_of r (generated_asked seed ports ctx) → Finds o planning_of r (generating_asked seed ports)
 demo_found None seed ports ctx r h f = tt
 demo_found (Some s) seed ports ctx r h f = then_found self planning_of ctx r (ctx_asked s) _ h f

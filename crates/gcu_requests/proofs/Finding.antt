@@ -18,7 +18,7 @@ use Rattle.gcu_requests.specs.PatchAsked.{patch_asked, patch_in, patch_limit, ta
 use Rattle.gcu_requests.specs.StoredAsked.{stored_asked}
 use Rattle.gcu_requests.specs.Asking.{Asking, follows, follows_by, ◌>>>◌}
 use Rattle.gcu_requests.specs.Preparing.{FailsIn, Finds, Found, IsGiven, IsRightBy, Refuses, RefusesAlways, StandsIn, refusal}
-use Rattle.gcu_requests.specs.Trees.{preview_document, stored_document, target_document, through}
+use Rattle.gcu_requests.specs.Trees.{patched_document, stored_document, target_document, through}
 
 -- ---- what is asked one after the other
 
@@ -144,7 +144,7 @@ stands_through f (DiskFault step) first next h = h
 stands_through f other first next h = tt
 
 -- what is found of the first answer and then of what f makes of the second is found of both
-found_through : {X Y Z W : Type 0} (f : Y → Z) (view : W → Z) (r : Result W Outcome) (first : Asking X) (next : X → Asking Y)
+pub found_through : {X Y Z W : Type 0} (f : Y → Z) (view : W → Z) (r : Result W Outcome) (first : Asking X) (next : X → Asking Y)
     → Found view r (first >>> λ x. through f (next x)) → Found view r (through f (first >>> next))
 found_through f view (Ok w) first next h = by h.gives
   where
@@ -176,7 +176,7 @@ stored_stands s other h = tt
 
 -- nothing is found where the folder stands for no configuration
 pub no_stored : (o : Option State) (path : List ℕ) (e : Outcome)
-    → Finds {X = Tree} o document (Err e) stored_document → Finds {X = Tree} o document (Err e) (preview_document path)
+    → Finds {X = Tree} o document (Err e) stored_document → Finds {X = Tree} o document (Err e) (patched_document path)
 no_stored None path e h = tt
 no_stored (Some s) path e h =
     found_through tree document (Err e) (stored_asked s) _
@@ -195,7 +195,7 @@ behind_stored s start view r next h then =
 -- nothing is found where there is no patch
 pub no_patch : (o : Option State) (path : List ℕ) (start : Tree) (e : Outcome)
     → Finds o document (Ok start) stored_document → Finds o operations (Err e) (patch_asked path)
-    → Finds {X = Tree} o document (Err e) (preview_document path)
+    → Finds {X = Tree} o document (Err e) (patched_document path)
 no_patch None path start e h f = tt
 no_patch (Some s) path start e h f =
     behind_stored s start document (Err e) _ h (λ c same.
@@ -206,7 +206,7 @@ no_patch (Some s) path start e h f =
 pub target_found : (o : Option State) (path : List ℕ) (start : Tree) (patch : Patch) (r : Result Tree Outcome)
     → Finds o document (Ok start) stored_document → Finds o operations (Ok patch) (patch_asked path)
     → Gives document refusal r (target_document (operations patch) (document start)) → IfErr r RefusesAlways
-    → Finds o document r (preview_document path)
+    → Finds o document r (patched_document path)
 target_found None path start patch r h f gives always = tt
 target_found (Some s) path start patch r h f gives always =
     behind_stored s start document r _ h (λ c same.

@@ -14,22 +14,23 @@ use Rattle.conf_check.specs.declared.violations.Rule.{Rule}
 use Rattle.move_core.specs.declared.contexts.Ctx.{Ctx}
 use Rattle.goal_checks.specs.Targets.{AgreeAt, DifferAt, HasKeysAt, IsEmptyAt, IsFirst}
 use Rattle.plan_options.specs.Options.{default_budget}
-use Rattle.plan_options.specs.Targets.{Target, patched, replaced, rolled_back}
+use Rattle.plan_options.specs.Targets.{Target, patched, replaced, resumed, rolled_back}
 use Rattle.plan_texts.specs.PlanTexts.{most_bytes}
 use Rattle.gcu_output.specs.declared.outcomes.Outcome.{Outcome}
 use Rattle.gcu_output.specs.declared.outcomes.Outcome.TheVariants.{BadModels, CurrentInvalid, TargetInvalid, NoModel, EmptyTable}
-use Rattle.gcu_requests.specs.Asked.{delete_asked, form_asked, preview_asked, save_asked, target_asked}
+use Rattle.gcu_requests.specs.Asked.{delete_asked, form_asked, list_asked, preview_asked, save_asked, target_asked}
 use Rattle.gcu_requests.specs.Asking.{Asking, IsRefused, Source, asks, follows, follows_by, settles_first, ◌>>>◌}
 use Rattle.gcu_requests.specs.ChangeAsked.{change_asked}
-use Rattle.gcu_requests.specs.Checking.{IsJudged, check_asked}
+use Rattle.gcu_requests.specs.Checking.{IsJudged, check_asked, judging_asked}
 use Rattle.gcu_requests.specs.DemoAsked.{demo_asked, demo_planning_asked, generated_asked}
 use Rattle.gcu_requests.specs.FileAsked.{file_limit}
 use Rattle.gcu_requests.specs.Form.{Form, form}
 use Rattle.gcu_requests.specs.Form as forms
+use Rattle.gcu_requests.specs.IntentAsked.{abandon_asked, gate_asked, intent_asked, interrupted, status_asked, uninterrupted}
 use Rattle.gcu_requests.specs.ModelFiles.{AreModels, File, IsModelRefusal, Text, bytes_asked, files_asked, list_limit, list_path, model_limit, models_asked, paths_asked, statements_of, texts_asked}
 use Rattle.gcu_requests.specs.OneAnswer.{AskedIsOne, HasOneAnswer}
 use Rattle.gcu_requests.specs.PatchAsked.{patch_asked}
-use Rattle.gcu_requests.specs.PlanAsked.{HasKeys, IsElsewhereAs, IsValidOr, dry_run_asked, goal_asked, judged_asked, made_asked, planning_asked, start_asked, target_answer}
+use Rattle.gcu_requests.specs.PlanAsked.{HasKeys, IsElsewhereAs, IsValidOr, dry_run_asked, goal_asked, judged_asked, made_asked, needs_asked, planning_asked, start_asked, target_answer}
 use Rattle.gcu_requests.specs.PlanCheckAsked.{check_plan_asked, moves_asked}
 use Rattle.gcu_requests.specs.PointAsked.{name_answer}
 use Rattle.gcu_requests.specs.Request.{Request}
@@ -135,17 +136,39 @@ checked_same models config (Err e) (Err f) p k = ap (λ (o : Outcome). Err o) (i
 stored_one : (s : State) → HasOneAnswer (stored_asked s)
 stored_one s = asks_one _ _
 
+uninterrupted_one : (s : State) → HasOneAnswer (uninterrupted s)
+uninterrupted_one s = chain_one (intent_asked s) _ (asks_one _ _) (λ found. follows_one _)
+
+interrupted_one : (s : State) → HasOneAnswer (interrupted s)
+interrupted_one s = chain_one (intent_asked s) _ (asks_one _ _) (λ found. follows_one _)
+
+gate_one : (from : Target) (s : State) → HasOneAnswer (gate_asked from s)
+gate_one (patched path) s = uninterrupted_one s
+gate_one (replaced path) s = uninterrupted_one s
+gate_one (rolled_back name) s = uninterrupted_one s
+gate_one resumed s = interrupted_one s
+
+status_one : (s : State) → HasOneAnswer (status_asked s)
+status_one s = chain_one (stored_asked s) _ (stored_one s) (λ start. chain_one (intent_asked s) _ (asks_one _ _) (λ found. follows_one _))
+
+abandon_one : (s : State) → HasOneAnswer (abandon_asked s)
+abandon_one s = chain_one settles_first _ settles_one (λ u. chain_one (interrupted s) _ (interrupted_one s) (λ v. follows_one _))
+
+list_one : (s : State) → HasOneAnswer (list_asked s)
+list_one s = chain_one (uninterrupted s) _ (uninterrupted_one s) (λ u. asks_one _ _)
+
 name_one : (word : List ℕ) → HasOneAnswer (follows (name_answer word))
 name_one word = follows_one (name_answer word)
 
 preview_one : (path : List ℕ) (s : State) → HasOneAnswer (preview_asked path s)
 preview_one path s =
     chain_one (target_asked path s) _
-    (chain_one (stored_asked s) _ (stored_one s) (λ start. chain_one (patch_asked path s) _ (asks_one _ _) (λ ops. follows_one _)))
+    (chain_one (uninterrupted s) _ (uninterrupted_one s) (λ u.
+    chain_one (stored_asked s) _ (stored_one s) (λ start. chain_one (patch_asked path s) _ (asks_one _ _) (λ ops. follows_one _))))
     (λ c. follows_one _)
 
 delete_one : (word : List ℕ) (s : State) → HasOneAnswer (delete_asked word s)
-delete_one word s = chain_one (follows (name_answer word)) _ (name_one word) (λ name. chain_one settles_first _ settles_one (λ u. asks_one _ _))
+delete_one word s = chain_one (follows (name_answer word)) _ (name_one word) (λ name. chain_one settles_first _ settles_one (λ u. chain_one (uninterrupted s) _ (uninterrupted_one s) (λ v. asks_one _ _)))
 
 files_one : (found : List File) (paths : List (List ℕ)) (s : State) → HasOneAnswer (files_asked found paths s)
 files_one found [] s = follows_one (Ok found)
@@ -164,6 +187,7 @@ made_one : (from : Target) (start : Config) (s : State) → HasOneAnswer (made_a
 made_one (patched path) start s = chain_one (patch_asked path s) _ (asks_one _ _) (λ ops. follows_one _)
 made_one (replaced path) start s = chain_one (bytes_asked path file_limit s) _ (asks_one _ _) (λ bytes. follows_one _)
 made_one (rolled_back name) start s = asks_one _ _
+made_one resumed start s = chain_one (intent_asked s) _ (asks_one _ _) (λ found. follows_one _)
 
 judged_one : (ctx : Ctx) (start goal : Config) → HasOneAnswer (judged_asked ctx start goal)
 judged_one ctx start goal =
@@ -204,9 +228,12 @@ module _ (one : (files : List (List Declaration)) (a b : ModelSet) → AreModels
   ctx_one : (s : State) → HasOneAnswer (ctx_asked s)
   ctx_one s = chain_one (models_asked s) _ (models_one s) (λ models. chain_one (settings_asked s) _ (settings_one s) (λ settings. follows_one _))
 
-  check_one : (s : State) → HasOneAnswer (check_asked s)
-  check_one s =
+  judging_one : (s : State) → HasOneAnswer (judging_asked s)
+  judging_one s =
       chain_one (models_asked s) _ (models_one s) (λ models. chain_one (stored_asked s) _ (stored_one s) (λ start. record { same = checked_same models start }))
+
+  check_one : (s : State) → HasOneAnswer (check_asked s)
+  check_one s = chain_one (uninterrupted s) _ (uninterrupted_one s) (λ u. judging_one s)
 
   save_one : (word : List ℕ) (s : State) → HasOneAnswer (save_asked word s)
   save_one word s =
@@ -214,10 +241,13 @@ module _ (one : (files : List (List Declaration)) (a b : ModelSet) → AreModels
       (λ name. chain_one settles_first _ settles_one
       (λ u. chain_one (check_asked s) _ (check_one s) (λ c. chain_one (stored_asked s) _ (stored_one s) (λ start. asks_one _ _))))
 
-  planning_one : (from : Target) (budget : ℕ) (s : State) → HasOneAnswer (planning_asked from budget s)
-  planning_one from budget s =
+  needs_one : (from : Target) (budget : ℕ) (s : State) → HasOneAnswer (needs_asked from budget s)
+  needs_one from budget s =
       chain_one (ctx_asked s) _ (ctx_one s)
       (λ ctx. chain_one (start_asked ctx s) _ (start_one ctx s) (λ start. chain_one (goal_asked from ctx start s) _ (goal_one from ctx start s) (λ goal. follows_one _)))
+
+  planning_one : (from : Target) (budget : ℕ) (s : State) → HasOneAnswer (planning_asked from budget s)
+  planning_one from budget s = chain_one (gate_asked from s) _ (gate_one from s) (λ u. needs_one from budget s)
 
   dry_run_one : (word : Target) (budget : ℕ) (s : State) → HasOneAnswer (dry_run_asked word budget s)
   dry_run_one word budget s =
@@ -236,7 +266,7 @@ module _ (one : (files : List (List Declaration)) (a b : ModelSet) → AreModels
 
   demo_one : (seed ports : ℕ) (s : State) → HasOneAnswer (demo_asked seed ports s)
   demo_one seed ports s =
-      chain_one (demo_planning_asked seed ports s) _ (chain_one (ctx_asked s) _ (ctx_one s) (λ ctx. generated_one seed ports ctx)) (λ p. follows_one _)
+      chain_one (demo_planning_asked seed ports s) _ (chain_one (uninterrupted s) _ (uninterrupted_one s) (λ u. chain_one (ctx_asked s) _ (ctx_one s) (λ ctx. generated_one seed ports ctx))) (λ p. follows_one _)
 
   moves_one : (path : List ℕ) (s : State) → HasOneAnswer (moves_asked path s)
   moves_one path s = chain_one (bytes_asked path most_bytes s) _ (asks_one _ _) (λ bytes. record { same = plan_same laws path bytes })
@@ -250,11 +280,13 @@ module _ (one : (files : List (List Declaration)) (a b : ModelSet) → AreModels
   form_one None s = follows_one _
   form_one (Some (forms.preview path)) s = preview_one path s
   form_one (Some forms.check) s = check_one s
-  form_one (Some forms.list_checkpoints) s = asks_one _ _
+  form_one (Some forms.list_checkpoints) s = list_one s
   form_one (Some (forms.save_checkpoint name)) s = save_one name s
   form_one (Some (forms.delete_checkpoint name)) s = delete_one name s
   form_one (Some (forms.plan goal budget)) s = dry_run_one goal budget s
   form_one (Some (forms.change goal budget)) s = change_one goal budget s
+  form_one (Some forms.status) s = status_one s
+  form_one (Some forms.abandon) s = abandon_one s
   form_one (Some (forms.demo seed ports)) s = demo_one seed ports s
   form_one (Some (forms.check_plan patch plan)) s = check_plan_one patch plan s
 

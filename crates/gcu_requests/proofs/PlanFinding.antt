@@ -18,7 +18,7 @@ use Rattle.gcu_requests.specs.Asking.{follows_by}
 use Rattle.gcu_requests.specs.FileAsked.{config_found, file_asked, file_limit}
 use Rattle.gcu_requests.specs.ModelFiles.{bytes_asked, models_asked}
 use Rattle.gcu_requests.specs.PatchAsked.{patch_asked, target}
-use Rattle.gcu_requests.specs.PlanAsked.{HasKeys, IsElsewhereAs, IsValidOr, goal_asked, judged_asked, made_asked, planning_asked, start_asked}
+use Rattle.gcu_requests.specs.PlanAsked.{HasKeys, IsElsewhereAs, IsValidOr, goal_asked, judged_asked, made_asked, needs_asked, start_asked}
 use Rattle.gcu_requests.specs.ReadPlannings.{planning_of}
 use Rattle.gcu_requests.specs.Preparing.{Finds, Found, IsRightBy, RefusesAlways, refusal}
 use Rattle.gcu_requests.specs.Request as request
@@ -175,20 +175,20 @@ judged_elsewhere ctx start goal (Err e) told agree = tt
 
 -- there is nothing to judge by
 pub no_plan_ctx : (o : Option State) (from : Target) (budget : ℕ) (e : Outcome) → Finds {X = Ctx} o self (Err e) ctx_asked
-    → Finds o planning_of (Err e) (planning_asked from budget)
+    → Finds o planning_of (Err e) (needs_asked from budget)
 no_plan_ctx None from budget e h = tt
 no_plan_ctx (Some s) from budget e h = first_refused self planning_of e (ctx_asked s) _ h
 
 -- there is no start
 pub no_plan_start : (o : Option State) (from : Target) (budget : ℕ) (ctx : Ctx) (e : Outcome) → Finds o self (Ok ctx) ctx_asked
-    → Finds {X = Stored} o config_of (Err e) (start_asked ctx) → Finds o planning_of (Err e) (planning_asked from budget)
+    → Finds {X = Stored} o config_of (Err e) (start_asked ctx) → Finds o planning_of (Err e) (needs_asked from budget)
 no_plan_start None from budget ctx e h f = tt
 no_plan_start (Some s) from budget ctx e h f = then_found self planning_of ctx (Err e) (ctx_asked s) _ h (first_refused config_of planning_of e (start_asked ctx s) _ f)
 
 -- there is no goal
 pub no_plan_goal : (o : Option State) (from : Target) (budget : ℕ) (ctx : Ctx) (start : Stored) (e : Outcome) → Finds o self (Ok ctx) ctx_asked
     → Finds o config_of (Ok start) (start_asked ctx) → Finds {X = Config} o self (Err e) (goal_asked from ctx start.config)
-    → Finds o planning_of (Err e) (planning_asked from budget)
+    → Finds o planning_of (Err e) (needs_asked from budget)
 no_plan_goal None from budget ctx start e h f g = tt
 no_plan_goal (Some s) from budget ctx start e h f g =
     then_found self planning_of ctx (Err e) (ctx_asked s) _ h
@@ -200,7 +200,7 @@ planned p n = record { ctx = p.ctx; start = p.stored.config; goal = p.goal; budg
 -- there is all that a plan needs
 pub planning_found : (o : Option State) (from : Target) (budget : ℕ) (p : code.Planning) → p.budget ≡ budget → Finds o self (Ok p.ctx) ctx_asked
     → Finds o config_of (Ok p.stored) (start_asked p.ctx) → Finds o self (Ok p.goal) (goal_asked from p.ctx p.stored.config)
-    → Finds o planning_of (Ok p) (planning_asked from budget)
+    → Finds o planning_of (Ok p) (needs_asked from budget)
 planning_found None from budget p same h f g = tt
 planning_found (Some s) from budget p same h f g =
     then_found self planning_of p.ctx (Ok p) (ctx_asked s) _ h

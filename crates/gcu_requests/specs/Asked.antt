@@ -13,7 +13,8 @@ use Rattle.gcu_requests.specs.Asking.{Asking, a_file, asks, follows, settles_fir
 use Rattle.gcu_requests.specs.ChangeAsked.{change_asked}
 use Rattle.gcu_requests.specs.Checking.{check_asked}
 use Rattle.gcu_requests.specs.DemoAsked.{demo_asked}
-use Rattle.gcu_requests.specs.Form.{Form, change, check, check_plan, delete_checkpoint, demo, form, list_checkpoints, plan, preview, save_checkpoint}
+use Rattle.gcu_requests.specs.Form.{Form, abandon, change, check, check_plan, delete_checkpoint, demo, form, list_checkpoints, plan, preview, save_checkpoint, status}
+use Rattle.gcu_requests.specs.IntentAsked.{abandon_asked, status_asked, uninterrupted}
 use Rattle.gcu_requests.specs.PatchAsked.{patch_asked, target}
 use Rattle.gcu_requests.specs.PlanAsked.{dry_run_asked}
 use Rattle.gcu_requests.specs.PlanCheckAsked.{check_plan_asked}
@@ -48,19 +49,27 @@ absent_asked name config s =
 -- ---- the commands
 
 -- the configuration after a patch; the stored one is read before the patch
-abbrev pub target_asked : List ℕ → State → Asking Config
-target_asked path s =
+abbrev pub patching_asked : List ℕ → State → Asking Config
+patching_asked path s =
     stored_asked s >>> λ start.
     patch_asked path s >>> λ ops.
     follows (target ops start)
+
+-- the same, where no change is under way
+abbrev pub target_asked : List ℕ → State → Asking Config
+target_asked path s = uninterrupted s >>> λ _. patching_asked path s
 
 -- `preview PATH`: the configuration after the patch
 abbrev pub preview_asked : List ℕ → State → Asking Request
 preview_asked path s = target_asked path s >>> λ c. follows (Ok (request.preview c))
 
--- `list-checkpoints`: the names of all checkpoints, with their numbers
+-- the names of all checkpoints, with their numbers
+abbrev pub numbers_asked : State → Asking Request
+numbers_asked s = asks a_file (Ok (request.list_checkpoints (numbered_points s.files)))
+
+-- `list-checkpoints`: the same, where no change is under way
 abbrev pub list_asked : State → Asking Request
-list_asked s = asks a_file (Ok (request.list_checkpoints (numbered_points s.files)))
+list_asked s = uninterrupted s >>> λ _. numbers_asked s
 
 -- `checkpoint NAME`: the name is looked at before the folder, and the stored configuration is to be valid
 abbrev pub save_asked : List ℕ → State → Asking Request
@@ -76,6 +85,7 @@ abbrev pub delete_asked : List ℕ → State → Asking Request
 delete_asked word s =
     follows (name_answer word) >>> λ name.
     settles_first >>> λ _.
+    uninterrupted s >>> λ _.
     there_asked name s
 
 -- what a command asks, or that there is none
@@ -88,6 +98,8 @@ form_asked (Some (save_checkpoint name)) s = save_asked name s
 form_asked (Some (delete_checkpoint name)) s = delete_asked name s
 form_asked (Some (plan goal budget)) s = dry_run_asked goal budget s
 form_asked (Some (change goal budget)) s = change_asked goal budget s
+form_asked (Some status) s = status_asked s
+form_asked (Some abandon) s = abandon_asked s
 form_asked (Some (demo seed ports)) s = demo_asked seed ports s
 form_asked (Some (check_plan patch saved)) s = check_plan_asked patch saved s
 

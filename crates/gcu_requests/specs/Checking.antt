@@ -9,6 +9,7 @@ use Rattle.violation_places.specs.Places.{IsPlaceOf}
 use Rattle.gcu_output.specs.declared.outcomes.Outcome.{Outcome}
 use Rattle.gcu_output.specs.declared.outcomes.Outcome.TheVariants.{CurrentInvalid}
 use Rattle.gcu_requests.specs.Asking.{Asking, follows_by, ◌>>>◌}
+use Rattle.gcu_requests.specs.IntentAsked.{uninterrupted}
 use Rattle.gcu_requests.specs.ModelFiles.{models_asked}
 use Rattle.gcu_requests.specs.Request.{Request, check}
 use Rattle.gcu_requests.specs.StoredAsked.{stored_asked}
@@ -36,9 +37,13 @@ abbrev pub IsJudged : ModelSet → Config → Result Request Outcome → Type 0
 IsJudged models config (Ok request) = IsValid models config × (request ≡ check)
 IsJudged models config (Err e) = IsInvalid models config e
 
--- `check`: the models are read before the stored configuration
-abbrev pub check_asked : State → Asking Request
-check_asked s =
+-- whether the stored configuration is valid: the models are read before it
+abbrev pub judging_asked : State → Asking Request
+judging_asked s =
     models_asked s >>> λ models.
     stored_asked s >>> λ start.
     follows_by (IsJudged models start)
+
+-- `check`: no change is under way
+abbrev pub check_asked : State → Asking Request
+check_asked s = uninterrupted s >>> λ _. judging_asked s

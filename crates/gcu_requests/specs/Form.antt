@@ -1,8 +1,8 @@
 -- Which words are a command.
 use Rattle.std.specs.Prelude.{ℕ, List, [], ◌∷◌, codes, ◌&&◌, if◌then◌else◌, Option, Some, None, option_and_then, option_map}
 use Rattle.plan_options.specs.Demos.{demo_of}
-use Rattle.plan_options.specs.Options.{Options, options}
-use Rattle.plan_options.specs.Targets.{Target, target_of}
+use Rattle.plan_options.specs.Options.{Options, default_budget, options}
+use Rattle.plan_options.specs.Targets.{Target, resumed, target_of}
 use Rattle.plan_options.specs.Words.{is_positional, is_word}
 
 -- a command with its words
@@ -19,17 +19,34 @@ pub data Form : Type 0 where
   plan : Target → ℕ → Form
   -- with the target and the budget of a plan that is done
   change : Target → ℕ → Form
+  status : Form
+  abandon : Form
   -- with the seed and the number of ports of a plan between generated configurations
   demo : ℕ → ℕ → Form
   -- with the paths of a patch and of a plan for it
   check_plan : List ℕ → List ℕ → Form
+
+-- a change that was stopped is to be finished: it takes no other option than a budget
+abbrev pub form_of_resume : List (List ℕ) → Option Form
+form_of_resume [] = Some (change resumed default_budget)
+form_of_resume (a ∷ b ∷ []) =
+    option_map (λ given. change resumed given.budget) (options (a ∷ b ∷ []))
+form_of_resume other = None
+
+-- the command that a word is which has to do with a change that was stopped
+abbrev pub form_of_interruption : List ℕ → Option Form
+form_of_interruption command =
+    if is_word command (codes "status") then Some status
+    else if is_word command (codes "resume") then form_of_resume []
+    else if is_word command (codes "abandon") then Some abandon
+    else None
 
 -- the command that a word is
 abbrev pub form_of_one : List ℕ → Option Form
 form_of_one command =
     if is_word command (codes "check") then Some check
     else if is_word command (codes "list-checkpoints") then Some list_checkpoints
-    else None
+    else form_of_interruption command
 
 -- a plan is only printed, or done
 abbrev pub planned : Target → Options → Form
@@ -56,6 +73,7 @@ form_of_check patch other = None
 abbrev pub form_of_more : List ℕ → List ℕ → List (List ℕ) → Option Form
 form_of_more command word ws =
     if is_word command (codes "demo") then form_of_demo word ws
+    else if is_word command (codes "resume") then form_of_resume (word ∷ ws)
     else if is_word command (codes "check-plan") then form_of_check word ws
     else form_of_plan command word ws
 

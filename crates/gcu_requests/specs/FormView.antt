@@ -3,7 +3,7 @@ use Rattle.std.specs.Prelude.{Option, Some, None}
 use Rattle.plan_options.specs.Views.{target_view}
 use Rattle.gcu_requests.specs.Form as words
 use Rattle.gcu_requests.specs.declared.form.Form.{Form}
-use Rattle.gcu_requests.specs.declared.form.Form.TheVariants.{Unknown, Preview, Check, ListCheckpoints, SaveCheckpoint, DeleteCheckpoint, Plan, Change, Demo, CheckPlan}
+use Rattle.gcu_requests.specs.declared.form.Form.TheVariants.{Unknown, Preview, Check, ListCheckpoints, SaveCheckpoint, DeleteCheckpoint, Plan, Change, Status, Abandon, Demo, CheckPlan}
 
 -- the command that it is, or None for words that are no command
 abbrev pub form_view : Form → Option words.Form
@@ -15,5 +15,7 @@ form_view (SaveCheckpoint name) = Some (words.save_checkpoint name.now)
 form_view (DeleteCheckpoint name) = Some (words.delete_checkpoint name.now)
 form_view (Plan target options) = Some (words.plan (target_view target) options.budget)
 form_view (Change target options) = Some (words.change (target_view target) options.budget)
+form_view Status = Some words.status
+form_view Abandon = Some words.abandon
 form_view (Demo size) = Some (words.demo size.seed size.ports)
 form_view (CheckPlan patch plan) = Some (words.check_plan patch.now plan.now)

@@ -7,6 +7,8 @@ pub mod DemoAsked
 pub mod FileAsked
 pub mod Form
 pub mod FormView
+pub mod IntentAsked
+pub mod IntentView
 pub mod ModelFiles
 pub mod OneAnswer
 pub mod PatchAsked

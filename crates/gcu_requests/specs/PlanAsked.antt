@@ -7,12 +7,13 @@ use Rattle.conf_check.specs.declared.violations.Rule.{Rule}
 use Rattle.move_core.specs.Contexts.{AgreeElsewhere, IsValidIn}
 use Rattle.move_core.specs.declared.contexts.Ctx.{Ctx}
 use Rattle.goal_checks.specs.Targets.{HasNoEmptyTable, IsFirstDifference, IsFirstEmpty}
-use Rattle.plan_options.specs.Targets.{Target, patched, replaced, rolled_back}
+use Rattle.plan_options.specs.Targets.{Target, patched, replaced, resumed, rolled_back}
 use Rattle.gcu_output.specs.declared.outcomes.Outcome.{Outcome}
 use Rattle.gcu_output.specs.declared.outcomes.Outcome.TheVariants.{CurrentInvalid, TargetInvalid, NoModel, EmptyTable}
 use Rattle.gcu_requests.specs.Asking.{Asking, follows, follows_by, ◌>>>◌}
 use Rattle.gcu_requests.specs.Checking.{IsInvalidAs}
 use Rattle.gcu_requests.specs.FileAsked.{file_asked}
+use Rattle.gcu_requests.specs.IntentAsked.{gate_asked, intended_asked}
 use Rattle.gcu_requests.specs.PatchAsked.{patch_asked, target}
 use Rattle.gcu_requests.specs.PointAsked.{held_asked, name_answer}
 use Rattle.gcu_requests.specs.Request.{Planning, Request, plan}
@@ -38,6 +39,7 @@ abbrev pub made_asked : Target → Config → State → Asking Config
 made_asked (patched path) start s = patch_asked path s >>> λ ops. follows (target ops start)
 made_asked (replaced path) start s = file_asked path s
 made_asked (rolled_back name) start s = held_asked name s
+made_asked resumed start s = intended_asked s
 
 -- the same as the start on all tables without a model, or the first one that differs is refused
 abbrev pub IsElsewhereAs : Ctx → Config → Config → Result (Unit {0}) Outcome → Type 0
@@ -66,12 +68,16 @@ goal_asked from ctx start s =
 -- ---- the plan
 
 -- what a plan for the target needs, with that budget
-abbrev pub planning_asked : Target → ℕ → State → Asking Planning
-planning_asked from budget s =
+abbrev pub needs_asked : Target → ℕ → State → Asking Planning
+needs_asked from budget s =
     ctx_asked s >>> λ ctx.
     start_asked ctx s >>> λ start.
     goal_asked from ctx start s >>> λ goal.
     follows (Ok (record { ctx = ctx; start = start; goal = goal; budget = budget }))
+
+-- the same, where a change is under way or not as the target wants
+abbrev pub planning_asked : Target → ℕ → State → Asking Planning
+planning_asked from budget s = gate_asked from s >>> λ _. needs_asked from budget s
 
 -- a plan for the target, with that budget
 abbrev pub plan_asked : Target → ℕ → State → Asking Request
@@ -82,6 +88,7 @@ abbrev pub target_answer : Target → Result Target Outcome
 target_answer (patched path) = Ok (patched path)
 target_answer (replaced path) = Ok (replaced path)
 target_answer (rolled_back name) = map_ok rolled_back (name_answer name)
+target_answer resumed = Ok resumed
 
 -- the same where the plan is only printed: a name is looked at before anything is read
 abbrev pub dry_run_asked : Target → ℕ → State → Asking Request

@@ -2,6 +2,7 @@
 use Rattle.std.specs.Prelude.{ℕ, List, Option}
 use Rattle.conf_doc.specs.declared.configuration.Config.{Config}
 use Rattle.move_core.specs.declared.contexts.Ctx.{Ctx}
+use Rattle.gcu_output.specs.declared.statuses.Intent.{Intent}
 
 -- by which models and settings to plan, from where to where, and how many configurations may be met
 pub record Planning : Type 0 where
@@ -26,6 +27,10 @@ pub data Request : Type 0 where
   plan : Planning → Request
   -- print such a plan and do it
   change : Planning → Request
+  -- say what the file of a change under way is, and how many step files are applied
+  status : Intent → ℕ → Request
+  -- give up the change that was stopped
+  abandon : Request
   -- say of how many moves such a plan is, with so many ports
   demo : Planning → ℕ → Request
   -- say that moves are a plan, of so many steps

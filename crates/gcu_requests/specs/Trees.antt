@@ -8,7 +8,7 @@ use Rattle.conf_doc.specs.Shaping.{shaping}
 use Rattle.patch_core.specs.Apply.{apply}
 use Rattle.patch_core.specs.Operation.{Operation}
 use Rattle.gcu_output.specs.declared.outcomes.Outcome.{Outcome}
-use Rattle.gcu_requests.specs.Asked.{target_asked}
+use Rattle.gcu_requests.specs.Asked.{patching_asked, target_asked}
 use Rattle.gcu_requests.specs.PatchAsked.{target_in, target_shape}
 use Rattle.gcu_requests.specs.StoredAsked.{stored_asked}
 use Rattle.gcu_requests.specs.Asking.{Asking}
@@ -32,6 +32,10 @@ document_shape d = map_ok tree (target_shape (shaping d))
 -- what the operations make of a configuration's document
 abbrev pub target_document : List Operation → Document → Result Document Outcome
 target_document ops d = map_ok tree (target_in (apply ops d))
+
+-- the configuration after a patch
+abbrev pub patched_document : List ℕ → State → Asking Document
+patched_document path s = through tree (patching_asked path s)
 
 -- what a preview prints
 abbrev pub preview_document : List ℕ → State → Asking Document

@@ -5,11 +5,12 @@ ghost use Rattle.host_core.specs.Crashes.{Elapses, MayLeaveNow};
 ghost use Rattle.host_core.specs.Names.{longest_scoped_name};
 ghost use Rattle.conf_check.specs.Validity.{IsFirstViolation};
 ghost use Rattle.gcu_requests.specs.Asking.{follows_by};
-ghost use Rattle.gcu_requests.specs.Checking.{IsJudged, check_asked};
+ghost use Rattle.gcu_requests.specs.Checking.{IsJudged, check_asked, judging_asked};
 ghost use Rattle.gcu_requests.specs.Preparing.{FailsIn, Finds, IsRightBy, Refuses, RefusesAlways, refusal};
 ghost use Rattle.gcu_requests.specs.Request.{check as check_of};
 ghost use Rattle.gcu_requests.specs.StoredAsked.{stored_asked};
 
+use crate::intent::test_uninterrupted;
 use crate::models::input_models;
 use crate::stored::read_config;
 use conf_check::{Violation, check as check_config};
@@ -20,10 +21,25 @@ use std::alloc::Global;
 use violation_places::{place_of, rule_numbered};
 use yang_model::Models;
 
-/// The stored configuration, where it is valid.
+/// The stored configuration, where it is valid and no change was stopped before its end.
 pub fn judge_stored<H: Host>(alloc: Global, host: &mut H) -> Result<Config, Outcome>
     requires { longest_scoped_name ≤ H.longest_name }
     ensures answer { Finds (H.told host.old) (λ _. check_of) result check_asked }
+    ensures stored { IfOk result (λ c. Finds (H.told host.old) (λ _. c) (Ok c) stored_asked) }
+    ensures told { H.told host.new ≡ H.told host.old }
+    ensures counts { NoneFell (H.counts host.old) (H.counts host.new) }
+    ensures cause { IfErr result (Refuses (H.counts host.old) (H.counts host.new)) }
+    ensures time { Elapses H.moment H.left_since host.old host.new (MayLeaveNow (H.told host.old)) }
+    ensures goes { H.goes_on host.old host.new }
+{
+    test_uninterrupted(alloc, host)?;
+    judge_folder(alloc, host)
+}
+
+/// The same, where no change was stopped before its end.
+fn judge_folder<H: Host>(alloc: Global, host: &mut H) -> Result<Config, Outcome>
+    requires { longest_scoped_name ≤ H.longest_name }
+    ensures answer { Finds (H.told host.old) (λ _. check_of) result judging_asked }
     ensures stored { IfOk result (λ c. Finds (H.told host.old) (λ _. c) (Ok c) stored_asked) }
     ensures told { H.told host.new ≡ H.told host.old }
     ensures counts { NoneFell (H.counts host.old) (H.counts host.new) }

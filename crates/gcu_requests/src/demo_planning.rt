@@ -1,12 +1,14 @@
 //! What a plan between the two configurations of a demonstration needs.
-ghost use Rattle.std.specs.Prelude.{◌≡◌, IfErr, IfOk};
+ghost use Rattle.std.specs.Prelude.{◌≡◌, ◌≤◌, IfErr, IfOk};
 ghost use Rattle.host_core.specs.Counts.{NoneFell};
 ghost use Rattle.host_core.specs.Crashes.{Elapses, MayLeaveNow};
+ghost use Rattle.host_core.specs.Names.{longest_scoped_name};
 ghost use Rattle.move_core.specs.Contexts.{IsNamed};
-ghost use Rattle.gcu_requests.specs.DemoAsked.{demo_planning_asked, generated_asked};
+ghost use Rattle.gcu_requests.specs.DemoAsked.{demo_planning_asked, generated_asked, generating_asked};
 ghost use Rattle.gcu_requests.specs.ReadPlannings.{IsReadyToSearch, planning_of};
 ghost use Rattle.gcu_requests.specs.Preparing.{Finds, Found, Refuses, RefusesAlways};
 
+use crate::intent::test_uninterrupted;
 use crate::judging::{End, judge};
 use crate::plan_goal::judge_goal;
 use crate::planning::Planning;
@@ -21,8 +23,24 @@ use std::alloc::Global;
 
 /// Reads what a demonstration needs, and generates its configurations.
 pub fn prepare_demo<H: Host>(alloc: Global, size: Demo, host: &mut H) -> Result<Planning, Outcome>
+    requires longest { longest_scoped_name ≤ H.longest_name }
     ensures answer { Finds (H.told host.old) planning_of result
         (demo_planning_asked size.seed size.ports) }
+    ensures ready { IfOk result IsReadyToSearch }
+    ensures told { H.told host.new ≡ H.told host.old }
+    ensures counts { NoneFell (H.counts host.old) (H.counts host.new) }
+    ensures cause { IfErr result (Refuses (H.counts host.old) (H.counts host.new)) }
+    ensures time { Elapses H.moment H.left_since host.old host.new (MayLeaveNow (H.told host.old)) }
+    ensures goes { H.goes_on host.old host.new }
+{
+    test_uninterrupted(alloc, host)?;
+    read_demo(alloc, size, host)
+}
+
+/// The same, where no change was stopped before its end.
+fn read_demo<H: Host>(alloc: Global, size: Demo, host: &mut H) -> Result<Planning, Outcome>
+    ensures answer { Finds (H.told host.old) planning_of result
+        (generating_asked size.seed size.ports) }
     ensures ready { IfOk result IsReadyToSearch }
     ensures told { H.told host.new ≡ H.told host.old }
     ensures counts { NoneFell (H.counts host.old) (H.counts host.new) }

@@ -1,11 +1,15 @@
 //! Which words are a command.
 ghost use Rattle.std.specs.Prelude.{◌≡◌, ◌∷◌, [], Some};
+ghost use Rattle.plan_options.specs.Targets.{resumed as resume_target};
 ghost use Rattle.plan_options.specs.Views.{options_view, target_view};
-ghost use Rattle.gcu_requests.specs.Form.{form, form_of_check, form_of_demo, form_of_more, form_of_one, form_of_plan, form_of_two, planned};
+ghost use Rattle.gcu_requests.specs.Form.{change as change_of, form, form_of_check, form_of_demo, form_of_interruption, form_of_more, form_of_one, form_of_plan, form_of_resume, form_of_two, planned};
 ghost use Rattle.gcu_requests.specs.FormView.{form_view};
 
 use host_core::Txt;
-use plan_options::{Demo, Options, Target, is_positional, read_demo, read_options, read_target};
+use plan_options::{
+    DEFAULT_BUDGET, Demo, Options, Source, Target, is_positional, read_budget_option, read_demo,
+    read_options, read_target,
+};
 
 /// A command with its words.
 pub enum Form<'a> {
@@ -37,6 +41,10 @@ pub enum Form<'a> {
         target: Target<'a>,
         options: Options,
     },
+    /// Says whether a change was stopped, and how far it is.
+    Status,
+    /// Gives up a change that was stopped.
+    Abandon,
     /// Counts the steps of a plan between generated configurations.
     Demo {
         size: Demo,
@@ -70,7 +78,51 @@ fn form_of_one(command: &Txt) -> Form<'_>
     if command.as_str() == "list-checkpoints" {
         return Form::ListCheckpoints;
     }
+    form_of_interruption(command)
+}
+
+/// The command that a word is which has to do with a change that was stopped.
+fn form_of_interruption(command: &Txt) -> Form<'_>
+    ensures { form_view result ≡ form_of_interruption command.now }
+{
+    if command.as_str() == "status" {
+        return Form::Status;
+    }
+    if command.as_str() == "resume" {
+        let options = Options {
+            dry_run: false,
+            budget: DEFAULT_BUDGET,
+        };
+        return resumed(command, options);
+    }
+    if command.as_str() == "abandon" {
+        return Form::Abandon;
+    }
     Form::Unknown
+}
+
+/// A change that was stopped is to be finished.
+fn resumed(command: &Txt, options: Options) -> Form<'_>
+    ensures { form_view result ≡ Some (change_of resume_target options.budget) }
+{
+    let target = Target {
+        source: Source::Intent,
+        word: command,
+    };
+    Form::Change { target, options }
+}
+
+/// The same with the options that words are.
+fn form_of_resume<'a>(command: &'a Txt, word: &Txt, words: &[Txt]) -> Form<'a>
+    ensures { form_view result ≡ form_of_resume (word.now ∷ words.now) }
+{
+    match words {
+        [digits] => match read_budget_option(word, digits) {
+            Some(options) => resumed(command, options),
+            None => Form::Unknown,
+        },
+        _ => Form::Unknown,
+    }
 }
 
 /// The command that two words are.
@@ -91,11 +143,14 @@ fn form_of_two<'a>(command: &'a Txt, word: &'a Txt) -> Form<'a>
 }
 
 /// The command that a word, a second one and more are.
-fn form_of_more<'a>(command: &Txt, word: &'a Txt, words: &'a [Txt]) -> Form<'a>
+fn form_of_more<'a>(command: &'a Txt, word: &'a Txt, words: &'a [Txt]) -> Form<'a>
     ensures { form_view result ≡ form_of_more command.now word.now words.now }
 {
     if command.as_str() == "demo" {
         return form_of_demo(word, words);
+    }
+    if command.as_str() == "resume" {
+        return form_of_resume(command, word, words);
     }
     if command.as_str() == "check-plan" {
         return form_of_check(word, words);

@@ -15,6 +15,7 @@ ghost use Rattle.gcu_requests.specs.Preparing.{Finds, Found, IsRightBy, Refuses,
 
 use crate::checkpoint_goal::checkpoint_goal;
 use crate::file_goal::file_goal;
+use crate::intent::intent_goal;
 use crate::judging::{End, judge};
 use crate::patch_goal::patch_goal;
 use checkpoints::is_good_name;
@@ -34,7 +35,7 @@ pub fn test_target(alloc: Global, target: Target<'_>) -> Result<(), Outcome>
     ensures cause { IfErr result RefusesAlways }
 {
     match target.source {
-        Source::Patch | Source::File => Ok(()),
+        Source::Patch | Source::File | Source::Intent => Ok(()),
         Source::Checkpoint => test_name(alloc, target.word),
     }
 }
@@ -115,6 +116,7 @@ fn make_goal<H: Host>(
         Source::Patch => patch_goal(alloc, target.word, start, host),
         Source::File => file_goal(alloc, target.word, host),
         Source::Checkpoint => checkpoint_goal(alloc, target.word, host),
+        Source::Intent => intent_goal(alloc, host),
     }
 }
 

@@ -10,10 +10,12 @@ ghost use Rattle.conf_store.specs.Folds.{StandsFor};
 ghost use Rattle.move_core.specs.Contexts.{IsValidIn};
 ghost use Rattle.plan_options.specs.Views.{target_view};
 ghost use Rattle.gcu_output.specs.declared.outcomes.Outcome.TheVariants.{CurrentInvalid as current_invalid};
-ghost use Rattle.gcu_requests.specs.PlanAsked.{IsValidOr, planning_asked, start_asked};
+ghost use Rattle.gcu_requests.specs.IntentAsked.{gate_asked};
+ghost use Rattle.gcu_requests.specs.PlanAsked.{IsValidOr, needs_asked, planning_asked, start_asked};
 ghost use Rattle.gcu_requests.specs.ReadPlannings.{HasGoodName, IsReadyToSearch, planning_of};
 ghost use Rattle.gcu_requests.specs.Preparing.{Finds, IsRightBy, Refuses, RefusesAlways};
 
+use crate::intent::{test_interrupted, test_uninterrupted};
 use crate::judging::{End, judge};
 use crate::plan_goal::read_goal;
 use crate::rules::input_ctx;
@@ -23,7 +25,7 @@ use conf_store::Stored;
 use gcu_output::Outcome;
 use host_core::Host;
 use move_core::Ctx;
-use plan_options::Target;
+use plan_options::{Source, Target};
 use std::alloc::Global;
 
 /// What a plan is searched for: by what its moves are judged, from where, to where, and how many
@@ -48,6 +50,49 @@ pub fn prepare<H: Host>(
     requires budget { 0 < budget }
     ensures answer { Finds (H.told host.old) planning_of result
         (planning_asked (target_view target.entry) budget) }
+    ensures ready { IfOk result IsReadyToSearch }
+    ensures budget { IfOk result (λ p. p.budget ≡ budget) }
+    ensures stands { IfOk result
+        (λ p. IfSome (H.told host.old) (λ s. StandsFor p.stored s.files)) }
+    ensures told { H.told host.new ≡ H.told host.old }
+    ensures counts { NoneFell (H.counts host.old) (H.counts host.new) }
+    ensures cause { IfErr result (Refuses (H.counts host.old) (H.counts host.new)) }
+    ensures time { Elapses H.moment H.left_since host.old host.new (MayLeaveNow (H.told host.old)) }
+    ensures goes { H.goes_on host.old host.new }
+{
+    test_gate(alloc, target, host)?;
+    read_needs(alloc, target, budget, host)
+}
+
+/// Refuses a change that was stopped before its end, or that there is none where it is to be gone on with.
+fn test_gate<H: Host>(alloc: Global, target: Target<'_>, host: &mut H) -> Result<(), Outcome>
+    requires { longest_scoped_name ≤ H.longest_name }
+    ensures answer { Finds (H.told host.old) (λ u. u) result
+        (gate_asked (target_view target.entry)) }
+    ensures told { H.told host.new ≡ H.told host.old }
+    ensures counts { DiskMayRise (H.counts host.old) (H.counts host.new) }
+    ensures cause { IfErr result (Refuses (H.counts host.old) (H.counts host.new)) }
+    ensures time { Elapses H.moment H.left_since host.old host.new (MayLeaveNow (H.told host.old)) }
+    ensures goes { H.goes_on host.old host.new }
+{
+    match target.source {
+        Source::Patch | Source::File | Source::Checkpoint => test_uninterrupted(alloc, host),
+        Source::Intent => test_interrupted(alloc, host),
+    }
+}
+
+/// Reads what a plan needs, whether a change is under way or not.
+fn read_needs<H: Host>(
+    alloc: Global,
+    target: Target<'_>,
+    budget: u32,
+    host: &mut H,
+) -> Result<Planning, Outcome>
+    requires longest { longest_scoped_name ≤ H.longest_name }
+    requires named { HasGoodName (target_view target) }
+    requires budget { 0 < budget }
+    ensures answer { Finds (H.told host.old) planning_of result
+        (needs_asked (target_view target.entry) budget) }
     ensures ready { IfOk result IsReadyToSearch }
     ensures budget { IfOk result (λ p. p.budget ≡ budget) }
     ensures stands { IfOk result

@@ -9,8 +9,9 @@ ghost use Rattle.patch_core.specs.Operation.{operations};
 ghost use Rattle.patch_core.specs.Reading.{patch as patch_of};
 ghost use Rattle.gcu_requests.specs.PatchAsked.{patch_asked, patch_in, patch_answer};
 ghost use Rattle.gcu_requests.specs.Preparing.{Finds, Refuses, RefusesAlways, refusal};
-ghost use Rattle.gcu_requests.specs.Trees.{document_shape, preview_document, target_document};
+ghost use Rattle.gcu_requests.specs.Trees.{document_shape, patched_document, preview_document, target_document};
 
+use crate::intent::test_uninterrupted;
 use crate::stored::read_stored;
 use conf_doc::{ShapeError, Tree, config_of_tree};
 use conf_store::is_configuration;
@@ -26,6 +27,20 @@ pub(crate) const PATCH_LIMIT: u64 = 1_048_576;
 pub fn preview<H: Host>(alloc: Global, path: &Txt, host: &mut H) -> Result<Tree, Outcome>
     requires { longest_scoped_name ≤ H.longest_name }
     ensures answer { Finds (H.told host.old) document result (preview_document path.now) }
+    ensures told { H.told host.new ≡ H.told host.old }
+    ensures counts { NoneFell (H.counts host.old) (H.counts host.new) }
+    ensures cause { IfErr result (Refuses (H.counts host.old) (H.counts host.new)) }
+    ensures time { Elapses H.moment H.left_since host.old host.new (MayLeaveNow (H.told host.old)) }
+    ensures goes { H.goes_on host.old host.new }
+{
+    test_uninterrupted(alloc, host)?;
+    patch_stored(alloc, path, host)
+}
+
+/// The same, where no change was stopped before its end.
+fn patch_stored<H: Host>(alloc: Global, path: &Txt, host: &mut H) -> Result<Tree, Outcome>
+    requires { longest_scoped_name ≤ H.longest_name }
+    ensures answer { Finds (H.told host.old) document result (patched_document path.now) }
     ensures told { H.told host.new ≡ H.told host.old }
     ensures counts { NoneFell (H.counts host.old) (H.counts host.new) }
     ensures cause { IfErr result (Refuses (H.counts host.old) (H.counts host.new)) }

@@ -10,6 +10,8 @@ pub data Target : Type 0 where
   replaced : List ℕ → Target
   -- the configuration that the checkpoint of this name holds
   rolled_back : List ℕ → Target
+  -- the configuration that the file of a change under way holds
+  resumed : Target
 
 -- the target of a command and its word, where it is a command that plans and the word is no option
 abbrev pub target_of : List ℕ → List ℕ → Option Target

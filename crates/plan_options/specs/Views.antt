@@ -6,7 +6,7 @@ use Rattle.plan_options.specs.Targets as words
 use Rattle.plan_options.specs.declared.demos.Demo.{Demo}
 use Rattle.plan_options.specs.declared.options.Options.{Options}
 use Rattle.plan_options.specs.declared.targets.Source.{Source}
-use Rattle.plan_options.specs.declared.targets.Source.TheVariants.{Patch, File, Checkpoint}
+use Rattle.plan_options.specs.declared.targets.Source.TheVariants.{Patch, File, Checkpoint, Intent}
 use Rattle.plan_options.specs.declared.targets.Target.{Target}
 
 -- the target of a source with its word
@@ -14,6 +14,7 @@ abbrev pub target_from : Source → List ℕ → words.Target
 target_from Patch word = words.patched word
 target_from File word = words.replaced word
 target_from Checkpoint word = words.rolled_back word
+target_from Intent word = words.resumed
 
 -- the target that it is
 abbrev pub target_view : Target → words.Target

@@ -12,6 +12,6 @@ mod targets;
 
 pub use demos::Demo;
 pub use options::Options;
-pub use reading::{DEFAULT_BUDGET, read_options};
+pub use reading::{DEFAULT_BUDGET, read_budget_option, read_options};
 pub use sizes::read_demo;
 pub use targets::{Source, Target, is_positional, read_target};

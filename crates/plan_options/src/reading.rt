@@ -21,7 +21,7 @@ pub fn read_options(words: &[Txt]) -> Option<Options>
             budget: DEFAULT_BUDGET,
         }),
         [a] => options_of_one(a),
-        [a, b] => options_of_two(a, b),
+        [a, b] => read_budget_option(a, b),
         [a, b, c] => options_of_three(a, b, c),
         _ => None,
     }
@@ -40,8 +40,8 @@ fn options_of_one(a: &Txt) -> Option<Options>
     None
 }
 
-/// The options that two words are.
-fn options_of_two(a: &Txt, b: &Txt) -> Option<Options>
+/// The options that two words are: they can only be `--budget` and a number.
+pub fn read_budget_option(a: &Txt, b: &Txt) -> Option<Options>
     ensures { option_map options_view result ≡ options (a.now ∷ b.now ∷ []) }
 {
     if is_budget(a) {

@@ -15,6 +15,8 @@ pub enum Source {
     File,
     /// A checkpoint: the word is its name.
     Checkpoint,
+    /// The goal of a change that was stopped: the word is the command's own and tells nothing more.
+    Intent,
 }
 
 /// Where the goal of a plan comes from, with the word that tells it.

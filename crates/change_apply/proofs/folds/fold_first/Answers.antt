@@ -1,7 +1,7 @@
 use Rattle.std.proofs.Common.{refl, ap, ◌∙◌}
 use Rattle.conf_store.specs.Stored.{config_in}
 use Rattle.change_apply.specs.Work.{change_in}
-use Rattle.change_apply.proofs.FoldStages.{first_folded, first_stops, first_unfolded, folding_first, left_at_beginning}
+use Rattle.change_apply.proofs.FoldStages.{first_folded, first_stops, first_unfolded, folding_first, left_at_intent}
 use Rattle.change_apply.proofs.Moments.{begins}
 use Rattle.change_apply.proofs.folds.fold_first.Goals as goal
 
@@ -15,7 +15,7 @@ pub returns-then-not-work-clause-any_moment : goal.returns-then-not-work-clause-
 returns-then-not-work-clause-any_moment g c =
     λ began at.
     begins g.H.Host.moment g.H.Host.left_since (change_in c.args.work.now) began c.args.host.now
-    (λ left since. left_at_beginning (change_in c.args.work.now) began (g.H.Host.told c.args.host.now) at left (g.met.H.Host.only_now c.args.host.now left since))
+    (λ left since. left_at_intent (change_in c.args.work.now) began (g.H.Host.told c.args.host.now) at left (g.met.H.Host.only_now c.args.host.now left since))
 
 -- ---- it is folded
 

@@ -1,4 +1,4 @@
-use Rattle.change_apply.proofs.LastFold.{all_folded, fold_fails, goal_names, while_folded}
+use Rattle.change_apply.proofs.LastFold.{fold_fails, goal_names, steps_folded, while_folded}
 use Rattle.change_apply.proofs.folds.fold_last.Goals as goal
 
 pub fold-requires-clause-names : goal.fold-requires-clause-names
@@ -7,7 +7,7 @@ fold-requires-clause-names g c = goal_names c.args.work.now c.requires.ready
 pub returns-in-Ok-clause-ok : goal.returns-in-Ok-clause-ok
 returns-in-Ok-clause-ok g c =
     λ began at.
-    all_folded c.args.work.now c.requires.ready c.requires.some c.deref.result.now c.deref.ensures.value
+    steps_folded c.args.work.now c.requires.ready c.deref.result.now c.deref.ensures.value
     began (g.H.Host.told c.args.host.now) (g.H.Host.told c.fold.new.host) at c.in-Ok.ensures.ok
 
 pub returns-in-Ok-clause-any_moment : goal.returns-in-Ok-clause-any_moment

@@ -5,7 +5,7 @@ use Rattle.change_apply.specs.Ends.{Finishes}
 use Rattle.change_apply.specs.Work.{change_in}
 use Rattle.change_apply.specs.declared.ready.ReadyStep.{ReadyStep}
 use Rattle.change_apply.proofs.Due.{count_is}
-use Rattle.change_apply.proofs.FoldStages.{at_beginning, left_at_beginning, nothing_to_do}
+use Rattle.change_apply.proofs.IntentStages.{at_beginning, left_at_beginning, nothing_to_do}
 use Rattle.change_apply.proofs.Moments.{LeavesOf, begins, joins}
 use Rattle.change_apply.proofs.running.run.Goals as goal
 
@@ -30,18 +30,18 @@ returns-then-is_empty-clause-any_moment g c =
 
 -- ---- what each part needs
 
-pub fold_first-requires-clause-stage : goal.fold_first-requires-clause-stage
-fold_first-requires-clause-stage g c =
+pub begin_change-requires-clause-stage : goal.begin_change-requires-clause-stage
+begin_change-requires-clause-stage g c =
     let o = g.H.Host.told c.args.host.now in
     let stands = subst (λ change. IfSome o (λ s. StandsFor change.stored s.files)) (sym c.ready.view_is) c.requires.stands in
     (o, at_beginning (change_in c.ready.inside.work) o c.requires.clean stands)
 
-pub fold_last-requires-clause-stage : goal.fold_last-requires-clause-stage
-fold_last-requires-clause-stage g c =
+pub end_change-requires-clause-stage : goal.end_change-requires-clause-stage
+end_change-requires-clause-stage g c =
     let o = g.H.Host.told c.args.host.now in
     let stands = subst (λ change. IfSome o (λ s. StandsFor change.stored s.files)) (sym c.ready.view_is) c.requires.stands in
     let at = at_beginning (change_in c.ready.inside.work) o c.requires.clean stands in
-    (o, c.in_ok-do_steps.ensures.ok o (c.in_ok-fold_first.ensures.ok o at))
+    (o, c.in_ok-do_steps.ensures.ok o (c.in_ok-begin_change.ensures.ok o at))
 
 -- ---- what a crash leaves
 
@@ -52,8 +52,8 @@ returns-in_err-do_steps-clause-any_moment g c =
     let stands = subst (λ change. IfSome o (λ s. StandsFor change.stored s.files)) (sym c.ready.view_is) c.requires.stands in
     let at = at_beginning (change_in work) o c.requires.clean stands in
     subst (λ change. LeavesOf g.H.Host.moment g.H.Host.left_since change o c.args.host.now c.do_steps.new.host) c.ready.view_is
-    (joins g.H.Host.moment g.H.Host.left_since (change_in work) o c.args.host.now c.fold_first.new.host c.do_steps.new.host
-    (c.fold_first.ensures.any_moment o at) (c.do_steps.ensures.any_moment o (c.in_ok-fold_first.ensures.ok o at)))
+    (joins g.H.Host.moment g.H.Host.left_since (change_in work) o c.args.host.now c.begin_change.new.host c.do_steps.new.host
+    (c.begin_change.ensures.any_moment o at) (c.do_steps.ensures.any_moment o (c.in_ok-begin_change.ensures.ok o at)))
 
 pub returns-clause-any_moment : goal.returns-clause-any_moment
 returns-clause-any_moment g c =
@@ -61,9 +61,9 @@ returns-clause-any_moment g c =
     let work = c.ready.inside.work in
     let stands = subst (λ change. IfSome o (λ s. StandsFor change.stored s.files)) (sym c.ready.view_is) c.requires.stands in
     let at = at_beginning (change_in work) o c.requires.clean stands in
-    let folded = c.in_ok-fold_first.ensures.ok o at in
-    subst (λ change. LeavesOf g.H.Host.moment g.H.Host.left_since change o c.args.host.now c.fold_last.new.host) c.ready.view_is
-    (joins g.H.Host.moment g.H.Host.left_since (change_in work) o c.args.host.now c.do_steps.new.host c.fold_last.new.host
-    (joins g.H.Host.moment g.H.Host.left_since (change_in work) o c.args.host.now c.fold_first.new.host c.do_steps.new.host
-    (c.fold_first.ensures.any_moment o at) (c.do_steps.ensures.any_moment o folded))
-    (c.fold_last.ensures.any_moment o (c.in_ok-do_steps.ensures.ok o folded)))
+    let folded = c.in_ok-begin_change.ensures.ok o at in
+    subst (λ change. LeavesOf g.H.Host.moment g.H.Host.left_since change o c.args.host.now c.end_change.new.host) c.ready.view_is
+    (joins g.H.Host.moment g.H.Host.left_since (change_in work) o c.args.host.now c.do_steps.new.host c.end_change.new.host
+    (joins g.H.Host.moment g.H.Host.left_since (change_in work) o c.args.host.now c.begin_change.new.host c.do_steps.new.host
+    (c.begin_change.ensures.any_moment o at) (c.do_steps.ensures.any_moment o folded))
+    (c.end_change.ensures.any_moment o (c.in_ok-do_steps.ensures.ok o folded)))

@@ -4,7 +4,7 @@ use Rattle.gcu_engine.proofs.Causes.{unsolved_cause}
 use Rattle.gcu_engine.proofs.Changes.{cause_from, change_answers}
 use Rattle.gcu_engine.proofs.Completing.{completes}
 use Rattle.gcu_engine.proofs.PlanSaying.{end_cause}
-use Rattle.gcu_engine.proofs.ReadyOrNot.{change_leaves, early_leaves, line_leaves, said_ready, settled_now, stands_now}
+use Rattle.gcu_engine.proofs.ReadyOrNot.{change_leaves, closes_now, early_leaves, line_leaves, said_ready, settled_now, stands_now}
 use Rattle.gcu_engine.proofs.change.change_named.Goals as goal
 
 -- ---- what the change needs
@@ -16,6 +16,10 @@ do_change-requires-clause-clean g c =
 pub do_change-requires-clause-stands : goal.do_change-requires-clause-stands
 do_change-requires-clause-stands g c =
     stands_now (target_view c.args.target) c.args.budget (g.H.Host.told c.args.host.now) (g.H.Host.told c.make_ready.new.host) c.in-Ok.ready c.in-Ok.ensures.ready c.in-Ok.ensures.told
+
+pub do_change-requires-clause-closes : goal.do_change-requires-clause-closes
+do_change-requires-clause-closes g c =
+    closes_now (target_view c.args.target) c.args.budget (g.H.Host.told c.args.host.now) (g.H.Host.told c.make_ready.new.host) c.in-Ok.ready c.in-Ok.ensures.ready c.in-Ok.ensures.told
 
 -- ---- what is answered
 

@@ -10,12 +10,12 @@ pub returns-in-Ok-clause-answers : goal.returns-in-Ok-clause-answers
 returns-in-Ok-clause-answers g c =
     ends_work c.args.change.now.ready (g.H.Host.told c.args.host.now) (g.H.Host.told c.run.new.host) (g.H.Host.told c.end.new.host)
     (g.H.Host.counts c.args.host.now) (g.H.Host.counts c.run.new.host) (g.H.Host.counts c.end.new.host) Done c.end.result (last_line Done) c.args.change.now.steps
-    c.requires.bytes.steps_are (done_last c.args.change.now.ready (g.H.Host.told c.args.host.now) (g.H.Host.told c.run.new.host) c.in-Ok.ensures.ok) tt c.end.ensures.ended
+    c.requires.bytes.steps_are (done_last c.args.change.now.ready (g.H.Host.told c.args.host.now) (g.H.Host.told c.run.new.host) c.requires.closed c.in-Ok.ensures.ok) tt c.end.ensures.ended
 
 pub returns-in-Ok-clause-any_moment : goal.returns-in-Ok-clause-any_moment
 returns-in-Ok-clause-any_moment g c =
     ends_left g.H.Host.moment g.H.Host.left_since c.args.change.now.ready (g.H.Host.told c.args.host.now) (g.H.Host.told c.run.new.host) Done (last_line Done)
-    c.args.host.now c.run.new.host c.end.new.host (done_last c.args.change.now.ready (g.H.Host.told c.args.host.now) (g.H.Host.told c.run.new.host) c.in-Ok.ensures.ok)
+    c.args.host.now c.run.new.host c.end.new.host (done_last c.args.change.now.ready (g.H.Host.told c.args.host.now) (g.H.Host.told c.run.new.host) c.requires.closed c.in-Ok.ensures.ok)
     (λ left later may. g.met.H.Host.counts_now c.run.new.host (g.H.Host.moment c.args.host.now) left later may) c.run.ensures.any_moment c.end.ensures.time
 
 -- ---- a fault of the disk

@@ -1,4 +1,4 @@
-use Rattle.std.proofs.Common.{Err}
+use Rattle.std.proofs.Common.{◌≡◌, Err, IfOk, subst}
 use Rattle.std.proofs.lemmas.Result.{err_from_is_err_and}
 use Rattle.plan_options.specs.Views.{target_view}
 use Rattle.gcu_engine.proofs.PlanSaying.{refuses_ends, solved_ends}
@@ -35,6 +35,7 @@ pub returns-clause-prepared : goal.returns-clause-prepared
 returns-clause-prepared g c =
     made_ready (target_view c.args.target) c.args.budget (g.H.Host.told c.args.host.now) c.in_ok-planning.planning c.in_ok-plan.plan c.ready_change.result
     c.in_ok-planning.ensures.answer c.in_ok-plan.ensures.answer c.in_ok-planning.ensures.stands c.ready_change.ensures.change c.ready_change.ensures.err
+    (subst (λ b. IfOk c.ready_change.result (λ ready. ready.closes ≡ b)) c.closes_stopped-closes.ensures c.ready_change.ensures.closes)
 
 pub returns-clause-cause : goal.returns-clause-cause
 returns-clause-cause g c = memory_ends (g.H.Host.counts c.args.host.now) (g.H.Host.counts c.prepare.new.host) c.ready_change.result c.ready_change.ensures.err

@@ -1,4 +1,4 @@
-use Rattle.std.proofs.Common.{◌≡◌, true, false, None, Err, rules, refl, subst, sym}
+use Rattle.std.proofs.Common.{◌≡◌, ◌∙◌, true, false, None, Ok, Err, rules, refl, subst, sym}
 use Rattle.std.specs.FinMap.{get}
 use Rattle.std.proofs.lemmas.Result.{err_from_is_err_and}
 use Rattle.host_core.specs.Crashes.{Elapses, MayLeaveNow}
@@ -8,11 +8,14 @@ use Rattle.checkpoints.specs.Names.{is_good_name}
 use Rattle.checkpoints.specs.Points.{points}
 use Rattle.gcu_output.specs.declared.outcomes.Outcome.TheVariants.{BadName, DiskFault}
 use Rattle.gcu_requests.specs.Asked.{delete_asked}
+use Rattle.gcu_requests.specs.IntentAsked.{uninterrupted}
+use Rattle.gcu_requests.specs.Preparing.{Finds}
 use Rattle.gcu_requests.specs.Request.{delete_checkpoint}
+use Rattle.gcu_output.proofs.Elapsing.{elapses_both}
 use Rattle.gcu_requests.proofs.Finding.{memory_found}
-use Rattle.gcu_engine.proofs.Deletions.{bad_name_found, deleting, may_delete, settled_found, settling_fault_found, settling_reads}
+use Rattle.gcu_engine.proofs.Deletions.{bad_name_found, deleting, interrupted_found, may_delete, settled_found, settling_fault_found, settling_reads}
 use Rattle.gcu_engine.proofs.Elapsing.{asking_begins}
-use Rattle.gcu_engine.proofs.Writing.{FindsUnit, asking_goes_on, of_some, ready_before, ready_written, writes_within}
+use Rattle.gcu_engine.proofs.Writing.{FindsUnit, asking_goes_on, asking_settles, of_some, ready_before, ready_settled, ready_written, writes_within}
 use Rattle.gcu_engine.proofs.delete_checkpoint.remove_checkpoint.Goals as goal
 
 -- ---- before anything is called
@@ -41,35 +44,59 @@ pub returns-then-not-is_good_name-clause-crash : goal.returns-then-not-is_good_n
 returns-then-not-is_good_name-clause-crash g c =
     asking_begins g.H.Host.moment g.H.Host.left_since (delete_asked c.args.name.now) (g.H.Host.told c.args.host.now) c.args.host.now (λ left since. g.met.H.Host.only_now c.args.host.now left since)
 
+-- ---- where a change was stopped
+
+pub returns-in_err-test_uninterrupted-in-Ok-clause-left : goal.returns-in_err-test_uninterrupted-in-Ok-clause-left
+returns-in_err-test_uninterrupted-in-Ok-clause-left g c =
+    let good : is_good_name c.args.name.now ≡ true = search rules in
+    let p = err_from_is_err_and c.from_residual-in_err-test_uninterrupted-in-Ok.result c.from_residual-in_err-test_uninterrupted-in-Ok.ensures.1 in
+    rw (p.1, p.2)
+    (ready_settled (delete_asked c.args.name.now) (g.H.Host.told c.args.host.now) (g.H.Host.told c.test_uninterrupted.new.host) c.in_err-test_uninterrupted-in-Ok.field-0.0
+    (g.H.Host.counts c.settle.new.self) (g.H.Host.counts c.test_uninterrupted.new.host) (delete_checkpoint c.args.name.now) (c.test_uninterrupted.ensures.told ∙ c.in-Ok.ensures.ok) c.in_err-test_uninterrupted-in-Ok.ensures.cause
+    (settling_reads (g.H.Host.told c.args.host.now) c.args.name.now good)
+    (interrupted_found (g.H.Host.told c.args.host.now) (g.H.Host.told c.settle.new.self) c.args.name.now c.in_err-test_uninterrupted-in-Ok.field-0.0 good c.in-Ok.ensures.ok c.in_err-test_uninterrupted-in-Ok.ensures.answer))
+
+pub returns-in_err-test_uninterrupted-in-Ok-clause-crash : goal.returns-in_err-test_uninterrupted-in-Ok-clause-crash
+returns-in_err-test_uninterrupted-in-Ok-clause-crash g c =
+    asking_settles g.H.Host.moment g.H.Host.left_since (delete_asked c.args.name.now) (g.H.Host.told c.args.host.now) (g.H.Host.told c.settle.new.self) c.args.host.now c.test_uninterrupted.new.host c.in-Ok.ensures.ok
+    (λ left since. g.met.H.Host.only_now c.args.host.now left since)
+    (elapses_both g.H.Host.moment g.H.Host.left_since c.args.host.now c.settle.new.self c.test_uninterrupted.new.host (MayLeaveNow (g.H.Host.told c.settle.new.self)) c.settle.ensures.time c.test_uninterrupted.ensures.time)
+
 -- ---- once it is settled
 
-pub returns-in-Ok-clause-left : goal.returns-in-Ok-clause-left
-returns-in-Ok-clause-left g c =
+pub returns-in_ok-test_uninterrupted-in-Ok-clause-left : goal.returns-in_ok-test_uninterrupted-in-Ok-clause-left
+returns-in_ok-test_uninterrupted-in-Ok-clause-left g c =
     let good : is_good_name c.args.name.now ≡ true = search rules in
-    ready_written (delete_asked c.args.name.now) (g.H.Host.told c.args.host.now) (g.H.Host.told c.settle.new.self) (g.H.Host.told c.delete_settled.new.host)
+    let is = c.test_uninterrupted.ensures.told ∙ c.in-Ok.ensures.ok in
+    let gate = subst (λ o. Finds {X = Unit {0}} o (λ u. u) (Ok tt) uninterrupted) (sym c.test_uninterrupted.ensures.told) c.in_ok-test_uninterrupted-in-Ok.ensures.answer in
+    ready_written (delete_asked c.args.name.now) (g.H.Host.told c.args.host.now) (g.H.Host.told c.test_uninterrupted.new.host) (g.H.Host.told c.delete_settled.new.host)
     (delete_checkpoint c.args.name.now) (IsDeleted c.args.name.now) (IsDeletedOrNot c.args.name.now) (deleting c.args.name.now) c.delete_settled.result
-    (g.H.Host.counts c.settle.new.self) (g.H.Host.counts c.delete_settled.new.host) c.in-Ok.ensures.ok
+    (g.H.Host.counts c.test_uninterrupted.new.host) (g.H.Host.counts c.delete_settled.new.host) is
     c.delete_settled.ensures.ok c.delete_settled.ensures.err c.delete_settled.ensures.cause
-    (settled_found (g.H.Host.told c.args.host.now) (g.H.Host.told c.settle.new.self) c.args.name.now c.delete_settled.result good c.in-Ok.ensures.ok c.delete_settled.ensures.answer)
+    (settled_found (g.H.Host.told c.args.host.now) (g.H.Host.told c.test_uninterrupted.new.host) c.args.name.now c.delete_settled.result good is gate c.delete_settled.ensures.answer)
     (settling_reads (g.H.Host.told c.args.host.now) c.args.name.now good)
-    (may_delete (g.H.Host.told c.args.host.now) (g.H.Host.told c.settle.new.self) c.args.name.now (g.H.Host.told c.delete_settled.new.host ≡ g.H.Host.told c.settle.new.self) good c.in-Ok.ensures.ok
-    (of_some (g.H.Host.told c.settle.new.self)
-    (λ s. get (points s.files) c.args.name.now ≡ None → OnlyReads g.H.Host.told g.H.Host.counts g.H.Host.moment g.H.Host.left_since g.H.Host.goes_on c.settle.new.self c.delete_settled.new.host)
-    (λ s. get (points s.files) c.args.name.now ≡ None → g.H.Host.told c.delete_settled.new.host ≡ g.H.Host.told c.settle.new.self)
+    (may_delete (g.H.Host.told c.args.host.now) (g.H.Host.told c.test_uninterrupted.new.host) c.args.name.now (g.H.Host.told c.delete_settled.new.host ≡ g.H.Host.told c.test_uninterrupted.new.host) good is gate
+    (of_some (g.H.Host.told c.test_uninterrupted.new.host)
+    (λ s. get (points s.files) c.args.name.now ≡ None → OnlyReads g.H.Host.told g.H.Host.counts g.H.Host.moment g.H.Host.left_since g.H.Host.goes_on c.test_uninterrupted.new.host c.delete_settled.new.host)
+    (λ s. get (points s.files) c.args.name.now ≡ None → g.H.Host.told c.delete_settled.new.host ≡ g.H.Host.told c.test_uninterrupted.new.host)
     (λ s h absent. (h absent).state) c.delete_settled.ensures.only_reads))
 
-pub returns-in-Ok-clause-crash : goal.returns-in-Ok-clause-crash
-returns-in-Ok-clause-crash g c =
+pub returns-in_ok-test_uninterrupted-in-Ok-clause-crash : goal.returns-in_ok-test_uninterrupted-in-Ok-clause-crash
+returns-in_ok-test_uninterrupted-in-Ok-clause-crash g c =
     let good : is_good_name c.args.name.now ≡ true = search rules in
-    writes_within g.H.Host.moment g.H.Host.left_since (delete_asked c.args.name.now) (g.H.Host.told c.args.host.now) (g.H.Host.told c.settle.new.self)
-    (delete_checkpoint c.args.name.now) (IsDeleted c.args.name.now) (IsDeletedOrNot c.args.name.now) (deleting c.args.name.now) c.in-Ok.ensures.ok
-    c.args.host.now c.settle.new.self c.delete_settled.new.host (λ left since. g.met.H.Host.only_now c.args.host.now left since) c.settle.ensures.time
+    let is = c.test_uninterrupted.ensures.told ∙ c.in-Ok.ensures.ok in
+    let gate = subst (λ o. Finds {X = Unit {0}} o (λ u. u) (Ok tt) uninterrupted) (sym c.test_uninterrupted.ensures.told) c.in_ok-test_uninterrupted-in-Ok.ensures.answer in
+    let so_far = elapses_both g.H.Host.moment g.H.Host.left_since c.args.host.now c.settle.new.self c.test_uninterrupted.new.host (MayLeaveNow (g.H.Host.told c.settle.new.self)) c.settle.ensures.time c.test_uninterrupted.ensures.time in
+    writes_within g.H.Host.moment g.H.Host.left_since (delete_asked c.args.name.now) (g.H.Host.told c.args.host.now) (g.H.Host.told c.test_uninterrupted.new.host)
+    (delete_checkpoint c.args.name.now) (IsDeleted c.args.name.now) (IsDeletedOrNot c.args.name.now) (deleting c.args.name.now) is
+    c.args.host.now c.test_uninterrupted.new.host c.delete_settled.new.host (λ left since. g.met.H.Host.only_now c.args.host.now left since)
+    (subst (λ o. Elapses g.H.Host.moment g.H.Host.left_since c.args.host.now c.test_uninterrupted.new.host (MayLeaveNow o)) (sym c.test_uninterrupted.ensures.told) so_far)
     c.delete_settled.ensures.any_moment
-    (may_delete (g.H.Host.told c.args.host.now) (g.H.Host.told c.settle.new.self) c.args.name.now
-    (Elapses g.H.Host.moment g.H.Host.left_since c.settle.new.self c.delete_settled.new.host (MayLeaveNow (g.H.Host.told c.settle.new.self))) good c.in-Ok.ensures.ok
-    (of_some (g.H.Host.told c.settle.new.self)
-    (λ s. get (points s.files) c.args.name.now ≡ None → OnlyReads g.H.Host.told g.H.Host.counts g.H.Host.moment g.H.Host.left_since g.H.Host.goes_on c.settle.new.self c.delete_settled.new.host)
-    (λ s. get (points s.files) c.args.name.now ≡ None → Elapses g.H.Host.moment g.H.Host.left_since c.settle.new.self c.delete_settled.new.host (MayLeaveNow (g.H.Host.told c.settle.new.self)))
+    (may_delete (g.H.Host.told c.args.host.now) (g.H.Host.told c.test_uninterrupted.new.host) c.args.name.now
+    (Elapses g.H.Host.moment g.H.Host.left_since c.test_uninterrupted.new.host c.delete_settled.new.host (MayLeaveNow (g.H.Host.told c.test_uninterrupted.new.host))) good is gate
+    (of_some (g.H.Host.told c.test_uninterrupted.new.host)
+    (λ s. get (points s.files) c.args.name.now ≡ None → OnlyReads g.H.Host.told g.H.Host.counts g.H.Host.moment g.H.Host.left_since g.H.Host.goes_on c.test_uninterrupted.new.host c.delete_settled.new.host)
+    (λ s. get (points s.files) c.args.name.now ≡ None → Elapses g.H.Host.moment g.H.Host.left_since c.test_uninterrupted.new.host c.delete_settled.new.host (MayLeaveNow (g.H.Host.told c.test_uninterrupted.new.host)))
     (λ s h absent. (h absent).time) c.delete_settled.ensures.only_reads))
     c.delete_settled.ensures.later
 

@@ -4,11 +4,13 @@ use Rattle.plan_options.specs.Views.{target_view}
 use Rattle.gcu_output.specs.Lines.{last_line}
 use Rattle.gcu_output.specs.Printing.{text_in_lines}
 use Rattle.gcu_output.specs.declared.outcomes.Outcome.TheVariants.{Usage, Done}
-use Rattle.gcu_requests.specs.Form.{check, list_checkpoints}
+use Rattle.gcu_requests.specs.Form.{abandon, check, list_checkpoints, status}
 use Rattle.gcu_engine.proofs.Completing.{complete_by}
 use Rattle.gcu_engine.proofs.Headlines.{change_headline, headline}
 use Rattle.gcu_engine.proofs.Elapsing.{changes_by, command_leaves, command_leaves_behind, leaves_by}
 use Rattle.gcu_engine.proofs.Answering.{answers_by, said_answers, done_completes, said_completes, no_form_says, preview_says, preview_refuses, refused_cause}
+use Rattle.gcu_engine.proofs.Intending.{keeps_intent}
+use Rattle.gcu_engine.proofs.Resuming.{never_resumes, resumes}
 use Rattle.gcu_engine.proofs.run_command.run.Goals as goal
 
 -- the words are no command
@@ -163,6 +165,34 @@ returns-in-Change-clause-complete g c =
     complete_by c.args.words.now _ (g.H.Host.told c.args.host.now) (g.H.Host.counts c.args.host.now) (g.H.Host.counts c.change.new.host) c.change.result
     c.in-Change.ensures c.change.ensures.complete
 
+pub returns-in-Status-clause-answers : goal.returns-in-Status-clause-answers
+returns-in-Status-clause-answers g c =
+    answers_by c.args.words.now (Some status) (g.H.Host.told c.args.host.now) (g.H.Host.told c.status.new.host) (g.H.Host.counts c.args.host.now) (g.H.Host.counts c.status.new.host) c.status.result
+    c.in-Status.ensures c.status.ensures.answers
+
+pub returns-in-Status-clause-crash : goal.returns-in-Status-clause-crash
+returns-in-Status-clause-crash g c =
+    leaves_by g.H.Host.moment g.H.Host.left_since c.args.words.now (Some status) c.args.host.now c.status.new.host (g.H.Host.told c.args.host.now) c.in-Status.ensures (λ s left h. h) c.status.ensures.crash
+
+pub returns-in-Status-clause-complete : goal.returns-in-Status-clause-complete
+returns-in-Status-clause-complete g c =
+    complete_by c.args.words.now (Some status) (g.H.Host.told c.args.host.now) (g.H.Host.counts c.args.host.now) (g.H.Host.counts c.status.new.host) c.status.result
+    c.in-Status.ensures c.status.ensures.complete
+
+pub returns-in-Abandon-clause-answers : goal.returns-in-Abandon-clause-answers
+returns-in-Abandon-clause-answers g c =
+    answers_by c.args.words.now (Some abandon) (g.H.Host.told c.args.host.now) (g.H.Host.told c.abandon.new.host) (g.H.Host.counts c.args.host.now) (g.H.Host.counts c.abandon.new.host) c.abandon.result
+    c.in-Abandon.ensures c.abandon.ensures.answers
+
+pub returns-in-Abandon-clause-crash : goal.returns-in-Abandon-clause-crash
+returns-in-Abandon-clause-crash g c =
+    leaves_by g.H.Host.moment g.H.Host.left_since c.args.words.now (Some abandon) c.args.host.now c.abandon.new.host (g.H.Host.told c.args.host.now) c.in-Abandon.ensures (λ s left h. h) c.abandon.ensures.crash
+
+pub returns-in-Abandon-clause-complete : goal.returns-in-Abandon-clause-complete
+returns-in-Abandon-clause-complete g c =
+    complete_by c.args.words.now (Some abandon) (g.H.Host.told c.args.host.now) (g.H.Host.counts c.args.host.now) (g.H.Host.counts c.abandon.new.host) c.abandon.result
+    c.in-Abandon.ensures c.abandon.ensures.complete
+
 pub returns-in-Demo-clause-answers : goal.returns-in-Demo-clause-answers
 returns-in-Demo-clause-answers g c =
     answers_by c.args.words.now _ (g.H.Host.told c.args.host.now) (g.H.Host.told c.demo.new.host) (g.H.Host.counts c.args.host.now) (g.H.Host.counts c.demo.new.host) c.demo.result
@@ -238,6 +268,16 @@ returns-in-Change-clause-headline g c =
     change_headline g.H.Host.moment g.H.Host.left_since c.args.words.now (target_view c.in-Change.target) c.in-Change.options.budget (g.H.Host.told c.args.host.now) (g.H.Host.told c.change.new.host) c.args.host.now c.change.new.host
     (g.H.Host.counts c.args.host.now) (g.H.Host.counts c.change.new.host) c.change.result c.asked_has_one_answer.ensures (returns-in-Change-clause-answers g c) (returns-in-Change-clause-crash g c) c.change.ensures.early
 
+pub returns-in-Status-clause-headline : goal.returns-in-Status-clause-headline
+returns-in-Status-clause-headline g c =
+    headline g.H.Host.moment g.H.Host.left_since c.args.words.now _ (g.H.Host.told c.args.host.now) (g.H.Host.told c.status.new.host) c.args.host.now c.status.new.host
+    (g.H.Host.counts c.args.host.now) (g.H.Host.counts c.status.new.host) c.status.result c.in-Status.ensures tt c.asked_has_one_answer.ensures (returns-in-Status-clause-answers g c) (returns-in-Status-clause-crash g c)
+
+pub returns-in-Abandon-clause-headline : goal.returns-in-Abandon-clause-headline
+returns-in-Abandon-clause-headline g c =
+    headline g.H.Host.moment g.H.Host.left_since c.args.words.now _ (g.H.Host.told c.args.host.now) (g.H.Host.told c.abandon.new.host) c.args.host.now c.abandon.new.host
+    (g.H.Host.counts c.args.host.now) (g.H.Host.counts c.abandon.new.host) c.abandon.result c.in-Abandon.ensures tt c.asked_has_one_answer.ensures (returns-in-Abandon-clause-answers g c) (returns-in-Abandon-clause-crash g c)
+
 pub returns-in-Demo-clause-headline : goal.returns-in-Demo-clause-headline
 returns-in-Demo-clause-headline g c =
     headline g.H.Host.moment g.H.Host.left_since c.args.words.now _ (g.H.Host.told c.args.host.now) (g.H.Host.told c.demo.new.host) c.args.host.now c.demo.new.host
@@ -247,3 +287,123 @@ pub returns-in-CheckPlan-clause-headline : goal.returns-in-CheckPlan-clause-head
 returns-in-CheckPlan-clause-headline g c =
     headline g.H.Host.moment g.H.Host.left_since c.args.words.now _ (g.H.Host.told c.args.host.now) (g.H.Host.told c.check_plan.new.host) c.args.host.now c.check_plan.new.host
     (g.H.Host.counts c.args.host.now) (g.H.Host.counts c.check_plan.new.host) c.check_plan.result c.in-CheckPlan.ensures tt c.asked_has_one_answer.ensures (returns-in-CheckPlan-clause-answers g c) (returns-in-CheckPlan-clause-crash g c)
+
+-- ---- the file intent
+
+pub returns-in-Unknown-clause-intent : goal.returns-in-Unknown-clause-intent
+returns-in-Unknown-clause-intent g c =
+    keeps_intent g.H.Host.moment g.H.Host.left_since c.args.words.now (g.H.Host.told c.args.host.now) c.args.host.now c.say.new.host (returns-in-Unknown-clause-crash g c)
+
+pub returns-in-Ok-clause-intent : goal.returns-in-Ok-clause-intent
+returns-in-Ok-clause-intent g c =
+    keeps_intent g.H.Host.moment g.H.Host.left_since c.args.words.now (g.H.Host.told c.args.host.now) c.args.host.now c.show.new.host (returns-in-Ok-clause-crash g c)
+
+pub returns-in-Err-clause-intent : goal.returns-in-Err-clause-intent
+returns-in-Err-clause-intent g c =
+    keeps_intent g.H.Host.moment g.H.Host.left_since c.args.words.now (g.H.Host.told c.args.host.now) c.args.host.now c.say-in-Err.new.host (returns-in-Err-clause-crash g c)
+
+pub returns-in-Check-clause-intent : goal.returns-in-Check-clause-intent
+returns-in-Check-clause-intent g c =
+    keeps_intent g.H.Host.moment g.H.Host.left_since c.args.words.now (g.H.Host.told c.args.host.now) c.args.host.now c.check.new.host (returns-in-Check-clause-crash g c)
+
+pub returns-in-ListCheckpoints-clause-intent : goal.returns-in-ListCheckpoints-clause-intent
+returns-in-ListCheckpoints-clause-intent g c =
+    keeps_intent g.H.Host.moment g.H.Host.left_since c.args.words.now (g.H.Host.told c.args.host.now) c.args.host.now c.list_checkpoints.new.host (returns-in-ListCheckpoints-clause-crash g c)
+
+pub returns-in-SaveCheckpoint-clause-intent : goal.returns-in-SaveCheckpoint-clause-intent
+returns-in-SaveCheckpoint-clause-intent g c =
+    keeps_intent g.H.Host.moment g.H.Host.left_since c.args.words.now (g.H.Host.told c.args.host.now) c.args.host.now c.save_checkpoint.new.host (returns-in-SaveCheckpoint-clause-crash g c)
+
+pub returns-in-DeleteCheckpoint-clause-intent : goal.returns-in-DeleteCheckpoint-clause-intent
+returns-in-DeleteCheckpoint-clause-intent g c =
+    keeps_intent g.H.Host.moment g.H.Host.left_since c.args.words.now (g.H.Host.told c.args.host.now) c.args.host.now c.delete_checkpoint.new.host (returns-in-DeleteCheckpoint-clause-crash g c)
+
+pub returns-in-Plan-clause-intent : goal.returns-in-Plan-clause-intent
+returns-in-Plan-clause-intent g c =
+    keeps_intent g.H.Host.moment g.H.Host.left_since c.args.words.now (g.H.Host.told c.args.host.now) c.args.host.now c.dry_run.new.host (returns-in-Plan-clause-crash g c)
+
+pub returns-in-Change-clause-intent : goal.returns-in-Change-clause-intent
+returns-in-Change-clause-intent g c =
+    keeps_intent g.H.Host.moment g.H.Host.left_since c.args.words.now (g.H.Host.told c.args.host.now) c.args.host.now c.change.new.host (returns-in-Change-clause-crash g c)
+
+pub returns-in-Status-clause-intent : goal.returns-in-Status-clause-intent
+returns-in-Status-clause-intent g c =
+    keeps_intent g.H.Host.moment g.H.Host.left_since c.args.words.now (g.H.Host.told c.args.host.now) c.args.host.now c.status.new.host (returns-in-Status-clause-crash g c)
+
+pub returns-in-Abandon-clause-intent : goal.returns-in-Abandon-clause-intent
+returns-in-Abandon-clause-intent g c =
+    keeps_intent g.H.Host.moment g.H.Host.left_since c.args.words.now (g.H.Host.told c.args.host.now) c.args.host.now c.abandon.new.host (returns-in-Abandon-clause-crash g c)
+
+pub returns-in-Demo-clause-intent : goal.returns-in-Demo-clause-intent
+returns-in-Demo-clause-intent g c =
+    keeps_intent g.H.Host.moment g.H.Host.left_since c.args.words.now (g.H.Host.told c.args.host.now) c.args.host.now c.demo.new.host (returns-in-Demo-clause-crash g c)
+
+pub returns-in-CheckPlan-clause-intent : goal.returns-in-CheckPlan-clause-intent
+returns-in-CheckPlan-clause-intent g c =
+    keeps_intent g.H.Host.moment g.H.Host.left_since c.args.words.now (g.H.Host.told c.args.host.now) c.args.host.now c.check_plan.new.host (returns-in-CheckPlan-clause-crash g c)
+
+-- ---- a change that was stopped
+
+pub returns-in-Unknown-clause-resumes : goal.returns-in-Unknown-clause-resumes
+returns-in-Unknown-clause-resumes g c =
+    never_resumes c.args.words.now (g.H.Host.told c.args.host.now) (g.H.Host.counts c.args.host.now) (g.H.Host.counts c.say.new.host) c.say.result c.in-Unknown.ensures
+
+pub returns-in-Ok-clause-resumes : goal.returns-in-Ok-clause-resumes
+returns-in-Ok-clause-resumes g c =
+    resumes c.listed_moves_have_models.ensures c.asked_has_one_answer.ensures c.args.words.now (g.H.Host.told c.args.host.now)
+    (g.H.Host.counts c.args.host.now) (g.H.Host.counts c.show.new.host) c.show.result (returns-in-Ok-clause-complete g c)
+
+pub returns-in-Err-clause-resumes : goal.returns-in-Err-clause-resumes
+returns-in-Err-clause-resumes g c =
+    resumes c.listed_moves_have_models.ensures c.asked_has_one_answer.ensures c.args.words.now (g.H.Host.told c.args.host.now)
+    (g.H.Host.counts c.args.host.now) (g.H.Host.counts c.say-in-Err.new.host) c.say-in-Err.result (returns-in-Err-clause-complete g c)
+
+pub returns-in-Check-clause-resumes : goal.returns-in-Check-clause-resumes
+returns-in-Check-clause-resumes g c =
+    resumes c.listed_moves_have_models.ensures c.asked_has_one_answer.ensures c.args.words.now (g.H.Host.told c.args.host.now)
+    (g.H.Host.counts c.args.host.now) (g.H.Host.counts c.check.new.host) c.check.result (returns-in-Check-clause-complete g c)
+
+pub returns-in-ListCheckpoints-clause-resumes : goal.returns-in-ListCheckpoints-clause-resumes
+returns-in-ListCheckpoints-clause-resumes g c =
+    resumes c.listed_moves_have_models.ensures c.asked_has_one_answer.ensures c.args.words.now (g.H.Host.told c.args.host.now)
+    (g.H.Host.counts c.args.host.now) (g.H.Host.counts c.list_checkpoints.new.host) c.list_checkpoints.result (returns-in-ListCheckpoints-clause-complete g c)
+
+pub returns-in-SaveCheckpoint-clause-resumes : goal.returns-in-SaveCheckpoint-clause-resumes
+returns-in-SaveCheckpoint-clause-resumes g c =
+    resumes c.listed_moves_have_models.ensures c.asked_has_one_answer.ensures c.args.words.now (g.H.Host.told c.args.host.now)
+    (g.H.Host.counts c.args.host.now) (g.H.Host.counts c.save_checkpoint.new.host) c.save_checkpoint.result (returns-in-SaveCheckpoint-clause-complete g c)
+
+pub returns-in-DeleteCheckpoint-clause-resumes : goal.returns-in-DeleteCheckpoint-clause-resumes
+returns-in-DeleteCheckpoint-clause-resumes g c =
+    resumes c.listed_moves_have_models.ensures c.asked_has_one_answer.ensures c.args.words.now (g.H.Host.told c.args.host.now)
+    (g.H.Host.counts c.args.host.now) (g.H.Host.counts c.delete_checkpoint.new.host) c.delete_checkpoint.result (returns-in-DeleteCheckpoint-clause-complete g c)
+
+pub returns-in-Plan-clause-resumes : goal.returns-in-Plan-clause-resumes
+returns-in-Plan-clause-resumes g c =
+    resumes c.listed_moves_have_models.ensures c.asked_has_one_answer.ensures c.args.words.now (g.H.Host.told c.args.host.now)
+    (g.H.Host.counts c.args.host.now) (g.H.Host.counts c.dry_run.new.host) c.dry_run.result (returns-in-Plan-clause-complete g c)
+
+pub returns-in-Change-clause-resumes : goal.returns-in-Change-clause-resumes
+returns-in-Change-clause-resumes g c =
+    resumes c.listed_moves_have_models.ensures c.asked_has_one_answer.ensures c.args.words.now (g.H.Host.told c.args.host.now)
+    (g.H.Host.counts c.args.host.now) (g.H.Host.counts c.change.new.host) c.change.result (returns-in-Change-clause-complete g c)
+
+pub returns-in-Status-clause-resumes : goal.returns-in-Status-clause-resumes
+returns-in-Status-clause-resumes g c =
+    resumes c.listed_moves_have_models.ensures c.asked_has_one_answer.ensures c.args.words.now (g.H.Host.told c.args.host.now)
+    (g.H.Host.counts c.args.host.now) (g.H.Host.counts c.status.new.host) c.status.result (returns-in-Status-clause-complete g c)
+
+pub returns-in-Abandon-clause-resumes : goal.returns-in-Abandon-clause-resumes
+returns-in-Abandon-clause-resumes g c =
+    resumes c.listed_moves_have_models.ensures c.asked_has_one_answer.ensures c.args.words.now (g.H.Host.told c.args.host.now)
+    (g.H.Host.counts c.args.host.now) (g.H.Host.counts c.abandon.new.host) c.abandon.result (returns-in-Abandon-clause-complete g c)
+
+pub returns-in-Demo-clause-resumes : goal.returns-in-Demo-clause-resumes
+returns-in-Demo-clause-resumes g c =
+    resumes c.listed_moves_have_models.ensures c.asked_has_one_answer.ensures c.args.words.now (g.H.Host.told c.args.host.now)
+    (g.H.Host.counts c.args.host.now) (g.H.Host.counts c.demo.new.host) c.demo.result (returns-in-Demo-clause-complete g c)
+
+pub returns-in-CheckPlan-clause-resumes : goal.returns-in-CheckPlan-clause-resumes
+returns-in-CheckPlan-clause-resumes g c =
+    resumes c.listed_moves_have_models.ensures c.asked_has_one_answer.ensures c.args.words.now (g.H.Host.told c.args.host.now)
+    (g.H.Host.counts c.args.host.now) (g.H.Host.counts c.check_plan.new.host) c.check_plan.result (returns-in-CheckPlan-clause-complete g c)

@@ -1,58 +1,32 @@
-use Rattle.std.proofs.Common.{Ok, Err, refl}
+use Rattle.std.proofs.Common.{refl, ◌∙◌}
 use Rattle.std.proofs.lemmas.Result.{err_from_is_err_and}
 use Rattle.gcu_output.proofs.Elapsing.{elapses_unchanged}
-use Rattle.gcu_requests.proofs.Checked.{judged, no_config, no_models}
+use Rattle.gcu_requests.specs.Checking.{judging_asked}
+use Rattle.gcu_requests.specs.IntentAsked.{uninterrupted}
+use Rattle.gcu_requests.proofs.Checked.{check_of}
+use Rattle.gcu_requests.proofs.IntentFinding.{gate_closed, gate_open}
 use Rattle.gcu_requests.proofs.checking.judge_stored.Goals as goal
 
--- there are no models
-pub returns-in_err-models-clause-answer : goal.returns-in_err-models-clause-answer
-returns-in_err-models-clause-answer g c =
+-- a change was stopped before its end
+pub returns-in_err-test_uninterrupted-clause-answer : goal.returns-in_err-test_uninterrupted-clause-answer
+returns-in_err-test_uninterrupted-clause-answer g c =
     let p = err_from_is_err_and c.from_residual.result c.from_residual.ensures.1 in
-    rw (p.1, p.2) (no_models (g.H.Host.told c.args.host.now) c.in_err-models.field-0.0 c.in_err-models.ensures.answer)
+    rw (p.1, p.2) (gate_closed check_of (g.H.Host.told c.args.host.now) uninterrupted judging_asked c.in_err-test_uninterrupted.field-0.0 c.in_err-test_uninterrupted.ensures.answer)
 
--- the folder stands for no configuration
-pub returns-in_err-config-clause-answer : goal.returns-in_err-config-clause-answer
-returns-in_err-config-clause-answer g c =
-    let p = err_from_is_err_and c.from_residual-in_err-config.result c.from_residual-in_err-config.ensures.1 in
-    rw (p.1, p.2)
-    (no_config (g.H.Host.told c.args.host.now) c.in_ok-models.models c.in_err-config.field-0.0 c.in_ok-models.ensures.answer
-    (rw c.in_ok-models.ensures.told at c.in_err-config.ensures.answer))
-
--- the configuration isn't valid
-pub returns-in_err-judge-clause-answer : goal.returns-in_err-judge-clause-answer
-returns-in_err-judge-clause-answer g c =
-    let p = err_from_is_err_and c.from_residual-in_err-judge.result c.from_residual-in_err-judge.ensures.1 in
-    rw (p.1, p.2)
-    (judged (g.H.Host.told c.args.host.now) c.in_ok-models.models c.in_ok-config.config (Err c.in_err-judge.field-0.0) c.in_ok-models.ensures.answer
-    (rw c.in_ok-models.ensures.told at c.in_ok-config.ensures.answer) c.in_err-judge.ensures.answer c.in_err-judge.ensures.cause)
-
--- it is
+-- none was
 pub returns-clause-answer : goal.returns-clause-answer
 returns-clause-answer g c =
-    judged (g.H.Host.told c.args.host.now) c.in_ok-models.models c.in_ok-config.config (Ok c.in_ok-config.config) c.in_ok-models.ensures.answer
-    (rw c.in_ok-models.ensures.told at c.in_ok-config.ensures.answer) c.in_ok-judge.ensures.answer tt
+    gate_open check_of (g.H.Host.told c.args.host.now) uninterrupted judging_asked c.judge_folder.result c.in_ok-test_uninterrupted.ensures.answer
+    (rw c.test_uninterrupted.ensures.told at c.judge_folder.ensures.answer)
 
 -- ---- time
 
-pub returns-in_err-models-clause-time : goal.returns-in_err-models-clause-time
-returns-in_err-models-clause-time g c = rw c.input_models.ensures.told at c.input_models.ensures.time
-
-pub returns-in_err-config-clause-time : goal.returns-in_err-config-clause-time
-returns-in_err-config-clause-time g c =
-    elapses_unchanged g.H.Host.moment g.H.Host.left_since c.args.host.now c.input_models.new.host c.read_config.new.host
-    (g.H.Host.told c.input_models.new.host) (g.H.Host.told c.args.host.now) c.input_models.ensures.told c.input_models.ensures.time
-    (g.H.Host.told c.input_models.new.host) refl c.read_config.ensures.time
-
 pub returns-clause-time : goal.returns-clause-time
 returns-clause-time g c =
-    elapses_unchanged g.H.Host.moment g.H.Host.left_since c.args.host.now c.input_models.new.host c.read_config.new.host
-    (g.H.Host.told c.input_models.new.host) (g.H.Host.told c.args.host.now) c.input_models.ensures.told c.input_models.ensures.time
-    (g.H.Host.told c.input_models.new.host) refl c.read_config.ensures.time
-
-pub returns-in_err-config-clause-goes : goal.returns-in_err-config-clause-goes
-returns-in_err-config-clause-goes g c =
-    g.met.H.Host.continues c.args.host.now c.input_models.new.host c.read_config.new.host c.input_models.ensures.goes c.read_config.ensures.goes
+    elapses_unchanged g.H.Host.moment g.H.Host.left_since c.args.host.now c.test_uninterrupted.new.host c.judge_folder.new.host
+    (g.H.Host.told c.args.host.now) (g.H.Host.told c.args.host.now) refl c.test_uninterrupted.ensures.time
+    (g.H.Host.told c.test_uninterrupted.new.host) c.test_uninterrupted.ensures.told c.judge_folder.ensures.time
 
 pub returns-clause-goes : goal.returns-clause-goes
 returns-clause-goes g c =
-    g.met.H.Host.continues c.args.host.now c.input_models.new.host c.read_config.new.host c.input_models.ensures.goes c.read_config.ensures.goes
+    g.met.H.Host.continues c.args.host.now c.test_uninterrupted.new.host c.judge_folder.new.host c.test_uninterrupted.ensures.goes c.judge_folder.ensures.goes

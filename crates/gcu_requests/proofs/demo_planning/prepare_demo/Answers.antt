@@ -1,26 +1,32 @@
+use Rattle.std.proofs.Common.{refl, ◌∙◌}
 use Rattle.std.proofs.lemmas.Result.{err_from_is_err_and}
-use Rattle.gcu_requests.proofs.DemoFinding.{demo_found, no_demo_ctx}
-use Rattle.gcu_requests.proofs.Finding.{always_refuses}
+use Rattle.gcu_output.proofs.Elapsing.{elapses_unchanged}
+use Rattle.gcu_requests.specs.DemoAsked.{generating_asked}
+use Rattle.gcu_requests.specs.IntentAsked.{uninterrupted}
+use Rattle.gcu_requests.specs.ReadPlannings.{planning_of}
+use Rattle.gcu_requests.proofs.IntentFinding.{gate_closed, gate_open}
 use Rattle.gcu_requests.proofs.demo_planning.prepare_demo.Goals as goal
 
--- there is nothing to judge by
-pub returns-in_err-ctx-clause-answer : goal.returns-in_err-ctx-clause-answer
-returns-in_err-ctx-clause-answer g c =
+-- a change was stopped before its end
+pub returns-in_err-test_uninterrupted-clause-answer : goal.returns-in_err-test_uninterrupted-clause-answer
+returns-in_err-test_uninterrupted-clause-answer g c =
     let p = err_from_is_err_and c.from_residual.result c.from_residual.ensures.1 in
-    rw (p.1, p.2) (no_demo_ctx (g.H.Host.told c.args.host.now) c.args.size.seed c.args.size.ports c.in_err-ctx.field-0.0 c.in_err-ctx.ensures.answer)
+    rw (p.1, p.2) (gate_closed planning_of (g.H.Host.told c.args.host.now) uninterrupted (generating_asked c.args.size.seed c.args.size.ports) c.in_err-test_uninterrupted.field-0.0 c.in_err-test_uninterrupted.ensures.answer)
 
--- there is what is generated
+-- none was
 pub returns-clause-answer : goal.returns-clause-answer
 returns-clause-answer g c =
-    demo_found (g.H.Host.told c.args.host.now) c.args.size.seed c.args.size.ports c.in_ok-ctx.ctx c.generate.result c.in_ok-ctx.ensures.answer c.generate.ensures.answer
-
-pub returns-clause-cause : goal.returns-clause-cause
-returns-clause-cause g c = always_refuses c.generate.result (g.H.Host.counts c.args.host.now) (g.H.Host.counts c.input_ctx.new.host) c.generate.ensures.cause
+    gate_open planning_of (g.H.Host.told c.args.host.now) uninterrupted (generating_asked c.args.size.seed c.args.size.ports) c.read_demo.result c.in_ok-test_uninterrupted.ensures.answer
+    (rw c.test_uninterrupted.ensures.told at c.read_demo.ensures.answer)
 
 -- ---- time
 
-pub returns-in_err-ctx-clause-time : goal.returns-in_err-ctx-clause-time
-returns-in_err-ctx-clause-time g c = rw c.input_ctx.ensures.told at c.input_ctx.ensures.time
-
 pub returns-clause-time : goal.returns-clause-time
-returns-clause-time g c = rw c.input_ctx.ensures.told at c.input_ctx.ensures.time
+returns-clause-time g c =
+    elapses_unchanged g.H.Host.moment g.H.Host.left_since c.args.host.now c.test_uninterrupted.new.host c.read_demo.new.host
+    (g.H.Host.told c.args.host.now) (g.H.Host.told c.args.host.now) refl c.test_uninterrupted.ensures.time
+    (g.H.Host.told c.test_uninterrupted.new.host) c.test_uninterrupted.ensures.told c.read_demo.ensures.time
+
+pub returns-clause-goes : goal.returns-clause-goes
+returns-clause-goes g c =
+    g.met.H.Host.continues c.args.host.now c.test_uninterrupted.new.host c.read_demo.new.host c.test_uninterrupted.ensures.goes c.read_demo.ensures.goes

@@ -1,0 +1,35 @@
+//! `gcu status`: whether a change was stopped, and how far it is.
+ghost use Rattle.std.specs.Prelude.{◌≡◌, ◌≤◌};
+ghost use Rattle.host_core.specs.Counts.{NoneFell};
+ghost use Rattle.host_core.specs.Crashes.{LeavesOnly};
+ghost use Rattle.host_core.specs.Names.{longest_scoped_name};
+ghost use Rattle.gcu_output.specs.declared.outcomes.Outcome.TheVariants.{Usage as usage};
+ghost use Rattle.gcu_requests.specs.IntentAsked.{status_asked};
+ghost use Rattle.gcu_engine.specs.Answers.{HasCause};
+ghost use Rattle.gcu_engine.specs.Commands.{AnswersTo, CompleteTo, LeftTo};
+
+use crate::Outcome;
+use gcu_output::{say, show_status};
+use gcu_requests::read_status;
+use host_core::Host;
+use std::alloc::Global;
+
+/// Prints what `intent` is, and how many step files are applied in what the folder stands for.
+pub(crate) fn status<H: Host>(alloc: Global, host: &mut H) -> Outcome
+    requires { longest_scoped_name ≤ H.longest_name }
+    ensures answers { AnswersTo status_asked
+        (H.told host.old) (H.told host.new) (H.counts host.old) (H.counts host.new) result }
+    ensures cause { HasCause (H.counts host.old) (H.counts host.new) result }
+    ensures counts { NoneFell (H.counts host.old) (H.counts host.new) }
+    ensures crash { LeavesOnly H.moment H.left_since host.old host.new
+        (LeftTo status_asked (H.told host.old)) }
+    ensures goes { H.goes_on host.old host.new }
+    ensures form { result ≡ usage → ⊥ }
+    ensures complete { CompleteTo status_asked
+        (H.told host.old) (H.counts host.old) (H.counts host.new) result }
+{
+    match read_status(alloc, host) {
+        Ok(found) => show_status(alloc, found.intent, found.steps, host),
+        Err(outcome) => say(alloc, outcome, host),
+    }
+}
