@@ -88,10 +88,7 @@ fn goal_in(alloc: Global, bytes: &[u8]) -> Result<Config, Outcome>
 }
 
 /// The bytes of the file, or None where it isn't there.
-pub(crate) fn read_intent<H: Host>(
-    alloc: Global,
-    host: &mut H,
-) -> Result<Option<Vec<u8>>, Outcome>
+pub(crate) fn read_intent<H: Host>(alloc: Global, host: &mut H) -> Result<Option<Vec<u8>>, Outcome>
     requires { longest_scoped_name ≤ H.longest_name }
     ensures answer { Finds (H.told host.old) (option_map (λ v. v.items)) result intent_asked }
     ensures told { H.told host.new ≡ H.told host.old }
