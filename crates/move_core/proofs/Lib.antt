@@ -2,6 +2,8 @@ pub mod Boxed
 pub mod Compared
 pub mod Defined
 pub mod Filled
+pub mod Indexed
+pub mod ItemMoves
 pub mod ListedMoves
 pub mod Listing
 pub mod Modelled
