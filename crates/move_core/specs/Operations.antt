@@ -1,5 +1,5 @@
 -- Moves as operations of a patch, and the text of a plan.
-use Rattle.core.specs.Int.Digits.{digits_of}
+use Rattle.std.specs.Int.Digits.{digits_of}
 use Rattle.std.specs.Prelude.{ℕ, zero, suc, ◌+◌, List, [], ◌∷◌, ◌++◌, codes, decimal, length, map}
 use Rattle.conf_doc.specs.Configuration.{part_tree}
 use Rattle.conf_doc.specs.Document.{text}

@@ -43,12 +43,14 @@ fn list_at<'c>(config: &'c Config, path: &Path) -> Option<&'c Names>
 }
 
 /// A copy of texts.
+#[tactic(auto, using(crate::proofs::Compared::take_one_more, std::proofs::lemmas::List::take_all))]
 fn copy_texts(alloc: Global, texts: &Names) -> Result<Vec<Txt>, Memory>
     ensures { IfOk result (λ copies. copies.items ≡ texts.now) }
 {
     let mut copies = Vec::new(alloc);
-    for text in texts.items() {
-        copies.push(text.copy(alloc)?)?;
+    for i in 0..texts.len() {
+        let text = texts.at(i).copy(alloc)?;
+        copies.push(text)?;
     }
     Ok(copies)
 }
