@@ -13,7 +13,7 @@ use Rattle.conf_doc.specs.declared.parts.Part.TheVariants as part
 use Rattle.conf_check.specs.Acceptance.{IsSatisfied, keys_of}
 use Rattle.yang_model.specs.ModelSets.{ModelSet}
 use Rattle.yang_types.specs.declared.types.Target.{Target}
-use Rattle.move_core.specs.Moves.{Place, new_part, place, step}
+use Rattle.move_core.specs.Moves.{Place, new_part, part_after, place, step}
 use Rattle.move_core.specs.Services.{table_of}
 use Rattle.move_core.specs.declared.moves.Move.{Move}
 use Rattle.move_extend.specs.KeptKeys.{HasKeys, KeepsAlways, KeepsKey, KeepsKeys}
@@ -82,7 +82,7 @@ kept_keys c (t ∷ k ∷ rest) x long some key before =
 
 -- a move of a field keeps the keys, and so does one that puts an entry
 pub keeps_kind : (m : Move) → 1 < length (place m) → (length (place m) ≡ 2 → IsSome (new_part m)) → KeepsAlways m
-keeps_kind m long some c = kept_keys c (place m) (new_part m) long some
+keeps_kind m long some c = kept_keys c (place m) (part_after cur m) long some
 
 -- ---- wants that stay satisfied
 
