@@ -1,5 +1,5 @@
 -- Generated moves are defined at cur, and so are extensions of what is defined.
-use Rattle.std.proofs.Common.{◌≡◌, ℕ, zero, suc, List, [], ◌∷◌, Option, Some, None, option_map, option_and_then, is_some, IsSome, IsSomeAnd, slice_get, if◌then◌else◌, refl, sym, ap, ◌∙◌, subst}
+use Rattle.std.proofs.Common.{◌≡◌, ℕ, zero, suc, List, [], ◌∷◌, length, Option, Some, None, option_map, option_and_then, is_some, IsSome, IsSomeAnd, slice_get, if◌then◌else◌, refl, sym, ap, ◌∙◌, subst}
 use Rattle.std.specs.Option.{option_map_or}
 use Rattle.conf_doc.specs.Changes.{part_at, HasPlace, HasParent, Fits}
 use Rattle.conf_doc.specs.Pairs.{find, IsRising}

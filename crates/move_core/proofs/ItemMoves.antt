@@ -25,13 +25,13 @@ use Rattle.move_core.specs.Moves.{IsDefined, Place, list_at, list_in}
 use Rattle.move_core.specs.declared.moves.Move.{Move}
 use Rattle.move_core.specs.declared.moves.Move.TheVariants.{Add, Remove, Replace, AddItem, RemoveItem}
 use Rattle.move_core.proofs.Defined.{names_there, some_and, value_here}
-use Rattle.move_core.proofs.Operated.{FoundList, list_names}
+use Rattle.move_core.proofs.Operated.{ListNames, list_names}
 
 same_Some : {A : Type 0} (x y : A) → Some x ≡ Some y → x ≡ y
 same_Some x y e = cc
 
-some_list : {P : List (List ℕ) → Type 0} (o : Option (List (List ℕ))) (items : List (List ℕ)) → o ≡ Some items → P items → IsSomeAnd o P
-some_list {P = P} o items is holds = subst (λ q. IsSomeAnd q P) (sym is) holds
+some_list : (P : List (List ℕ) → Type 0) (o : Option (List (List ℕ))) (items : List (List ℕ)) → o ≡ Some items → P items → IsSomeAnd o P
+some_list P o items is holds = subst (λ q. IsSomeAnd q P) (sym is) holds
 
 -- ---- generated moves
 
@@ -52,10 +52,10 @@ item_defined cur goal (Add p x) is = absurd is
 item_defined cur goal (Remove p) is = absurd is
 item_defined cur goal (Replace p x) is = absurd is
 item_defined cur goal (AddItem p i x) is =
-    some_list (list_at cur p) is.0.old is.0.here (some_taken is.0.old is.0.new i x is.0.first.before is.1.0)
+    some_list (λ items. i ≤ length items) (list_at cur p) is.0.old is.0.here (some_taken is.0.old is.0.new i x is.0.first.before is.1.0)
 item_defined cur goal (RemoveItem p i) is =
     let at = some_and (slice_get is.0.old i) is.1 in
-    some_list (list_at cur p) is.0.old is.0.here (slice_get_within is.0.old i at.0 at.1)
+    some_list (λ items. i < length items) (list_at cur p) is.0.old is.0.here (slice_get_within is.0.old i at.0 at.1)
 
 -- ---- what has a want
 
@@ -106,7 +106,7 @@ list_kind true items ts is = sym (same_Some _ _ is)
 list_kind false items ts is = absurd cc
 
 in_rule : (items : List (List ℕ)) (i : ℕ) (rule : FieldRule) (x : DataType × List ℕ) (o : Option (List (List ℕ))) → texts_by_kind rule.list (Listed items) ≡ o
-    → option_and_then (λ ts. option_map (λ s. (ts.0, s)) (slice_get ts.1 i)) (option_map (λ ts. (data_type rule.ty, ts)) o) ≡ Some x → i < length items
+    → option_and_then {T = DataType × List (List ℕ)} (λ ts. option_map (λ s. (ts.0, s)) (slice_get ts.1 i)) (option_map (λ ts. (data_type rule.ty, ts)) o) ≡ Some x → i < length items
 in_rule items i rule x None is typed = absurd cc
 in_rule items i rule x (Some ts) is typed = within (slice_get ts i) refl typed
   where
@@ -115,11 +115,11 @@ in_rule items i rule x (Some ts) is typed = within (slice_get ts i) refl typed
     within (Some s) at e = subst (λ ys. i < length ys) (list_kind rule.list items ts is) (slice_get_within ts i s at)
 
 item_within : (shape : Shape) (name : List ℕ) (items : List (List ℕ)) (i : ℕ) (x : DataType × List ℕ)
-    → option_and_then (λ ts. option_map (λ s. (ts.0, s)) (slice_get ts.1 i)) (texts_of shape (name, Listed items)) ≡ Some x → i < length items
+    → option_and_then {T = DataType × List (List ℕ)} (λ ts. option_map (λ s. (ts.0, s)) (slice_get ts.1 i)) (texts_of shape (name, Listed items)) ≡ Some x → i < length items
 item_within shape name items i x typed = by_rule (rule_of name shape) typed
   where
     by_rule : (o : Option FieldRule)
-        → option_and_then (λ ts. option_map (λ s. (ts.0, s)) (slice_get ts.1 i)) (option_and_then (λ rule. option_map (λ ts. (data_type rule.ty, ts)) (texts_by_kind rule.list (Listed items))) o) ≡ Some x
+        → option_and_then {T = DataType × List (List ℕ)} (λ ts. option_map (λ s. (ts.0, s)) (slice_get ts.1 i)) (option_and_then (λ rule. option_map (λ ts. (data_type rule.ty, ts)) (texts_by_kind rule.list (Listed items))) o) ≡ Some x
         → i < length items
     by_rule None e = absurd cc
     by_rule (Some rule) e = in_rule items i rule x (texts_by_kind rule.list (Listed items)) refl e
@@ -141,13 +141,14 @@ module _ (models : ModelSet) (c : Config) (formed : IsConfig c) (p : Place) (wan
       let here = value_here c formed p at.table named.table named.is_table at.key named.entry named.is_entry l named.field named.is_field in
       let value = list_value named.field.1 items (sym (ap (option_and_then list_in) (ap (part_at c) named.names ∙ here)) ∙ is) in
       item_within shape named.field.0 items at.item x
-      (sym (ap (λ o. option_and_then (λ ts. option_map (λ s. (ts.0, s)) (slice_get ts.1 at.item)) (option_and_then (texts_of shape) o))
+      (sym (ap (λ o. option_and_then {T = DataType × List (List ℕ)} (λ ts. option_map (λ s. (ts.0, s)) (slice_get ts.1 at.item)) (option_and_then (texts_of shape) o))
       (ap (λ fs. slice_get fs l) fields ∙ named.is_field ∙ ap (λ v. Some (named.field.0, v)) value)) ∙ typed)
 
   -- a key is no list
   no_list : (at : WantPlace) (items : List (List ℕ)) → names_of c at ≡ Some p → at.field ≡ None → list_at c p ≡ Some items → ⊥
   no_list at items names none is = two (slice_get c at.table) (sym (ap (λ f. option_and_then (λ t. option_and_then (λ e. option_map (λ g. t.0 ∷ e.0 ∷ g) (field_names e.1 f)) (slice_get t.1 at.key)) (slice_get c at.table)) none) ∙ names)
     where
+      found : ListNames c p items
       found = list_names c p items is
 
       in_key : (t : List ℕ × Table) (o : Option (List ℕ × Entry)) → option_and_then (λ e. option_map (λ g. t.0 ∷ e.0 ∷ g) (field_names e.1 None)) o ≡ Some p → ⊥
@@ -171,6 +172,6 @@ module _ (models : ModelSet) (c : Config) (formed : IsConfig c) (p : Place) (wan
   want_defined (Some i) has =
       let list = indexed (list_at c p) has.at.item i has.index in
       let typed = some_and _ has.wanted.wanted in
-      some_list (list_at c p) list.0 list.1
+      some_list (λ items. i < length items) (list_at c p) list.0 list.1
       (subst (λ n. n < length list.0) list.2
       (by_field has.at has.wanted.row has.wanted.shape typed.0 list.0 has.wanted.at has.names list.1 has.at.field refl typed.1))

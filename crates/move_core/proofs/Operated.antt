@@ -189,19 +189,19 @@ value_edit edit c t k f table entry g at_table at_entry inner =
 
 -- ---- lists at places
 
-record FoundList (c : Config) (t k f : List ℕ) (items : List (List ℕ)) : Type 0 where
-  table : Table
-  entry : Entry
-  at_table : find t c ≡ Some table
-  at_entry : find k table ≡ Some entry
-  at_field : find f entry ≡ Some (Listed items)
+pub record FoundList (c : Config) (t k f : List ℕ) (items : List (List ℕ)) : Type 0 where
+  pub table : Table
+  pub entry : Entry
+  pub at_table : find t c ≡ Some table
+  pub at_entry : find k table ≡ Some entry
+  pub at_field : find f entry ≡ Some (Listed items)
 
 no_list_in : {A : Type 0} (g : A → Part) (o : Option A) (items : List (List ℕ)) → ((a : A) → list_in (g a) ≡ None)
     → option_and_then list_in (option_map g o) ≢ Some items
 no_list_in g None items none is = cc
 no_list_in g (Some a) items none is = let no = none a in cc
 
-pub found_list : (c : Config) (t k f : List ℕ) (items : List (List ℕ)) → list_at c (t ∷ k ∷ f ∷ []) ≡ Some items → FoundList c t k f items
+found_list : (c : Config) (t k f : List ℕ) (items : List (List ℕ)) → list_at c (t ∷ k ∷ f ∷ []) ≡ Some items → FoundList c t k f items
 found_list c t k f items is = look (find t c) refl is
   where
     same_Some : {A : Type 0} (x y : A) → Some x ≡ Some y → x ≡ y

@@ -59,6 +59,7 @@ fn pointer_to_item(alloc: Global, path: &Path, index: usize) -> Result<Pointer, 
 }
 
 /// An index in decimal.
+#[tactic(auto, using(crate::proofs::Indexed::written_index))]
 fn index_token(alloc: Global, index: usize) -> Result<Txt, Memory>
     ensures { IfOk result (λ t. t ≡ index_text index) }
 {
