@@ -5,7 +5,7 @@ use gcu_engine::{Outcome, kit_extenders, kit_generators, kit_rules, run};
 use host_core::Memory;
 use move_core::Kit;
 use move_extend::{DeleteExt, ReferrersExt, RequiredExt, UpperExt};
-use move_gen::{FieldGen, KeyGen, SeedGen, TableGen};
+use move_gen::{FieldGen, ItemGen, KeyGen, SeedGen, TableGen};
 use move_rules::{CreateOnlyRule, NoDependencyRule, NoEmptyRule, RequiredRule};
 use real_host::{RealHost, words};
 use recheck::RecheckRule;
@@ -29,6 +29,7 @@ fn obey(rt: HostRuntime) -> Result<Outcome, Memory> {
         Box::new(alloc, KeyGen::new())?,
         Box::new(alloc, FieldGen::new())?,
         Box::new(alloc, SeedGen::new())?,
+        Box::new(alloc, ItemGen::new())?,
     )?;
     let exts = kit_extenders(
         alloc,

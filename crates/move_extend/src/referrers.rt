@@ -1,12 +1,12 @@
 //! The extender of referrers.
-ghost use Rattle.std.specs.Prelude.{◌≡◌, ◌↔◌, [], map, Some, IfOk, IsTrue, OnOk};
+ghost use Rattle.std.specs.Prelude.{◌≡◌, ◌↔◌, [], map, Some, IfOk, IsSome, IsTrue, OnOk};
 ghost use Rattle.conf_check.specs.Wants.{want_of};
 ghost use Rattle.conf_doc.specs.Pairs.{find};
 ghost use Rattle.conf_doc.specs.Paths.{IsPath};
 ghost use Rattle.move_core.specs.Appends.{Appends};
 ghost use Rattle.move_core.specs.Contexts.{rulebook};
 ghost use Rattle.move_core.specs.Extensions.{IsReferrer};
-ghost use Rattle.move_core.specs.Moves.{IsDefined};
+ghost use Rattle.move_core.specs.Moves.{IsDefined, list_at};
 ghost use Rattle.key_split.specs.Key.{key_parts};
 ghost use Rattle.move_extend.specs.Entries.{entry_of};
 ghost use Rattle.move_extend.specs.Found.{Finds};
@@ -20,7 +20,7 @@ use crate::kept_keys::{keeps_always, keeps_keys};
 use crate::mentions::{Gone, mentions_one, parts_of};
 use crate::referring::{is_referred, table_refers};
 use conf_check::{Want, WantAt, entry_wants, is_satisfied, wants};
-use conf_doc::{Config, Entry, Path, Table};
+use conf_doc::{Config, Entry, Path, Table, Value};
 use host_core::Memory;
 use move_core::{Ctx, Move, MoveExt, Moves, step};
 use std::alloc::Global;
