@@ -45,4 +45,4 @@ item_field_told t k old f v g h = of_lists h.before v h.is
       where
         at_index : IsItemAt ss us (t ∷ k ∷ f ∷ []) is.index g → field_name g ≡ Some f
         at_index (inl at) = ap field_name at.1
-        at_index (inr at) = ap field_name at.2.1
+        at_index (inr at) = ap field_name at.2

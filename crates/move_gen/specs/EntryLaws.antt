@@ -51,7 +51,7 @@ items_for t k old f v g h = of_lists h.before v h.is
       where
         at_index : IsItemAt ss us (t ∷ k ∷ f ∷ []) is.index g → IsForEntry t k g
         at_index (inl at) = begins t k (f ∷ []) g _ at.1 refl
-        at_index (inr at) = begins t k (f ∷ []) g _ at.2.1 refl
+        at_index (inr at) = begins t k (f ∷ []) g _ at.2 refl
 
 -- those of its fields
 pub lists_for : (cur : Config) → AreForEntries (IsOfItemsOfEntry cur)

@@ -18,6 +18,10 @@ use Rattle.move_gen.specs.Giving.{Giver, IsOfSome}
 abbrev pub IsRemovedItem : (old new : List (List ℕ)) → Place → ℕ → Generated → Type 0
 IsRemovedItem old new p i g = IsItemRemoved old new i × (g ≡ own_move (RemoveItem p i) item_class)
 
+-- goal has an item there that cur's list lacks
+abbrev pub HasNewItem : (old new : List (List ℕ)) → ℕ → Type 0
+HasNewItem old new i = (text : List ℕ) × IsItemAdded old new i text
+
 -- the add of goal's item there
 abbrev pub IsAddedItem : (old new : List (List ℕ)) → Place → ℕ → Generated → Type 0
 IsAddedItem old new p i g =

@@ -1,10 +1,10 @@
 //! The moves of items of lists.
 ghost use Rattle.std.specs.Prelude.{◌≡◌, ◌↔◌, ◌<◌, ◌≤◌, [], ◌∷◌, length, IsTrue, MatchOption};
 ghost use Rattle.std.specs.List.{Contains};
-ghost use Rattle.move_core.specs.Generated.{IsFirstDifference, IsFromItems, IsItemRemoved};
+ghost use Rattle.move_core.specs.Generated.{IsFirstDifference, IsFromItems, IsItemAdded, IsItemRemoved};
 ghost use Rattle.move_gen.specs.EntryLaws.{lists_for};
 ghost use Rattle.move_gen.specs.Giving.{Gives, IsOfSome};
-ghost use Rattle.move_gen.specs.ItemsGiven.{IsAddedItem, IsItemAt, IsItemOfField, IsOfItems, IsOfItemsOfEntry, IsOfLists, IsRemovedItem};
+ghost use Rattle.move_gen.specs.ItemsGiven.{HasNewItem, IsAddedItem, IsItemAt, IsItemOfField, IsOfItems, IsOfItemsOfEntry, IsOfLists, IsRemovedItem};
 
 use crate::beside::field_near;
 use crate::entries::{EntryMoves, give_entries};
@@ -93,13 +93,20 @@ fn shorter(a: usize, b: usize) -> usize
     if a < b { a } else { b }
 }
 
+/// Whether two texts are the same.
+fn is_same(a: &Txt, b: &Txt) -> bool
+    ensures { IsTrue result ↔ (a.now ≡ b.now) }
+{
+    a.as_str() == b.as_str()
+}
+
 /// How many items stand before the first difference of two lists, where there is one.
 fn first_difference(old: &[Txt], new: &[Txt]) -> Option<usize>
     ensures { MatchOption result (old.now ≡ new.now) (IsFirstDifference old.now new.now) }
 {
     let common = shorter(old.len(), new.len());
     for i in 0..common {
-        if old[i].as_str() != new[i].as_str() {
+        if !is_same(&old[i], &new[i]) {
             return Some(i);
         }
     }
@@ -144,6 +151,22 @@ fn remove_item(
     give_own(alloc, Move::RemoveItem(place, i), ITEM_CLASS, out)
 }
 
+/// Goal's item at an index, where cur's list lacks its text.
+fn new_item<'n>(old: &[Txt], new: &'n [Txt], i: usize) -> Option<&'n Txt>
+    ensures { MatchOption result (¬ HasNewItem old.now new.now i)
+        (λ text. IsItemAdded old.now new.now i text.now) }
+{
+    if i >= new.len() {
+        return None;
+    }
+    let item = &new[i];
+    if has_text(old, item.as_str()) {
+        None
+    } else {
+        Some(item)
+    }
+}
+
 /// Puts the add of goal's item there, where cur's list lacks its text.
 fn add_item(
     alloc: Global,
@@ -155,12 +178,14 @@ fn add_item(
 ) -> Result<(), Memory>
     ensures { Gives (IsAddedItem old.now new.now place.now i) result out.old.items out.new.items }
 {
-    if i >= new.len() || has_text(old, new[i].as_str()) {
-        return Ok(());
+    match new_item(old, new, i) {
+        Some(item) => {
+            let place = place.copy(alloc)?;
+            let text = item.copy(alloc)?;
+            give_own(alloc, Move::AddItem(place, i, text), ITEM_CLASS, out)
+        }
+        None => Ok(()),
     }
-    let place = place.copy(alloc)?;
-    let text = new[i].copy(alloc)?;
-    give_own(alloc, Move::AddItem(place, i, text), ITEM_CLASS, out)
 }
 
 /// Puts both.

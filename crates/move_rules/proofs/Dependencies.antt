@@ -1,5 +1,5 @@
 -- The rule against dependencies, from the entries that it looks at to all.
-use Rattle.std.proofs.Common.{◌≡◌, ◌≤◌, ◌⊎◌, ◌↔◌, inl, inr, ℕ, List, [], ◌∷◌, ◌++◌, Bool, true, false, Option, Some, None, option_map, option_and_then, length, slice_get, map, IsTrue, refl, sym, ap, ◌∙◌, subst, arith}
+use Rattle.std.proofs.Common.{◌≡◌, ◌≤◌, ◌⊎◌, ◌↔◌, inl, inr, ℕ, List, [], ◌∷◌, ◌++◌, Bool, true, false, Option, Some, None, option_map, option_and_then, length, slice_get, map, nat_eq, IsTrue, refl, sym, ap, ◌∙◌, subst, arith}
 use Rattle.std.specs.Option.{option_to_list}
 use Rattle.conf_doc.specs.Pairs.{find, IsRising}
 use Rattle.conf_doc.specs.WellFormed.{IsConfig}
@@ -7,6 +7,7 @@ use Rattle.conf_doc.specs.declared.configuration.Config.{Config}
 use Rattle.conf_doc.specs.declared.configuration.Entry.{Entry}
 use Rattle.conf_doc.specs.declared.configuration.Table.{Table}
 use Rattle.conf_doc.proofs.Edits.{find_at, same_Some}
+use Rattle.std.proofs.lemmas.Bool.{eq-eqb, eqb-true}
 use Rattle.std.proofs.lemmas.List.{append-nil}
 use Rattle.std.proofs.lemmas.Option.{slice_get-map}
 use Rattle.conf_doc.specs.declared.parts.Part.{Part}
@@ -107,6 +108,21 @@ module _ (t k : List ℕ) (b : Bool) where
     where
       both_ways : (d : Bool) → d ≡ true → d ≡ false → ⊥
       both_ways d first second = cc
+
+-- a place that lies below another and has as many names is that one
+pub at_itself : (p q : Place) (n m : ℕ) → n ≡ length p → m ≡ length q → IsAtOrBelow p q → IsTrue (nat_eq n m) ↔ (q ≡ p)
+at_itself p q n m left right below = (
+  λ t.
+      let same : n ≡ m = eqb-true n m t in
+      let none = no_more p below.0 (sym left ∙ same ∙ right ∙ ap length below.1) in
+      below.1 ∙ ap (λ rest. p ++ rest) none ∙ append-nil p,
+  λ is. eq-eqb n m (left ∙ ap length (sym is) ∙ sym right),
+)
+  where
+    no_more : (xs ys : Place) → length xs ≡ length (xs ++ ys) → ys ≡ []
+    no_more [] [] e = refl
+    no_more [] (y ∷ ys) e = absurd (omega arith)
+    no_more (x ∷ xs) ys e = no_more xs ys (omega arith)
 
 -- ---- and back
 
@@ -216,9 +232,9 @@ module _ (models : ModelSet) (c other : Config) (at : Place) (index : Option ℕ
 -- ---- from entries to all
 
 -- what is meant is the place or lies below it
-meant_below : (at : Place) (index : Option ℕ) (n : Place) (item : Option ℕ) → IsMeant at index n item → IsAtOrBelow at n
-meant_below at None n item is = is
-meant_below at (Some i) n item is = ([], is.0 ∙ sym (append-nil at))
+meant_below : (at : Place) (index : Option ℕ) (n : Place) (i : Option ℕ) → IsMeant at index n i → IsAtOrBelow at n
+meant_below at None n _ is = is
+meant_below at (Some i) n _ is = ([], is.0 ∙ sym (append-nil at))
 
 module _ (models : ModelSet) (c other : Config) (at : Place) (index : Option ℕ) where
   of_entry : KeepsWants models c other at index → (t k : List ℕ) → EntryKeeps models c other at index t k
