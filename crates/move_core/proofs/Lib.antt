@@ -10,3 +10,4 @@ pub mod Modelled
 pub mod Operated
 pub mod PlanTexts
 pub mod Seen
+pub mod WantedItems

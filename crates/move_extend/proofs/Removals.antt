@@ -16,7 +16,7 @@ use Rattle.conf_check.specs.declared.want_iter.WantIter.{WantIter}
 use Rattle.conf_check.specs.declared.want_iter.WantPlace.{WantPlace}
 use Rattle.yang_model.specs.ModelSets.{ModelSet}
 use Rattle.move_core.specs.Appends.{Appends}
-use Rattle.move_core.specs.Contexts.{item_at, names_of, rulebook}
+use Rattle.move_core.specs.Contexts.{item_at as item_number, names_of, rulebook}
 use Rattle.move_core.specs.Extensions.{removal, IsReferrer}
 use Rattle.move_core.specs.Moves.{Place, index, list_at, part_after, place, step}
 use Rattle.move_core.specs.Services.{table_of}
@@ -38,7 +38,7 @@ module _ (ctx : Ctx) (cur next : Config) (m x : Move) (t : List ℕ) (is : next 
   to_referrer : GivesRemovals ctx.models cur next t x → IsReferrer (rulebook ctx) cur m x
   to_referrer given = record {
     at = given.place;
-    item = item_at cur given.place given.at.item;
+    item = item_number cur given.place given.at.item;
     want = given.want;
     there = record { at = given.at; wanted = given.wanted; names = given.names; index = refl };
     broken = λ satisfied. given.broken.1 (subst (λ c. IsSatisfied ctx.models c given.want.target given.want.text) (sym is) satisfied);
@@ -199,9 +199,9 @@ module _ (models : ModelSet) (cur next : Config) (t : List ℕ) where
       again_now p w n ahead names (inl h) =
           let was : IsFound models cur next t s (removal_at cur n p.item) = walk.each (removal_at cur n p.item) h in
           let q : WantPlace = was.given.at in
-          let same = removal_is n was.given.place (item_at cur n p.item) (item_at cur was.given.place q.item) was.given.move in
+          let same = removal_is n was.given.place (item_number cur n p.item) (item_number cur was.given.place q.item) was.given.move in
           let place : n ≡ was.given.place = same.0 in
-          let number : item_at cur n p.item ≡ item_at cur n q.item = same.1 ∙ ap (λ r. item_at cur r q.item) (sym place) in
+          let number : item_number cur n p.item ≡ item_number cur n q.item = same.1 ∙ ap (λ r. item_number cur r q.item) (sym place) in
           let one : IsOneSlot q p = one_slot cur q p n well (was.given.names ∙ ap Some (sym place)) names in
           let before : IsPlaceBefore q first.place = was.before first.place (want_of a.want) first.wanted in
           let after : IsPlaceBefore first.place p = (first.behind p w ahead).0 in

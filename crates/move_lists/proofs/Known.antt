@@ -24,7 +24,8 @@ use Rattle.move_core.specs.declared.settings.Required.{Required}
 use Rattle.move_lists.specs.Finite.{IsFinite}
 use Rattle.move_lists.proofs.Finite.{finite_each, finite_either, finite_found, finite_image, finite_one, finite_some, finite_within}
 use Rattle.move_core.proofs.Defined.{list_place, some_and}
-use Rattle.move_lists.proofs.Indexed.{IsIndexOf, finite_indexes, index_at, wanted_index}
+use Rattle.move_lists.proofs.Indexed.{IsIndexOf, finite_indexes, index_at, text_index}
+use Rattle.move_core.proofs.WantedItems.{wanted_item}
 use Rattle.move_lists.proofs.Selected.{IsSelected, finite_selected, found_member}
 use Rattle.move_lists.proofs.Standing.{IsStanding, entry_found, finite_standing, has_standing, named_standing, part_standing, upper_standing}
 
@@ -296,7 +297,7 @@ module _ (ctx : Ctx) (cur goal : Config) where
 
       by : (item : Option ℕ) → HasWant ctx.models cur is.at item is.want → IsKnown (removal is.at item)
       by None has = inl (is.at, inl stands, refl)
-      by (Some i) has = inr (inr (inr (inr (inl (is.at, stands, (i, wanted_index ctx.models cur is.at i has, refl))))))
+      by (Some i) has = inr (inr (inr (inr (inl (is.at, stands, (i, text_index cur i (wanted_item ctx.models cur is.at i is.want has), refl))))))
 
   from_rules : (m x : Move) → IsRequired (rulebook ctx) cur m x → IsKnown x
   from_rules m x is =
