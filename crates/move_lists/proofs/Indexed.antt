@@ -36,11 +36,11 @@ below (suc n) = n ∷ below n
 
 is_below : (n i : ℕ) → i < n → Contains (below n) i
 is_below zero i less = absurd (omega arith)
-is_below (suc n) i less = by (order i n)
+is_below (suc n) i less = by (is_below n i) (order i n)
   where
-    by : (i < n) ⊎ (n ≤ i) → Contains (below (suc n)) i
-    by (inl before) = later_member n (below n) i (is_below n i before)
-    by (inr rest) = let same : n ≡ i = omega arith in subst (Contains (below (suc n))) same (first_member n (below n))
+    by : (i < n → Contains (below n) i) → (i < n) ⊎ (n ≤ i) → Contains (below (suc n)) i
+    by rest (inl before) = later_member n (below n) i (rest before)
+    by rest (inr past) = let same : n ≡ i = omega arith in subst (Contains (below (suc n))) same (first_member n (below n))
 
 finite_below : (n : ℕ) → IsFinite (λ i. i < n)
 finite_below n = (below n, is_below n)
