@@ -83,12 +83,7 @@ fn with_item(
 }
 
 /// The list at a place without the item at an index.
-fn without_item(
-    alloc: Global,
-    config: &Config,
-    path: &Path,
-    index: usize,
-) -> Result<Part, Memory>
+fn without_item(alloc: Global, config: &Config, path: &Path, index: usize) -> Result<Part, Memory>
     requires { IsSomeAnd (list_at config.now path.now) (λ items. index < length items) }
     ensures { IfOk result
         (λ p. p ≡ list_part (removed_at (items_at config.now path.now) index)) }

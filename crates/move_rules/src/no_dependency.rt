@@ -184,7 +184,15 @@ fn keys_keep(
         IsTrue result ↔ AreAll Keeps (map (λ e. e.0) entries.now) }
 {
     for i in 0..entries.len() {
-        if !entry_keeps(models, config, other, place, index, table, entries.name_at(i)) {
+        if !entry_keeps(
+            models,
+            config,
+            other,
+            place,
+            index,
+            table,
+            entries.name_at(i),
+        ) {
             return false;
         }
     }
