@@ -1,12 +1,12 @@
 -- An index in decimal, as a token at a list.
 use Rattle.std.specs.Int.Digits.{digits_of, number_from_digits, number_from_digits_after, AllBelowBase}
-use Rattle.std.proofs.Common.{◌≡◌, ℕ, zero, suc, ◌+◌, ◌-◌, ◌*◌, ◌<◌, ◌^◌, ◌==◌, List, [], ◌∷◌, length, get_or, map, fold, true, false, ◌&&◌, not, nat_le, codes, decimal, refl, sym, ap, ◌∙◌, arith}
+use Rattle.std.proofs.Common.{◌≡◌, ℕ, zero, suc, ◌+◌, ◌*◌, ◌<◌, ◌^◌, ◌==◌, List, [], ◌∷◌, length, get_or, map, fold, true, false, not, nat_le, decimal, refl, ap, ◌∙◌, arith}
 use Rattle.std.proofs.lemmas.Bool.{and_from, le-leb}
 use Rattle.std.proofs.lemmas.Fmt.{decimal-digits_of, decimal_digit}
 use Rattle.std.proofs.lemmas.Int.Digits.{all_below_base_digits_of, first_digits_of, number_digits_of}
 use Rattle.std.specs.Char.{is_ascii_digit}
 use Rattle.std.specs.List.{list_all}
-use Rattle.patch_core.specs.Indexes.{base, dash, digit_0, index, is_dash, is_index, list_token, number, with_digit}
+use Rattle.patch_core.specs.Indexes.{base, dash, digit_0, index, is_dash, is_index, list_token, with_digit}
 use Rattle.patch_core.proofs.Numbers.{list_token_at_index}
 use Rattle.move_core.specs.Operations.{index_text}
 

@@ -1,8 +1,8 @@
 -- Items of lists: moves of them are defined, and so is the removal of what has a want.
-use Rattle.std.proofs.Common.{◌≡◌, ℕ, zero, suc, ◌<◌, ◌≤◌, List, [], ◌∷◌, length, take, Bool, true, false, Option, Some, None, option_map, option_and_then, is_some, IsSome, IsSomeAnd, slice_get, if◌then◌else◌, refl, sym, ap, ◌∙◌, subst, arith}
+use Rattle.std.proofs.Common.{◌≡◌, ℕ, zero, suc, ◌<◌, ◌≤◌, List, [], ◌∷◌, length, take, Bool, true, false, Option, Some, None, option_map, option_and_then, is_some, IsSomeAnd, slice_get, if◌then◌else◌, refl, sym, ap, ◌∙◌, subst, arith}
 use Rattle.std.proofs.lemmas.List.{length-take-le}
 use Rattle.std.proofs.lemmas.Option.{slice_get_within}
-use Rattle.conf_doc.specs.Changes.{part_at, HasPlace}
+use Rattle.conf_doc.specs.Changes.{part_at}
 use Rattle.conf_doc.specs.WellFormed.{IsConfig}
 use Rattle.conf_doc.specs.declared.configuration.Config.{Config}
 use Rattle.conf_doc.specs.declared.configuration.Entry.{Entry}
@@ -11,16 +11,16 @@ use Rattle.conf_doc.specs.declared.configuration.Value.{Value}
 use Rattle.conf_doc.specs.declared.configuration.Value.TheVariants.{Text, List as Listed}
 use Rattle.conf_doc.specs.declared.parts.Part.TheVariants as part
 use Rattle.conf_check.specs.Rows.{if_modelled, row_at, row_of, rule_of, texts_by_kind, texts_of, typed_item, typed_text, Row}
-use Rattle.conf_check.specs.Wants.{IsWantAt, Want}
+use Rattle.conf_check.specs.Wants.{Want}
 use Rattle.conf_check.specs.declared.want_iter.WantPlace.{WantPlace}
 use Rattle.yang_model.specs.ModelSets.{ModelSet, table_named}
 use Rattle.yang_model.specs.declared.shapes.FieldRule.{FieldRule}
 use Rattle.yang_model.specs.declared.shapes.Shape.{Shape}
 use Rattle.yang_types.specs.DataType.{DataType}
 use Rattle.yang_types.specs.DataTypes.{data_type}
-use Rattle.move_core.specs.Contexts.{HasWant, field_names, item_at, names_of}
+use Rattle.move_core.specs.Contexts.{HasWant, field_names, names_of}
 use Rattle.move_core.specs.Extensions.{removal}
-use Rattle.move_core.specs.Generated.{IsFirstDifference, IsItemMove, IsItemRemoved}
+use Rattle.move_core.specs.Generated.{IsItemMove}
 use Rattle.move_core.specs.Moves.{IsDefined, Place, list_at, list_in}
 use Rattle.move_core.specs.declared.moves.Move.{Move}
 use Rattle.move_core.specs.declared.moves.Move.TheVariants.{Add, Remove, Replace, AddItem, RemoveItem}

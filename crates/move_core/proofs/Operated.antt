@@ -1,5 +1,5 @@
 -- What a move's operation makes of the tree of a configuration.
-use Rattle.std.proofs.Common.{◌≡◌, ◌≢◌, ℕ, zero, suc, ◌<◌, ◌≤◌, List, [], ◌∷◌, ◌++◌, length, take, drop, map, slice_get, not, Bool, true, false, cond, Option, Some, None, option_map, option_and_then, is_some, IsSome, IsSomeAnd, unwrap_or, Ok, refl, sym, ap, ◌∙◌, subst, arith}
+use Rattle.std.proofs.Common.{◌≡◌, ◌≢◌, ℕ, zero, suc, ◌<◌, ◌≤◌, List, [], ◌∷◌, ◌++◌, length, take, drop, map, not, Bool, true, false, cond, Option, Some, None, option_map, option_and_then, is_some, IsSome, IsSomeAnd, unwrap_or, Ok, refl, sym, ap, ◌∙◌, subst, arith}
 use Rattle.std.proofs.lemmas.Option.{slice_get-get_or, slice_get-map}
 use Rattle.std.specs.List.{insert, remove as removed_at}
 use Rattle.std.specs.FinMap.Entries.{by_order}

@@ -7,7 +7,7 @@ use Rattle.conf_doc.specs.declared.configuration.Value.TheVariants.{Text}
 use Rattle.conf_doc.specs.declared.parts.Part.{Part}
 use Rattle.conf_doc.specs.declared.parts.Part.TheVariants as part
 use Rattle.key_split.specs.Key.{key_parts}
-use Rattle.move_core.specs.Moves.{Place, place, step}
+use Rattle.move_core.specs.Moves.{Place, step}
 use Rattle.move_core.specs.Rulebook.{Rulebook}
 use Rattle.move_core.specs.declared.moves.Move.{Move}
 use Rattle.move_core.specs.declared.moves.Move.TheVariants.{Add, Remove, Replace, AddItem, RemoveItem}

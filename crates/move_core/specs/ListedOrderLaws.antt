@@ -17,7 +17,7 @@ use Rattle.conf_doc.specs.declared.configuration.Value.{Value}
 use Rattle.conf_doc.specs.declared.configuration.Value.TheVariants.{Text, List as Texts}
 use Rattle.conf_doc.specs.declared.parts.Part.{Part}
 use Rattle.conf_doc.specs.declared.parts.Part.TheVariants as part
-use Rattle.move_core.specs.ListedOrder.{action, listed_cmp, move_cmp, new_cmp, path_cmp, place_cmp, rank_cmp}
+use Rattle.move_core.specs.ListedOrder.{action, listed_cmp, move_cmp, path_cmp, place_cmp, rank_cmp}
 use Rattle.move_core.specs.Moves.{index, new_part, new_text, place}
 use Rattle.move_core.specs.declared.moves.Move.{Move}
 use Rattle.move_core.specs.declared.moves.Move.TheVariants.{Add, Remove, Replace, AddItem, RemoveItem}

@@ -19,7 +19,7 @@ use Rattle.conf_check.specs.declared.want_iter.WantIter.{WantIter}
 use Rattle.conf_check.specs.declared.want_iter.WantPlace.{WantPlace}
 use Rattle.yang_model.specs.ModelSets.{ModelSet}
 use Rattle.move_core.specs.Contexts.{field_names, item_at, names_of, rulebook}
-use Rattle.move_core.specs.Moves.{Place, list_at, list_in}
+use Rattle.move_core.specs.Moves.{Place}
 use Rattle.move_core.specs.Rules.{HasNoDependency, IsAtOrBelow}
 use Rattle.move_core.specs.declared.contexts.Ctx.{Ctx}
 use Rattle.move_core.specs.declared.moves.Move.TheVariants.{Add, Remove, Replace, AddItem, RemoveItem}
