@@ -11,7 +11,7 @@ use Rattle.conf_doc.specs.declared.parts.Part.TheVariants as part
 use Rattle.move_core.specs.Generated.{IsFieldMove, IsFromFields, field_class}
 use Rattle.move_core.specs.declared.moves.Generated.{Generated}
 use Rattle.move_core.specs.declared.moves.Move.{Move}
-use Rattle.move_core.specs.declared.moves.Move.TheVariants.{Add, Remove, Replace}
+use Rattle.move_core.specs.declared.moves.Move.TheVariants.{Add, Remove, Replace, AddItem, RemoveItem}
 use Rattle.chain_begins.specs.Given.{IsChangedEntry, IsOfFields, IsOfTable, IsRemovedField, IsSetField, own_move}
 use Rattle.chain_begins.specs.Giving.{IsOfSome}
 use Rattle.chain_begins.proofs.Owned.{apart_add, apart_replace, of_its_place, owned}
@@ -104,6 +104,8 @@ module _ (cur goal : Config) where
         is = inr (old.0, old.1.is, (other, e ∙ ap (λ y. own_move (Replace (t ∷ k ∷ f ∷ []) y) field_class) new.1));
       }))
   forth (Replace (t ∷ k ∷ f ∷ n ∷ ns) x) g e is = let long = is.0 in absurd (omega (arith, long))
+  forth (AddItem p i x) g e is = absurd is
+  forth (RemoveItem p i) g e is = absurd is
 
   some_part : (c : Config) (t k : List ℕ) (e : Entry) → IsEntryAt c t k e → HasPlace c (t ∷ k ∷ [])
   some_part c t k e at = subst IsSome (sym (there_entry c t k e at)) refl

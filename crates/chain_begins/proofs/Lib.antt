@@ -2,6 +2,7 @@ pub mod Appended
 pub mod Chosen
 pub mod FieldMoves
 pub mod Gathered
+pub mod ItemMoves
 pub mod KeyMoves
 pub mod Named
 pub mod Owned

@@ -9,3 +9,4 @@ pub mod FieldsOfEntry
 pub mod FieldWants
 pub mod Given
 pub mod Giving
+pub mod ItemsGiven

@@ -4,6 +4,7 @@ ghost use Rattle.chain_begins.specs.Begins.{AreGenerated};
 ghost use Rattle.move_core.specs.Contexts.{rulebook};
 
 use crate::fields::give_changes;
+use crate::items::give_items;
 use crate::keys::give_keys;
 use crate::seeds::give_seeds;
 use crate::tables::give_tables;
@@ -12,7 +13,7 @@ use host_core::Memory;
 use move_core::{Ctx, Generated};
 use std::alloc::Global;
 
-/// All generated moves: of tables, of entries, of fields, and of seeds.
+/// All generated moves: of tables, of entries, of fields, of seeds, and of items.
 pub fn generated_moves(
     alloc: Global,
     ctx: &Ctx,
@@ -27,5 +28,6 @@ pub fn generated_moves(
     give_keys(alloc, cur, goal, &mut moves)?;
     give_changes(alloc, cur, goal, &mut moves)?;
     give_seeds(alloc, ctx, cur, goal, &mut moves)?;
+    give_items(alloc, cur, goal, &mut moves)?;
     Ok(moves)
 }

@@ -14,11 +14,14 @@ pub(crate) const TABLE_CLASS: u8 = 0;
 /// The class of moves of whole entries.
 pub(crate) const KEY_CLASS: u8 = 1;
 
+/// The class of moves of items.
+pub(crate) const ITEM_CLASS: u8 = 2;
+
 /// The class of moves of fields.
-pub(crate) const FIELD_CLASS: u8 = 2;
+pub(crate) const FIELD_CLASS: u8 = 3;
 
 /// The class of seeds.
-pub(crate) const SEED_CLASS: u8 = 3;
+pub(crate) const SEED_CLASS: u8 = 4;
 
 /// Puts a move for a place.
 pub(crate) fn give(mv: Move, place: Path, class: u8, out: &mut Vec<Generated>) -> Result<(), Memory>

@@ -8,6 +8,7 @@ mod entries;
 mod field_wants;
 mod fields;
 mod giving;
+mod items;
 mod keys;
 mod seeds;
 mod tables;

@@ -13,9 +13,10 @@ use Rattle.conf_doc.specs.declared.parts.Part.TheVariants as part
 use Rattle.conf_check.specs.Acceptance.{IsSatisfied, keys_of}
 use Rattle.yang_model.specs.ModelSets.{ModelSet}
 use Rattle.yang_types.specs.declared.types.Target.{Target}
-use Rattle.move_core.specs.Moves.{Place, new_part, place, step}
+use Rattle.move_core.specs.Moves.{Place, new_part, part_after, place, step}
 use Rattle.move_core.specs.Services.{table_of}
 use Rattle.move_core.specs.declared.moves.Move.{Move}
+use Rattle.move_core.specs.declared.moves.Move.TheVariants.{Add, Remove, Replace, AddItem, RemoveItem}
 use Rattle.chain_extends.specs.KeptKeys.{HasKeys, KeepsAlways, KeepsKey, KeepsKeys}
 use Rattle.chain_extends.proofs.AtKeys.{by_key, found_key, key_found, same_entry, second_name, stands, there}
 use Rattle.chain_extends.proofs.Kept.{apart_by, other_key, own_key, same_by}
@@ -80,9 +81,17 @@ kept_keys c (t ∷ k ∷ rest) x long some key before =
           (subst IsSome (sym (other_key c t k rest x key (apart_by key k e))) (there c t key before))
     ] refl
 
+-- what is put at a place of two names stands there afterwards
+after : (m : Move) → (length (place m) ≡ 2 → IsSome (new_part m)) → (c : Config) → length (place m) ≡ 2 → IsSome (part_after c m)
+after (Add p x) some c two = refl
+after (Remove p) some c two = some two
+after (Replace p x) some c two = refl
+after (AddItem p i x) some c two = refl
+after (RemoveItem p i) some c two = refl
+
 -- a move of a field keeps the keys, and so does one that puts an entry
 pub keeps_kind : (m : Move) → 1 < length (place m) → (length (place m) ≡ 2 → IsSome (new_part m)) → KeepsAlways m
-keeps_kind m long some c = kept_keys c (place m) (new_part m) long some
+keeps_kind m long some c = kept_keys c (place m) (part_after c m) long (after m some c)
 
 -- ---- wants that stay satisfied
 

@@ -1,5 +1,5 @@
 -- The referrers that a move leaves without what they refer to.
-use Rattle.std.proofs.Common.{◌≡◌, ◌≢◌, ◌⊎◌, ◌↔◌, inl, inr, ℕ, List, [], ◌∷◌, get_or, true, false, Some, None, refl, sym, ap, ◌∙◌, subst, length, length-append, slice_get, ◌-◌, ◌++◌, arith}
+use Rattle.std.proofs.Common.{◌≡◌, ◌≢◌, ◌⊎◌, ◌↔◌, inl, inr, ℕ, ◌<◌, List, [], ◌∷◌, get_or, true, false, Option, Some, None, option_map, refl, sym, ap, ◌∙◌, subst, length, length-append, slice_get, ◌-◌, ◌++◌, arith}
 use Rattle.std.specs.List.{AllPairs, Contains}
 use Rattle.std.proofs.lemmas.List.Elements.{Contains-append_left, Contains-get_or, Contains-push, Contains-push_cases}
 use Rattle.std.proofs.lemmas.List.Quantifiers.{all_pairs_push}
@@ -16,21 +16,20 @@ use Rattle.conf_check.specs.declared.want_iter.WantIter.{WantIter}
 use Rattle.conf_check.specs.declared.want_iter.WantPlace.{WantPlace}
 use Rattle.yang_model.specs.ModelSets.{ModelSet}
 use Rattle.move_core.specs.Appends.{Appends}
-use Rattle.move_core.specs.Contexts.{names_of, rulebook}
-use Rattle.move_core.specs.Extensions.{IsReferrer}
-use Rattle.move_core.specs.Moves.{Place, new_part, place, step}
+use Rattle.move_core.specs.Contexts.{item_at as item_number, names_of, rulebook}
+use Rattle.move_core.specs.Extensions.{removal, IsReferrer}
+use Rattle.move_core.specs.Moves.{Place, index, list_at, part_after, place, step}
 use Rattle.move_core.specs.Services.{table_of}
 use Rattle.move_core.specs.declared.contexts.Ctx.{Ctx}
 use Rattle.move_core.specs.declared.moves.Move.{Move}
-use Rattle.move_core.specs.declared.moves.Move.TheVariants.{Remove}
 use Rattle.chain_extends.specs.Found.{IsLast}
 use Rattle.chain_extends.specs.KeptKeys.{KeepsKeys}
-use Rattle.chain_extends.specs.Referrers.{AddsRemoval, GivesRemovals, IsBroken, place_of}
+use Rattle.chain_extends.specs.Referrers.{AddsRemoval, GivesRemovals, IsBroken, place_of, removal_at, removal_of}
 use Rattle.chain_extends.proofs.Finding.{appends_found, finds_none, item_at}
 use Rattle.chain_extends.proofs.Kept.{apart_by, other_table, same_by}
 use Rattle.chain_extends.proofs.KeptKeys.{satisfied_elsewhere, still_satisfied}
 use Rattle.chain_extends.proofs.Names.{names_named}
-use Rattle.chain_extends.proofs.Slots.{IsOneSlot, between, one_slot, slot_names}
+use Rattle.chain_extends.proofs.Slots.{IsOneSlot, between, item_less, one_slot, slot_names}
 use Rattle.chain_extends.proofs.Wanted.{want_satisfied}
 
 -- ---- which they are
@@ -39,8 +38,9 @@ module _ (ctx : Ctx) (cur next : Config) (m x : Move) (t : List ℕ) (is : next 
   to_referrer : GivesRemovals ctx.models cur next t x → IsReferrer (rulebook ctx) cur m x
   to_referrer given = record {
     at = given.place;
+    item = item_number cur given.place given.at.item;
     want = given.want;
-    there = record { at = given.at; wanted = given.wanted; names = given.names };
+    there = record { at = given.at; wanted = given.wanted; names = given.names; index = refl };
     broken = λ satisfied. given.broken.1 (subst (λ c. IsSatisfied ctx.models c given.want.target given.want.text) (sym is) satisfied);
     move = given.move;
   }
@@ -49,7 +49,7 @@ module _ (ctx : Ctx) (cur next : Config) (m x : Move) (t : List ℕ) (is : next 
   elsewhere : (w : Want) → IsSatisfied ctx.models cur w.target w.text → w.target.table ≢ t → IsSatisfied ctx.models (step cur m) w.target w.text
   elsewhere w before other =
       satisfied_elsewhere ctx.models cur (step cur m) w.target w.text
-      (other_table cur (place m) (new_part m) w.target.table (λ same. other (same ∙ sym at))) before
+      (other_table cur (place m) (part_after cur m) w.target.table (λ same. other (same ∙ sym at))) before
 
   from_referrer : IsReferrer (rulebook ctx) cur m x → GivesRemovals ctx.models cur next t x
   from_referrer referrer =
@@ -67,7 +67,7 @@ module _ (ctx : Ctx) (cur next : Config) (m x : Move) (t : List ℕ) (is : next 
         broken = (table, λ satisfied. referrer.broken (subst (λ c. IsSatisfied ctx.models c w.target w.text) is satisfied));
         place = referrer.at;
         names = referrer.there.names;
-        move = referrer.move;
+        move = referrer.move ∙ ap (removal referrer.at) (sym referrer.there.index);
       }
 
   pub referrers : GivesRemovals ctx.models cur next t x ↔ IsReferrer (rulebook ctx) cur m x
@@ -92,9 +92,9 @@ no_removals ctx cur next m t is at keeps found empty =
 
 -- ---- one want after another
 
--- what is given of a want at its place
+-- what is given of a want
 abbrev GivesAt : ModelSet → Config → Config → List ℕ → WantPlace → Want → Move → Type 0
-GivesAt models cur next t p w x = IsBroken models next t w × (n : Place) × (names_of cur p ≡ Some n) × (x ≡ Remove n)
+GivesAt models cur next t p w x = IsBroken models next t w × (n : Place) × (names_of cur p ≡ Some n) × (x ≡ removal_at cur n p.item)
 
 -- what was found stands before the wants that the walk has ahead
 pub record IsFound (models : ModelSet) (cur next : Config) (t : List ℕ) (s : WantIter) (x : Move) : Type 0 where
@@ -111,8 +111,8 @@ pub record IsWalk (models : ModelSet) (cur next : Config) (t : List ℕ) (s : Wa
       → Contains found x ⊎ IsWantAhead s p w
   pub once : AllPairs (λ a b. a ≢ b) found
   pub again :
-      (p : WantPlace) (w : Want) (n : Place) → IsWantAhead s p w → names_of cur p ≡ Some n → Contains found (Remove n)
-      → IsLast found (Remove n)
+      (p : WantPlace) (w : Want) (n : Place) → IsWantAhead s p w → names_of cur p ≡ Some n → Contains found (removal_at cur n p.item)
+      → IsLast found (removal_at cur n p.item)
 
 last_there : {A : Type 0} (xs : List A) (a : A) → IsLast xs a → Contains xs a
 last_there xs a is = item_at xs (length xs - 1) a is
@@ -132,7 +132,14 @@ module _ (models : ModelSet) (cur next : Config) (t : List ℕ) where
     first = gives.gives
 
     abbrev x : Move
-    x = Remove (place_of a)
+    x = removal_of cur a
+
+    item : a.item ≡ first.place.item
+    item = (subst (λ c. IsNamed c first.place a) walk.of first.named).item
+
+    -- the removal by the number of the place
+    by_place : x ≡ removal_at cur (place_of a) first.place.item
+    by_place = ap (removal_at cur (place_of a)) item
 
     named : names_of cur first.place ≡ Some (place_of a)
     named = names_named cur first.place a (subst (λ c. IsNamed c first.place a) walk.of first.named)
@@ -148,7 +155,10 @@ module _ (models : ModelSet) (cur next : Config) (t : List ℕ) where
 
     -- what this want gives is this removal
     this : (p : WantPlace) (w : Want) (y : Move) → GivesAt models cur next t p w y → p ≡ first.place → y ≡ x
-    this p w y g place = g.3 ∙ ap Remove (same_Some g.1 (place_of a) (sym g.2 ∙ ap (names_of cur) place ∙ named))
+    this p w y g place =
+        let names : g.1 ≡ place_of a = same_Some g.1 (place_of a) (sym g.2 ∙ ap (names_of cur) place ∙ named) in
+        let number : p.item ≡ a.item = ap (λ q. q.item) place ∙ sym item in
+        g.3 ∙ (λ i. removal_at cur (names i) (number i))
 
     -- nothing was put
     stays : new ≡ found → (IsBroken models next t (want_of a.want) → Contains found x) → IsWalk models cur next t u new
@@ -170,28 +180,52 @@ module _ (models : ModelSet) (cur next : Config) (t : List ℕ) where
     -- the removal was put
     module _ (broken : IsBroken models next t (want_of a.want)) (other : ¬ IsLast found x) where
       absent : ¬ Contains found x
-      absent has = other (walk.again first.place (want_of a.want) (place_of a) first.wanted named has)
+      absent has =
+          other
+          (subst (IsLast found) (sym by_place)
+          (walk.again first.place (want_of a.want) (place_of a) first.wanted named (subst (Contains found) by_place has)))
 
       found_now : (y : Move) → Contains found y ⊎ (x ≡ y) → IsFound models cur next t u y
       found_now y (inl h) = still y (walk.each y h)
       found_now y (inr e) = subst (IsFound models cur next t u) e (record {
-        given = record { at = first.place; want = want_of a.want; wanted = wanted; broken = broken; place = place_of a; names = named; move = refl };
+        given = record { at = first.place; want = want_of a.want; wanted = wanted; broken = broken; place = place_of a; names = named; move = by_place };
         before = λ p w ahead. (first.behind p w ahead).0;
       })
 
       -- a place of the names of one that was found is of that entry or field, and so is what stands between
-      again_now : (p : WantPlace) (w : Want) (n : Place) → IsWantAhead u p w → names_of cur p ≡ Some n → Contains found (Remove n) ⊎ (x ≡ Remove n) → x ≡ Remove n
+      again_now : (p : WantPlace) (w : Want) (n : Place) → IsWantAhead u p w → names_of cur p ≡ Some n
+          → Contains found (removal_at cur n p.item) ⊎ (x ≡ removal_at cur n p.item) → x ≡ removal_at cur n p.item
       again_now p w n ahead names (inr e) = e
       again_now p w n ahead names (inl h) =
-          let was : IsFound models cur next t s (Remove n) = walk.each (Remove n) h in
-          let place : n ≡ was.given.place = place_is n was.given.place was.given.move in
-          let one : IsOneSlot was.given.at p = one_slot cur was.given.at p n well (was.given.names ∙ ap Some (sym place)) names in
-          let slot : IsOneSlot first.place p =
-          between was.given.at first.place p one (was.before first.place (want_of a.want) first.wanted) (first.behind p w ahead).0 in
-          ap Remove (same_Some (place_of a) n (sym named ∙ slot_names cur first.place p slot ∙ names))
+          let was : IsFound models cur next t s (removal_at cur n p.item) = walk.each (removal_at cur n p.item) h in
+          let q : WantPlace = was.given.at in
+          let same = removal_is n was.given.place (item_number cur n p.item) (item_number cur was.given.place q.item) was.given.move in
+          let place : n ≡ was.given.place = same.0 in
+          let number : item_number cur n p.item ≡ item_number cur n q.item = same.1 ∙ ap (λ r. item_number cur r q.item) (sym place) in
+          let one : IsOneSlot q p = one_slot cur q p n well (was.given.names ∙ ap Some (sym place)) names in
+          let before : IsPlaceBefore q first.place = was.before first.place (want_of a.want) first.wanted in
+          let after : IsPlaceBefore first.place p = (first.behind p w ahead).0 in
+          let slot : IsOneSlot first.place p = between q first.place p one before after in
+          let here : place_of a ≡ n = same_Some (place_of a) n (sym named ∙ slot_names cur first.place p slot ∙ names) in
+          let less : q.item < first.place.item = item_less q first.place (first_slot one slot) before in
+          let more : first.place.item < p.item = item_less first.place p slot after in
+          by_place
+          ∙ ap (λ r. removal_at cur r first.place.item) here
+          ∙ ap (removal n) (one_number (list_at cur n) q.item first.place.item p.item number less more)
         where
-          place_is : (n m : Place) → Remove n ≡ Remove m → n ≡ m
-          place_is n m e = cc
+          removal_is : (n m : Place) (i j : Option ℕ) → removal n i ≡ removal m j → (n ≡ m) × (i ≡ j)
+          removal_is n m None None e = (ap place e, refl)
+          removal_is n m None (Some j) e = let no = ap index e in absurd cc
+          removal_is n m (Some i) None e = let no = ap index e in absurd cc
+          removal_is n m (Some i) (Some j) e = (ap place e, ap index e)
+
+          first_slot : {q l p : WantPlace} → IsOneSlot q p → IsOneSlot l p → IsOneSlot q l
+          first_slot one two = record { table = one.table ∙ sym two.table; key = one.key ∙ sym two.key; field = one.field ∙ sym two.field }
+
+          -- where a list stands the numbers differ
+          one_number : (o : Option (List (List ℕ))) (i j k : ℕ) → option_map (λ _. k) o ≡ option_map (λ _. i) o → i < j → j < k → option_map (λ _. j) o ≡ option_map (λ _. k) o
+          one_number None i j k e less more = refl
+          one_number (Some items) i j k e less more = let same : k ≡ i = same_Some k i e in absurd (omega arith)
 
       put : IsWalk models cur next t u (found ++ x ∷ [])
       put = record {
@@ -207,10 +241,10 @@ module _ (models : ModelSet) (cur next : Config) (t : List ℕ) where
         ];
         once = all_pairs_push (λ b c. b ≢ c) found x walk.once (λ k d below e. absent (subst (Contains found) e (Contains-get_or found k d below)));
         again = λ p w n ahead names h.
-            subst (IsLast (found ++ x ∷ [])) (again_now p w n ahead names (Contains-push_cases found x (Remove n) h)) (last_pushed found x);
+            subst (IsLast (found ++ x ∷ [])) (again_now p w n ahead names (Contains-push_cases found x (removal_at cur n p.item) h)) (last_pushed found x);
       }
 
-    pub walk_goes_on : AddsRemoval models next t a found new → IsWalk models cur next t u new
+    pub walk_goes_on : AddsRemoval models cur next t a found new → IsWalk models cur next t u new
     walk_goes_on (inl (broken, inl (last, is))) = stays is (λ _. last_there found x last)
     walk_goes_on (inl (broken, inr (other, is))) = subst (IsWalk models cur next t u) (sym is) (put broken other)
     walk_goes_on (inr (satisfied, is)) = stays is (λ broken. absurd (satisfied broken))

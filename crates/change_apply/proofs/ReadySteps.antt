@@ -29,7 +29,7 @@ use Rattle.move_core.specs.Moves.{IsDefined, step}
 use Rattle.move_core.specs.Operations.{op}
 use Rattle.move_core.specs.Plans.{conf}
 use Rattle.move_core.specs.declared.moves.Move.{Move}
-use Rattle.move_core.specs.declared.moves.Move.TheVariants.{Add, Remove, Replace}
+use Rattle.move_core.specs.declared.moves.Move.TheVariants.{Add, Remove, Replace, AddItem, RemoveItem}
 use Rattle.move_core.proofs.Operated.{plainly}
 use Rattle.move_core.specs.declared.settings.ServiceTie.{ServiceTie}
 use Rattle.move_core.specs.declared.settings.Settings.{Settings}
@@ -73,6 +73,8 @@ pub move_low : (m : Move) → value_depth (op m) ≤ most_value_levels
 move_low (Add path p) = omega (arith, part_low p)
 move_low (Remove path) = omega arith
 move_low (Replace path p) = omega (arith, part_low p)
+move_low (AddItem path i item) = omega arith
+move_low (RemoveItem path i) = omega arith
 
 -- ---- a step and its move
 

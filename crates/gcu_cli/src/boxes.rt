@@ -9,7 +9,7 @@ use gcu_engine::{Outcome, kit_extenders, kit_generators, kit_rules, run};
 use host_core::{Host, Memory, Txt};
 use move_core::{Boxes, Kit, MoveExt, MoveGen};
 use move_extend::{DeleteExt, ReferrersExt, RequiredExt, UpperExt};
-use move_gen::{FieldGen, KeyGen, SeedGen, TableGen};
+use move_gen::{FieldGen, ItemGen, KeyGen, SeedGen, TableGen};
 use move_rules::{CreateOnlyRule, NoDependencyRule, NoEmptyRule, RequiredRule};
 use recheck::RecheckRule;
 use std::alloc::Global;
@@ -30,6 +30,7 @@ pub(crate) fn do_command<H: Host>(
         Box::new(alloc, KeyGen::new())?,
         Box::new(alloc, FieldGen::new())?,
         Box::new(alloc, SeedGen::new())?,
+        Box::new(alloc, ItemGen::new())?,
     )?;
     with_generators(alloc, gens, words, host)
 }

@@ -14,11 +14,13 @@ pub fn kit_generators(
     keys: Box<dyn MoveGen>,
     fields: Box<dyn MoveGen>,
     seeds: Box<dyn MoveGen>,
+    items: Box<dyn MoveGen>,
 ) -> Result<Vec<Box<dyn MoveGen>>, Memory>
     requires tables { gen_kind tables ≡ 1 }
     requires keys { gen_kind keys ≡ 2 }
     requires fields { gen_kind fields ≡ 3 }
     requires seeds { gen_kind seeds ≡ 4 }
+    requires items { gen_kind items ≡ 5 }
     ensures { IfOk result (λ boxes.
         AreOfKinds (λ b. (MoveGen-box b).gen_kind b.value) generator_kinds boxes.items) }
 {
@@ -27,6 +29,7 @@ pub fn kit_generators(
     boxes.push(keys)?;
     boxes.push(fields)?;
     boxes.push(seeds)?;
+    boxes.push(items)?;
     Ok(boxes)
 }
 

@@ -7,7 +7,7 @@ use gcu_engine::{Outcome, kit_extenders, kit_generators, kit_rules, run};
 use host_core::{MemHost, Memory, Txt};
 use move_core::{Kit, MoveExt, MoveGen};
 use move_extend::{DeleteExt, ReferrersExt, RequiredExt, UpperExt};
-use move_gen::{FieldGen, KeyGen, SeedGen, TableGen};
+use move_gen::{FieldGen, ItemGen, KeyGen, SeedGen, TableGen};
 use move_rules::{CreateOnlyRule, FullRule, NoDependencyRule, NoEmptyRule, RequiredRule};
 use std::alloc::Global;
 
@@ -19,6 +19,7 @@ pub fn obey(alloc: Global, words: &[Txt], host: &mut MemHost) -> Result<Outcome,
         Box::new(alloc, KeyGen::new())?,
         Box::new(alloc, FieldGen::new())?,
         Box::new(alloc, SeedGen::new())?,
+        Box::new(alloc, ItemGen::new())?,
     )?;
     obey_with(alloc, gens, words, host)
 }

@@ -29,8 +29,8 @@ module _ {B : Type 0} (kind : B → ℕ) (boxes : List B) (i : ℕ) (b : B) (is 
   by_kinds : (kinds : List ℕ) → AreOfKinds kind kinds boxes → kind b ≡ get_or kinds i (kind b)
   by_kinds kinds are = ap kind is ∙ sym (get_or-map kind boxes i b) ∙ ap (λ ks. get_or ks i (kind b)) are
 
-  pub of_generator : i < 4 → AreOfKinds kind generator_kinds boxes → kind b ≡ i + 1
-  of_generator below are = by_kinds generator_kinds are ∙ fourth i (kind b) below
+  pub of_generator : i < 5 → AreOfKinds kind generator_kinds boxes → kind b ≡ i + 1
+  of_generator below are = by_kinds generator_kinds are ∙ fifth i (kind b) below
 
   pub of_extender : i < 4 → AreOfKinds kind extender_kinds boxes → kind b ≡ i + 1
   of_extender below are = by_kinds extender_kinds are ∙ fourth i (kind b) below

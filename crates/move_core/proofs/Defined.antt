@@ -1,5 +1,5 @@
 -- Generated moves are defined at cur, and so are extensions of what is defined.
-use Rattle.std.proofs.Common.{◌≡◌, ℕ, zero, suc, List, [], ◌∷◌, Option, Some, None, option_map, option_and_then, is_some, IsSome, IsSomeAnd, slice_get, if◌then◌else◌, refl, sym, ap, ◌∙◌, subst}
+use Rattle.std.proofs.Common.{◌≡◌, ℕ, zero, suc, List, [], ◌∷◌, length, Option, Some, None, option_map, option_and_then, is_some, IsSome, IsSomeAnd, slice_get, if◌then◌else◌, refl, sym, ap, ◌∙◌, subst}
 use Rattle.std.specs.Option.{option_map_or}
 use Rattle.conf_doc.specs.Changes.{part_at, HasPlace, HasParent, Fits}
 use Rattle.conf_doc.specs.Pairs.{find, IsRising}
@@ -14,12 +14,12 @@ use Rattle.conf_doc.proofs.Edits.{find_at}
 use Rattle.conf_check.specs.declared.want_iter.WantPlace.{WantPlace}
 use Rattle.std.proofs.lemmas.Option.{slice_get-map}
 use Rattle.move_core.specs.Contexts.{field_names, names_of}
-use Rattle.move_core.specs.Extensions.{put_value, upper, IsUpper, IsDelete}
+use Rattle.move_core.specs.Extensions.{put_value, upper, upper_place, IsUpper, IsDelete}
 use Rattle.move_core.specs.Generated.{added_entry, IsTableMove, IsKeyRemove, IsFieldMove}
-use Rattle.move_core.specs.Moves.{Place, place, IsDefined, Lacks}
+use Rattle.move_core.specs.Moves.{Place, list_at, list_in, list_part, IsDefined, Lacks}
 use Rattle.move_core.specs.declared.moves.Move.{Move}
-use Rattle.move_core.specs.declared.moves.Move.TheVariants.{Add, Remove, Replace}
-use Rattle.move_core.proofs.Operated.{some_there}
+use Rattle.move_core.specs.declared.moves.Move.TheVariants.{Add, Remove, Replace, AddItem, RemoveItem}
+use Rattle.move_core.proofs.Operated.{list_names, list_there, some_there}
 
 -- ---- what stands at a place fits it
 
@@ -94,10 +94,31 @@ parent_there c (t ∷ k ∷ []) q e h = subst (HasPlace c) (same_Some _ _ e) h
 parent_there c (t ∷ k ∷ f ∷ []) q e h = subst (HasPlace c) (same_Some _ _ e) h
 parent_there c (t ∷ k ∷ f ∷ n ∷ ns) q e h = absurd cc
 
-above_there : (c : Config) (m : Move) (q : Place) → IsDefined c m → upper (place m) ≡ Some q → HasPlace c q
+-- a list that stands at a place is there
+some_below : {A B : Type 0} (g : A → Option B) (o : Option A) (b : B) → option_and_then g o ≡ Some b → IsSome o
+some_below g None b is = absurd cc
+some_below g (Some a) b is = refl
+
+pub list_place : (c : Config) (p : Place) {items : List (List ℕ)} → list_at c p ≡ Some items → HasPlace c p
+list_place c p {items = items} is = some_below list_in (part_at c p) items is
+
+-- its place has three names, and an entry above
+pub list_fits : (c : Config) (p : Place) (items new : List (List ℕ)) → list_at c p ≡ Some items → Fits p (list_part new)
+list_fits c p items new is = let at = list_names c p items is in ap length at.names
+
+pub list_parent : (c : Config) (p : Place) (items : List (List ℕ)) → list_at c p ≡ Some items → HasParent c p
+list_parent c p items is =
+    let at = list_names c p items is in
+    let q = at.table ∷ at.key ∷ at.field ∷ [] in
+    subst (HasParent c) (sym at.names)
+    (upper_there c q _ refl (subst (HasPlace c) at.names (list_place c p is)))
+
+above_there : (c : Config) (m : Move) (q : Place) → IsDefined c m → upper_place m ≡ Some q → HasPlace c q
 above_there c (Add p x) q is e = parent_there c p q e is.1
 above_there c (Remove p) q is e = upper_there c p q e is
 above_there c (Replace p x) q is e = upper_there c p q e is.1
+above_there c (AddItem p i x) q is e = subst (HasPlace c) (same_Some _ _ e) (list_place c p (list_there (list_at c p) is).1)
+above_there c (RemoveItem p i) q is e = subst (HasPlace c) (same_Some _ _ e) (list_place c p (list_there (list_at c p) is).1)
 
 -- ---- extensions
 
@@ -112,13 +133,15 @@ goal_there cur goal q (Some x) e h = (fits_at goal q x e, h)
 
 pub upper_defined : (cur goal : Config) (m x : Move) → IsDefined cur m → IsUpper goal m x → IsDefined cur x
 upper_defined cur goal m x is up =
-    let at = some_and (upper (place m)) up in
+    let at = some_and (upper_place m) up in
     subst (IsDefined cur) (sym at.2) (goal_there cur goal at.0 (part_at goal at.0) refl (above_there cur m at.0 is at.1))
 
 pub delete_defined : (cur : Config) (m x : Move) → IsDefined cur m → IsDelete m x → IsDefined cur x
 delete_defined cur (Add p v) x is del = absurd del
 delete_defined cur (Remove p) x is del = absurd del
 delete_defined cur (Replace p v) x is del = subst (IsDefined cur) (sym del) is.1
+delete_defined cur (AddItem p i v) x is del = absurd del
+delete_defined cur (RemoveItem p i) x is del = absurd del
 
 put_there : (cur : Config) (t k f : List ℕ) (v : Value) (o : Option Part) → part_at cur (t ∷ k ∷ f ∷ []) ≡ o → HasPlace cur (t ∷ k ∷ [])
     → IsDefined cur (if is_some o then Replace (t ∷ k ∷ f ∷ []) (part.Value v) else Add (t ∷ k ∷ f ∷ []) (part.Value v))
@@ -181,6 +204,14 @@ module _ (c : Config) (formed : IsConfig c) (p : Place) where
   at_table at None is names = absurd cc
   at_table at (Some t) is names = at_entry at.table t is at.key (slice_get t.1 at.key) refl at.field names
 
+  -- the value of a field at positions stands at its names
+  pub value_here : (i : ℕ) (t : List ℕ × Table) → slice_get c i ≡ Some t → (j : ℕ) (e : List ℕ × Entry) → slice_get t.1 j ≡ Some e → (l : ℕ) (f : List ℕ × Value) → slice_get e.1 l ≡ Some f
+      → part_at c (t.0 ∷ e.0 ∷ f.0 ∷ []) ≡ Some (part.Value f.1)
+  value_here i t is_t j e is_e l f is_f =
+      ap (option_and_then (λ x. option_and_then (λ y. option_map part.Value (find f.0 y)) (find e.0 x))) (table_is i t is_t j e is_e)
+      ∙ ap (option_and_then (λ y. option_map part.Value (find f.0 y))) (entry_is i t is_t j e is_e)
+      ∙ ap (option_map part.Value) (at_name e.1 l f (entry_formed i t is_t j e is_e).shaped.rising is_f)
+
   -- the place that positions name is there
   pub names_there : (at : WantPlace) → names_of c at ≡ Some p → HasPlace c p
   names_there at names = at_table at (slice_get c at.table) refl names
@@ -193,16 +224,22 @@ table_defined cur goal (Add (t ∷ []) x) is = (fits_at goal (t ∷ []) x is.2, 
 table_defined cur goal (Add (t ∷ k ∷ p) x) is = absurd cc
 table_defined cur goal (Remove p) is = is.1
 table_defined cur goal (Replace p x) is = absurd is
+table_defined cur goal (AddItem p i x) is = absurd is
+table_defined cur goal (RemoveItem p i) is = absurd is
 
 pub key_remove_defined : (cur goal : Config) (m : Move) → IsKeyRemove cur goal m → IsDefined cur m
 key_remove_defined cur goal (Add p x) is = absurd is
 key_remove_defined cur goal (Remove p) is = is.1
 key_remove_defined cur goal (Replace p x) is = absurd is
+key_remove_defined cur goal (AddItem p i x) is = absurd is
+key_remove_defined cur goal (RemoveItem p i) is = absurd is
 
 pub field_defined : (cur goal : Config) (m : Move) → IsFieldMove cur goal m → IsDefined cur m
 field_defined cur goal (Add p x) is = (fits_at goal p x is.3, is.1, is.2)
 field_defined cur goal (Remove p) is = is.2
 field_defined cur goal (Replace p x) is = (fits_at goal p x is.2, is.1)
+field_defined cur goal (AddItem p i x) is = absurd is
+field_defined cur goal (RemoveItem p i) is = absurd is
 
 added_by : (cur : Config) (t k : List ℕ) (e : Entry) (o : Option Table) → find t cur ≡ o → Lacks cur (t ∷ k ∷ [])
     → IsDefined cur (if is_some o then Add (t ∷ k ∷ []) (part.Entry e) else Add (t ∷ []) (part.Table ((k, e) ∷ [])))

@@ -2,9 +2,12 @@ pub mod Boxed
 pub mod Compared
 pub mod Defined
 pub mod Filled
+pub mod Indexed
+pub mod ItemMoves
 pub mod ListedMoves
 pub mod Listing
 pub mod Modelled
 pub mod Operated
 pub mod PlanTexts
 pub mod Seen
+pub mod WantedItems

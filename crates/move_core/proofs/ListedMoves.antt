@@ -10,7 +10,8 @@ use Rattle.move_core.specs.Moves.{IsDefined}
 use Rattle.move_core.specs.declared.contexts.Ctx.{Ctx}
 use Rattle.move_core.specs.declared.moves.Generated.{Generated}
 use Rattle.move_core.specs.declared.moves.Move.{Move}
-use Rattle.move_core.proofs.Defined.{added_defined, delete_defined, field_defined, key_remove_defined, names_there, put_defined, table_defined, upper_defined}
+use Rattle.move_core.proofs.ItemMoves.{item_defined, want_defined}
+use Rattle.move_core.proofs.Defined.{added_defined, delete_defined, field_defined, key_remove_defined, put_defined, table_defined, upper_defined}
 
 entry_defined : (IsAs : SaysOfEntry) (cur goal : Config) (g : Generated) → AddsEntry IsAs cur goal g → IsDefined cur g.mv
 entry_defined IsAs cur goal g is = subst (IsDefined cur) (sym is.move) (added_defined cur is.table is.key is.new is.lacks)
@@ -21,7 +22,8 @@ module _ (ctx : Ctx) (cur goal : Config) where
   by_kind kind g (inr (inl (k, (inl is, class)))) = key_remove_defined cur goal g.mv is.0
   by_kind kind g (inr (inl (k, (inr is, class)))) = entry_defined _ cur goal g is
   by_kind kind g (inr (inr (inl is))) = field_defined cur goal g.mv is.1.0
-  by_kind kind g (inr (inr (inr is))) = entry_defined _ cur goal g is.1.0
+  by_kind kind g (inr (inr (inr (inl is)))) = entry_defined _ cur goal g is.1.0
+  by_kind kind g (inr (inr (inr (inr is)))) = item_defined cur goal g.mv is.1.0
 
   pub generated_defined : (g : Generated) → IsGeneratedMove (rulebook ctx) cur goal g → IsDefined cur g.mv
   generated_defined g is = by_kind is.0 g is.1
@@ -30,7 +32,7 @@ module _ (ctx : Ctx) (cur goal : Config) where
   extended formed kind m x (inl is) defined = upper_defined cur goal m x defined is.1
   extended formed kind m x (inr (inl is)) defined = delete_defined cur m x defined is.1
   extended formed kind m x (inr (inr (inl is))) defined =
-      subst (IsDefined cur) (sym is.1.move) (names_there cur formed is.1.at is.1.there.at is.1.there.names)
+      subst (IsDefined cur) (sym is.1.move) (want_defined ctx.models cur formed is.1.at is.1.want is.1.item is.1.there)
   extended formed kind m x (inr (inr (inr is))) defined =
       subst (IsDefined cur) (sym is.1.move) (put_defined cur is.1.rule.table is.1.key is.1.rule.field _ is.1.before)
 

@@ -12,15 +12,15 @@ use Rattle.conf_check.specs.Rows.{if_modelled, row_at, row_of, Row}
 use Rattle.conf_check.specs.declared.want_iter.WantPlace.{WantPlace}
 use Rattle.yang_model.specs.ModelSets.{ModelSet, table_named}
 use Rattle.move_core.specs.Contexts.{AgreeElsewhere, IsModelled, field_names, names_of, rulebook}
-use Rattle.move_core.specs.Extensions.{upper, IsDelete, IsExtension}
-use Rattle.move_core.specs.Generated.{AddsEntry, IsFieldMove, IsGenerated, IsKeyRemove, IsTableMove, SaysOfEntry}
+use Rattle.move_core.specs.Extensions.{removal, upper, upper_place, IsDelete, IsExtension}
+use Rattle.move_core.specs.Generated.{AddsEntry, IsFieldMove, IsGenerated, IsItemMove, IsKeyRemove, IsTableMove, ListsDiffer, SaysOfEntry}
 use Rattle.move_core.specs.Listed.{IsListed, LeadsTo}
-use Rattle.move_core.specs.Moves.{Place, place}
+use Rattle.move_core.specs.Moves.{Place, list_in, place}
 use Rattle.move_core.specs.Services.{table_of}
 use Rattle.move_core.specs.declared.contexts.Ctx.{Ctx}
 use Rattle.move_core.specs.declared.moves.Generated.{Generated}
 use Rattle.move_core.specs.declared.moves.Move.{Move}
-use Rattle.move_core.specs.declared.moves.Move.TheVariants.{Add, Remove, Replace}
+use Rattle.move_core.specs.declared.moves.Move.TheVariants.{Add, Remove, Replace, AddItem, RemoveItem}
 use Rattle.move_core.proofs.Defined.{some_and}
 
 -- what stands at places of a table is decided by the table
@@ -41,6 +41,9 @@ here_not_there x y a none some same = absurd cc
 other_there : {A : Type 0} (x y : Option A) (a : A) → y ≡ Some a → x ≢ Some a → x ≢ y
 other_there x y a some other same = other (same ∙ some)
 
+same_Some : {A : Type 0} (x y : A) → Some x ≡ Some y → x ≡ y
+same_Some x y e = cc
+
 module _ (ctx : Ctx) (cur goal : Config) (agree : AgreeElsewhere ctx cur goal) where
   by_model : (t : List ℕ) (rest : Place) (b : Bool) → is_some (table_named t ctx.models) ≡ b → part_at cur (t ∷ rest) ≢ part_at goal (t ∷ rest) → IsModelled ctx.models t
   by_model t rest true is differs = is
@@ -54,16 +57,35 @@ module _ (ctx : Ctx) (cur goal : Config) (agree : AgreeElsewhere ctx cur goal) w
   table_modelled (Add p x) is = differing p (here_not_there _ _ x is.1 is.2)
   table_modelled (Remove p) is = differing p (there_not_here _ _ is.1 is.2)
   table_modelled (Replace p x) is = absurd is
+  table_modelled (AddItem p i x) is = absurd is
+  table_modelled (RemoveItem p i) is = absurd is
 
   remove_modelled : (m : Move) → IsKeyRemove cur goal m → IsModelled ctx.models (table_of (place m))
   remove_modelled (Add p x) is = absurd is
   remove_modelled (Remove p) is = differing p (there_not_here _ _ is.1 is.2)
   remove_modelled (Replace p x) is = absurd is
+  remove_modelled (AddItem p i x) is = absurd is
+  remove_modelled (RemoveItem p i) is = absurd is
 
   field_modelled : (m : Move) → IsFieldMove cur goal m → IsModelled ctx.models (table_of (place m))
   field_modelled (Add p x) is = differing p (here_not_there _ _ x is.2 is.3)
   field_modelled (Remove p) is = differing p (there_not_here _ _ is.2 is.3)
   field_modelled (Replace p x) is = differing p (other_there _ _ x is.2 is.3)
+  field_modelled (AddItem p i x) is = absurd is
+  field_modelled (RemoveItem p i) is = absurd is
+
+  lists_differ : (p : Place) (i : ℕ) → ListsDiffer cur goal p i → IsModelled ctx.models (table_of p)
+  lists_differ p i lists =
+      differing p (λ same.
+      lists.first.differs
+      (ap (λ items. slice_get items i) (same_Some lists.old lists.new (sym lists.here ∙ ap (option_and_then list_in) same ∙ lists.there))))
+
+  item_modelled : (m : Move) → IsItemMove cur goal m → IsModelled ctx.models (table_of (place m))
+  item_modelled (Add p x) is = absurd is
+  item_modelled (Remove p) is = absurd is
+  item_modelled (Replace p x) is = absurd is
+  item_modelled (AddItem p i x) is = lists_differ p i is.0
+  item_modelled (RemoveItem p i) is = lists_differ p i is.0
 
   added_table : (b : Bool) (t k : List ℕ) (e : Entry)
       → table_of (place (if b then Add (t ∷ k ∷ []) (part.Entry e) else Add (t ∷ []) (part.Table ((k, e) ∷ [])))) ≡ t
@@ -81,12 +103,10 @@ module _ (ctx : Ctx) (cur goal : Config) (agree : AgreeElsewhere ctx cur goal) w
   by_kind kind g (inr (inl (k, (inl is, class)))) = remove_modelled g.mv is.0
   by_kind kind g (inr (inl (k, (inr is, class)))) = entry_modelled _ g is
   by_kind kind g (inr (inr (inl is))) = field_modelled g.mv is.1.0
-  by_kind kind g (inr (inr (inr is))) = entry_modelled _ g is.1.0
+  by_kind kind g (inr (inr (inr (inl is)))) = entry_modelled _ g is.1.0
+  by_kind kind g (inr (inr (inr (inr is)))) = item_modelled g.mv is.1.0
 
 -- ---- extensions
-
-same_Some : {A : Type 0} (x y : A) → Some x ≡ Some y → x ≡ y
-same_Some x y e = cc
 
 upper_table : (p q : Place) → upper p ≡ Some q → table_of q ≡ table_of p
 upper_table [] q e = absurd cc
@@ -107,6 +127,19 @@ delete_place : (m x : Move) → IsDelete m x → place x ≡ place m
 delete_place (Add p v) x is = absurd is
 delete_place (Remove p) x is = absurd is
 delete_place (Replace p v) x is = ap place is
+delete_place (AddItem p i v) x is = absurd is
+delete_place (RemoveItem p i) x is = absurd is
+
+above_table : (m : Move) (q : Place) → upper_place m ≡ Some q → table_of q ≡ table_of (place m)
+above_table (Add p v) q e = upper_table p q e
+above_table (Remove p) q e = upper_table p q e
+above_table (Replace p v) q e = upper_table p q e
+above_table (AddItem p i v) q e = ap table_of (sym (same_Some _ _ e))
+above_table (RemoveItem p i) q e = ap table_of (sym (same_Some _ _ e))
+
+removal_place : (p : Place) (item : Option ℕ) → place (removal p item) ≡ p
+removal_place p None = refl
+removal_place p (Some i) = refl
 
 module _ (models : ModelSet) (c : Config) (p : Place) where
   by_modelled : (t : List ℕ × Table) (b : Bool) → is_some (table_named t.0 models) ≡ b → (j : ℕ) (row : Row)
@@ -138,14 +171,15 @@ module _ (models : ModelSet) (c : Config) (p : Place) where
 module _ (ctx : Ctx) (cur goal : Config) where
   extended : (kind : ℕ) (m x : Move) → IsExtension (rulebook ctx) cur goal kind m x → IsModelled ctx.models (table_of (place m)) → IsModelled ctx.models (table_of (place x))
   extended kind m x (inl is) modelled =
-      let at = some_and (upper (place m)) is.1 in
+      let at = some_and (upper_place m) is.1 in
       subst (IsModelled ctx.models)
-      (sym (upper_table (place m) at.0 at.1) ∙ ap table_of (sym (goal_place at.0 (part_at goal at.0))) ∙ ap (λ y. table_of (place y)) (sym at.2)) modelled
+      (sym (above_table m at.0 at.1) ∙ ap table_of (sym (goal_place at.0 (part_at goal at.0))) ∙ ap (λ y. table_of (place y)) (sym at.2)) modelled
   extended kind m x (inr (inl is)) modelled = subst (λ q. IsModelled ctx.models (table_of q)) (sym (delete_place m x is.1)) modelled
   extended kind m x (inr (inr (inl is))) modelled =
       let there = is.1.there in
       subst (λ y. IsModelled ctx.models (table_of (place y))) (sym is.1.move)
-      (want_modelled ctx.models cur is.1.at there.at there.wanted.row there.wanted.at there.names)
+      (subst (λ q. IsModelled ctx.models (table_of q)) (sym (removal_place is.1.at is.1.item))
+      (want_modelled ctx.models cur is.1.at there.at there.wanted.row there.wanted.at there.names))
   extended kind m x (inr (inr (inr is))) modelled =
       let rule = is.1.rule in
       let at = rule.table ∷ is.1.key ∷ rule.field ∷ [] in

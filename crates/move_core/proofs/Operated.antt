@@ -1,5 +1,7 @@
 -- What a move's operation makes of the tree of a configuration.
-use Rattle.std.proofs.Common.{◌≡◌, ℕ, List, [], ◌∷◌, map, not, Bool, true, false, cond, Option, Some, None, option_map, option_and_then, is_some, IsSome, Ok, refl, sym, ap, ◌∙◌, arith}
+use Rattle.std.proofs.Common.{◌≡◌, ◌≢◌, ℕ, zero, suc, ◌<◌, ◌≤◌, List, [], ◌∷◌, ◌++◌, length, take, drop, map, not, Bool, true, false, cond, Option, Some, None, option_map, option_and_then, is_some, IsSome, IsSomeAnd, unwrap_or, Ok, refl, sym, ap, ◌∙◌, subst, arith}
+use Rattle.std.proofs.lemmas.Option.{slice_get-get_or, slice_get-map}
+use Rattle.std.specs.List.{insert, remove as removed_at}
 use Rattle.std.specs.FinMap.Entries.{by_order}
 use Rattle.std.specs.Option.{option_map_or}
 use Rattle.std.specs.Ordering.{eq_by_cmp}
@@ -8,11 +10,13 @@ use Rattle.std.specs.declared.cmp.Ordering.TheVariants.{Less, Equal, Greater}
 use Rattle.host_core.specs.Names.{name_cmp}
 use Rattle.conf_doc.specs.Changes.{HasPlace, HasParent, Fits, with_part}
 use Rattle.conf_doc.specs.Configuration.{mapping, part_tree, entry_tree, table_tree, tree, value_tree}
-use Rattle.conf_doc.specs.Document.{Document, object, pairs, members_of}
+use Rattle.conf_doc.specs.Document.{Document, items_of, list, object, pairs, members_of, text}
 use Rattle.conf_doc.specs.Pairs.{find, put, without, change_part}
 use Rattle.conf_doc.specs.declared.configuration.Config.{Config}
 use Rattle.conf_doc.specs.declared.configuration.Entry.{Entry}
 use Rattle.conf_doc.specs.declared.configuration.Table.{Table}
+use Rattle.conf_doc.specs.declared.configuration.Value.{Value}
+use Rattle.conf_doc.specs.declared.configuration.Value.TheVariants.{Text, List as Listed}
 use Rattle.conf_doc.specs.declared.parts.Part.{Part}
 use Rattle.conf_doc.specs.declared.parts.Part.TheVariants as part
 use Rattle.host_core.specs.Answers.{◌>>=◌}
@@ -20,10 +24,12 @@ use Rattle.patch_core.specs.Apply.{apply_plain, after_add, after_remove, after_r
 use Rattle.patch_core.specs.Operation.{Operation}
 use Rattle.patch_core.specs.declared.errors.FailWhy.{FailWhy}
 use Rattle.patch_core.specs.declared.errors.FailWhy.TheVariants.{NoParent, NoTarget}
-use Rattle.move_core.specs.Moves.{IsDefined, step}
-use Rattle.move_core.specs.Operations.{op}
+use Rattle.patch_core.proofs.Nodes.{with_new_at, below_item, cut_item as cut_at_index}
+use Rattle.move_core.specs.Moves.{IsDefined, items_at, list_at, list_in, list_part, step}
+use Rattle.move_core.specs.Operations.{index_text, op}
+use Rattle.move_core.proofs.Indexed.{index_token}
 use Rattle.move_core.specs.declared.moves.Move.{Move}
-use Rattle.move_core.specs.declared.moves.Move.TheVariants.{Add, Remove, Replace}
+use Rattle.move_core.specs.declared.moves.Move.TheVariants.{Add, Remove, Replace, AddItem, RemoveItem}
 
 pairs-members_of : (ms : List (List ℕ × Document)) → pairs (members_of ms) ≡ ms
 pairs-members_of [] = refl
@@ -181,6 +187,112 @@ value_edit edit c t k f table entry g at_table at_entry inner =
     edit_below table_tree edit t k (f ∷ []) c table (change_part k g table) at_table below
     ∙ ap (λ d. Ok (tree d)) (changed t (change_part k g) c table at_table)
 
+-- ---- lists at places
+
+pub record FoundList (c : Config) (t k f : List ℕ) (items : List (List ℕ)) : Type 0 where
+  pub table : Table
+  pub entry : Entry
+  pub at_table : find t c ≡ Some table
+  pub at_entry : find k table ≡ Some entry
+  pub at_field : find f entry ≡ Some (Listed items)
+
+no_list_in : {A : Type 0} (g : A → Part) (o : Option A) (items : List (List ℕ)) → ((a : A) → list_in (g a) ≡ None)
+    → option_and_then list_in (option_map g o) ≢ Some items
+no_list_in g None items none is = cc
+no_list_in g (Some a) items none is = let no = none a in cc
+
+found_list : (c : Config) (t k f : List ℕ) (items : List (List ℕ)) → list_at c (t ∷ k ∷ f ∷ []) ≡ Some items → FoundList c t k f items
+found_list c t k f items is = look (find t c) refl is
+  where
+    same_Some : {A : Type 0} (x y : A) → Some x ≡ Some y → x ≡ y
+    same_Some x y e = cc
+
+    at_value : (table : Table) → find t c ≡ Some table → (entry : Entry) → find k table ≡ Some entry → (o : Option Value) → find f entry ≡ o → option_and_then list_in (option_map part.Value o) ≡ Some items → FoundList c t k f items
+    at_value table first entry second None third is = absurd cc
+    at_value table first entry second (Some (Text s)) third is = absurd cc
+    at_value table first entry second (Some (Listed ss)) third is =
+        record { table = table; entry = entry; at_table = first; at_entry = second; at_field = third ∙ ap (λ ts. Some (Listed ts)) (same_Some ss items is) }
+
+    below_table : (table : Table) → find t c ≡ Some table → (o : Option Entry) → find k table ≡ o → option_and_then list_in (option_and_then (λ entry. option_map part.Value (find f entry)) o) ≡ Some items → FoundList c t k f items
+    below_table table first None second is = absurd cc
+    below_table table first (Some entry) second is = at_value table first entry second (find f entry) refl is
+
+    look : (o : Option Table) → find t c ≡ o → option_and_then list_in (option_and_then (λ table. option_and_then (λ entry. option_map part.Value (find f entry)) (find k table)) o) ≡ Some items → FoundList c t k f items
+    look None first is = absurd cc
+    look (Some table) first is = below_table table first (find k table) refl is
+
+-- a list stands at three names alone
+pub record ListNames (c : Config) (p : List (List ℕ)) (items : List (List ℕ)) : Type 0 where
+  pub table : List ℕ
+  pub key : List ℕ
+  pub field : List ℕ
+  pub names : p ≡ table ∷ key ∷ field ∷ []
+  pub found : FoundList c table key field items
+
+pub list_names : (c : Config) (p : List (List ℕ)) (items : List (List ℕ)) → list_at c p ≡ Some items → ListNames c p items
+list_names c [] items is = absurd cc
+list_names c (t ∷ []) items is = absurd (no_list_in part.Table (find t c) items (λ a. refl) is)
+list_names c (t ∷ k ∷ []) items is = absurd (no_entry (find t c) is)
+  where
+    no_entry : (o : Option Table) → option_and_then list_in (option_and_then (λ table. option_map part.Entry (find k table)) o) ≢ Some items
+    no_entry None is = cc
+    no_entry (Some table) is = no_list_in part.Entry (find k table) items (λ a. refl) is
+list_names c (t ∷ k ∷ f ∷ []) items is = record { table = t; key = k; field = f; names = refl; found = found_list c t k f items is }
+list_names c (t ∷ k ∷ f ∷ n ∷ ns) items is = absurd cc
+
+-- ---- edits of a list
+
+map_take : {A B : Type 0} (g : A → B) (i : ℕ) (xs : List A) → take i (map g xs) ≡ map g (take i xs)
+map_take g zero xs = refl
+map_take g (suc i) [] = refl
+map_take g (suc i) (x ∷ xs) = ap (λ ys. g x ∷ ys) (map_take g i xs)
+
+map_drop : {A B : Type 0} (g : A → B) (i : ℕ) (xs : List A) → drop i (map g xs) ≡ map g (drop i xs)
+map_drop g zero xs = refl
+map_drop g (suc i) [] = refl
+map_drop g (suc i) (x ∷ xs) = map_drop g i xs
+
+map_append : {A B : Type 0} (g : A → B) (xs ys : List A) → map g xs ++ map g ys ≡ map g (xs ++ ys)
+map_append g [] ys = refl
+map_append g (x ∷ xs) ys = ap (λ zs. g x ∷ zs) (map_append g xs ys)
+
+map_insert : {A B : Type 0} (g : A → B) (xs : List A) (i : ℕ) (x : A) → insert (map g xs) i (g x) ≡ map g (insert xs i x)
+map_insert g xs i x =
+    (λ j. map_take g i xs j ++ g x ∷ map_drop g i xs j) ∙ map_append g (take i xs) (x ∷ drop i xs)
+
+map_remove : {A B : Type 0} (g : A → B) (xs : List A) (i : ℕ) → removed_at (map g xs) i ≡ map g (removed_at xs i)
+map_remove g xs i =
+    (λ j. map_take g i xs j ++ map_drop g (suc i) xs j) ∙ map_append g (take i xs) (drop (suc i) xs)
+
+long_as : {A B : Type 0} (g : A → B) (xs : List A) → length (map g xs) ≡ length xs
+long_as g [] = refl
+long_as g (x ∷ xs) = ap suc (long_as g xs)
+
+-- the tree of a list of texts with one more, or with one fewer
+put_item : (items : List (List ℕ)) (i : ℕ) (x : List ℕ) → i ≤ length items → with_new (index_text i) (text x) (value_tree (Listed items)) ≡ Ok (value_tree (Listed (insert items i x)))
+put_item items i x within =
+    with_new_at (index_text i) (text x) (map text items) i (index_token i) (omega (arith, long_as text items))
+    ∙ ap (λ ds. Ok (list (items_of ds))) (map_insert text items i x)
+
+cut_item : (items : List (List ℕ)) (i : ℕ) → i < length items → edit_there without_below (index_text i) (value_tree (Listed items)) ≡ Ok (value_tree (Listed (removed_at items i)))
+cut_item items i within =
+    let at = slice_get-get_or items i [] within in
+    ap (λ r. r >>= (λ d. Ok (without_below (index_text i) (value_tree (Listed items)))))
+    (below_item NoTarget (index_text i) (map text items) i _ (index_token i) (slice_get-map text items i ∙ ap (option_map text) at))
+    ∙ ap Ok (cut_at_index (index_text i) (map text items) i (index_token i))
+    ∙ ap (λ ds. Ok (list (items_of ds))) (map_remove text items i)
+
+-- an edit of the list at three names
+list_edit : (edit : NodeEdit) (c : Config) (t k f token : List ℕ) (items new : List (List ℕ)) → FoundList c t k f items
+    → edit token (value_tree (Listed items)) ≡ Ok (value_tree (Listed new))
+    → edit_parent edit t (k ∷ f ∷ token ∷ []) (tree c) ≡ Ok (tree (with_part c (t ∷ k ∷ f ∷ []) (Some (list_part new))))
+list_edit edit c t k f token items new found inner =
+    let g = put f (Listed new) in
+    let at_list = edit_below value_tree edit f token [] found.entry (Listed items) (Listed new) found.at_field inner in
+    let at_entry = edit_below entry_tree edit k f (token ∷ []) found.table found.entry (g found.entry) found.at_entry at_list ∙ ap (λ d. Ok (table_tree d)) (changed k g found.table found.entry found.at_entry) in
+    edit_below table_tree edit t k (f ∷ token ∷ []) c found.table (change_part k g found.table) found.at_table at_entry
+    ∙ ap (λ d. Ok (tree d)) (changed t (change_part k g) c found.table found.at_table)
+
 -- ---- moves
 
 added : (c : Config) (p : List (List ℕ)) (a : Part) → Fits p a → HasParent c p → after_add p (part_tree a) (tree c) ≡ Ok (tree (with_part c p (Some a)))
@@ -235,10 +347,39 @@ replaced c (t ∷ k ∷ n ∷ []) (part.Value value) fits there =
     (put n value) f.at_table f.at_entry (replace_there value_tree n value f.entry f.at_value)
 replaced c (t ∷ k ∷ n ∷ m ∷ ms) a fits there = absurd cc
 
+items_are : (c : Config) (p : List (List ℕ)) (items : List (List ℕ)) → list_at c p ≡ Some items → items_at c p ≡ items
+items_are c p items is = ap (λ o. unwrap_or o []) is
+
+item_added : (c : Config) (p : List (List ℕ)) (i : ℕ) (x : List ℕ) (items : List (List ℕ)) → list_at c p ≡ Some items → i ≤ length items
+    → after_add (p ++ index_text i ∷ []) (text x) (tree c) ≡ Ok (tree (with_part c p (Some (list_part (insert items i x)))))
+item_added c p i x items is within =
+    let at = list_names c p items is in
+    subst (λ q. after_add (q ++ index_text i ∷ []) (text x) (tree c) ≡ Ok (tree (with_part c q (Some (list_part (insert items i x)))))) (sym at.names)
+    (list_edit (λ last node. with_new last (text x) node) c at.table at.key at.field (index_text i) items (insert items i x) at.found (put_item items i x within))
+
+item_removed : (c : Config) (p : List (List ℕ)) (i : ℕ) (items : List (List ℕ)) → list_at c p ≡ Some items → i < length items
+    → after_remove (p ++ index_text i ∷ []) (tree c) ≡ Ok (tree (with_part c p (Some (list_part (removed_at items i)))))
+item_removed c p i items is within =
+    let at = list_names c p items is in
+    subst (λ q. after_remove (q ++ index_text i ∷ []) (tree c) ≡ Ok (tree (with_part c q (Some (list_part (removed_at items i)))))) (sym at.names)
+    (list_edit (edit_there without_below) c at.table at.key at.field (index_text i) items (removed_at items i) at.found (cut_item items i within))
+
+pub list_there : {P : List (List ℕ) → Type 0} (o : Option (List (List ℕ))) → IsSomeAnd o P → (items : List (List ℕ)) × (o ≡ Some items) × P items
+list_there None is = absurd is
+list_there (Some items) is = (items, refl, is)
+
 operated : (c : Config) (m : Move) → IsDefined c m → result_of (op m) (tree c) ≡ Ok (tree (step c m))
 operated c (Add p a) is = added c p a is.0 is.1
 operated c (Remove p) is = removed c p is
 operated c (Replace p a) is = replaced c p a is.0 is.1
+operated c (AddItem p i x) is =
+    let at = list_there (list_at c p) is in
+    item_added c p i x at.0 at.1 at.2
+    ∙ ap (λ items. Ok (tree (with_part c p (Some (list_part (insert items i x)))))) (sym (items_are c p at.0 at.1))
+operated c (RemoveItem p i) is =
+    let at = list_there (list_at c p) is in
+    item_removed c p i at.0 at.1 at.2
+    ∙ ap (λ items. Ok (tree (with_part c p (Some (list_part (removed_at items i)))))) (sym (items_are c p at.0 at.1))
 
 alone : (o : Operation) (d new : Document) → result_of o d ≡ Ok new → apply_plain (o ∷ []) d ≡ Ok new
 alone o d new is = rw is refl

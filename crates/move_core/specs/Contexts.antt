@@ -8,7 +8,7 @@ use Rattle.conf_check.specs.Validity.{IsValid}
 use Rattle.conf_check.specs.Wants.{Want, IsWantAt}
 use Rattle.conf_check.specs.declared.want_iter.WantPlace.{WantPlace}
 use Rattle.yang_model.specs.ModelSets.{ModelSet, table_named}
-use Rattle.move_core.specs.Moves.{Place, IsDefined, step}
+use Rattle.move_core.specs.Moves.{Place, IsDefined, list_at, step}
 use Rattle.move_core.specs.Named.{HasNames}
 use Rattle.move_core.specs.Rulebook.{Rulebook}
 use Rattle.move_core.specs.declared.contexts.Ctx.{Ctx}
@@ -31,11 +31,17 @@ names_of c at =
     option_map (λ f. t.0 ∷ e.0 ∷ f) (field_names e.1 at.field))
     (slice_get t.1 at.key)) (slice_get c at.table)
 
--- a text at the place has the want
-pub record HasWant (models : ModelSet) (c : Config) (p : Place) (want : Want) : Type 0 where
+-- the index of a text, where it is an item of a list that stands at the place
+abbrev pub item_at : Config → Place → ℕ → Option ℕ
+item_at c p i = option_map (λ _. i) (list_at c p)
+
+-- a text at the place has the want; an item of a list has an index
+pub record HasWant (models : ModelSet) (c : Config) (p : Place) (item : Option ℕ) (want : Want)
+    : Type 0 where
   pub at : WantPlace
   pub wanted : IsWantAt models c at want
   pub names : names_of c at ≡ Some p
+  pub index : item_at c p at.item ≡ item
 
 -- by what moves are judged in a context
 abbrev pub rulebook : Ctx → Rulebook

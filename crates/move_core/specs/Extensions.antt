@@ -7,10 +7,10 @@ use Rattle.conf_doc.specs.declared.configuration.Value.TheVariants.{Text}
 use Rattle.conf_doc.specs.declared.parts.Part.{Part}
 use Rattle.conf_doc.specs.declared.parts.Part.TheVariants as part
 use Rattle.key_split.specs.Key.{key_parts}
-use Rattle.move_core.specs.Moves.{Place, place, step}
+use Rattle.move_core.specs.Moves.{Place, step}
 use Rattle.move_core.specs.Rulebook.{Rulebook}
 use Rattle.move_core.specs.declared.moves.Move.{Move}
-use Rattle.move_core.specs.declared.moves.Move.TheVariants.{Add, Remove, Replace}
+use Rattle.move_core.specs.declared.moves.Move.TheVariants.{Add, Remove, Replace, AddItem, RemoveItem}
 use Rattle.move_core.specs.declared.settings.Required.{Required}
 use Rattle.move_core.specs.declared.settings.Requiring.{Requiring}
 
@@ -22,29 +22,45 @@ upper (t ∷ k ∷ []) = Some (t ∷ [])
 upper (t ∷ k ∷ f ∷ []) = Some (t ∷ k ∷ [])
 upper p = None
 
+-- the place one name shorter than the one that the move's operation names: of an item the field
+abbrev pub upper_place : Move → Option Place
+upper_place (Add p part) = upper p
+upper_place (Remove p) = upper p
+upper_place (Replace p part) = upper p
+upper_place (AddItem p i text) = Some p
+upper_place (RemoveItem p i) = Some p
+
 -- the place becomes as in goal: its value, or nothing where goal lacks it
 abbrev pub as_in_goal : Config → Place → Move
 as_in_goal goal p = option_map_or (Replace p) (part_at goal p) (Remove p)
 
 -- the place above becomes as in goal
 abbrev pub IsUpper : Config → Move → Move → Type 0
-IsUpper goal m x = IsSomeAnd (upper (place m)) (λ p. x ≡ as_in_goal goal p)
+IsUpper goal m x = IsSomeAnd (upper_place m) (λ p. x ≡ as_in_goal goal p)
 
 -- what would be replaced is removed
 abbrev pub IsDelete : Move → Move → Type 0
 IsDelete (Add p part) x = ⊥
 IsDelete (Remove p) x = ⊥
 IsDelete (Replace p part) x = x ≡ Remove p
+IsDelete (AddItem p i text) x = ⊥
+IsDelete (RemoveItem p i) x = ⊥
 
 -- ---- wants
 
--- a place is removed that has a want which the move leaves unsatisfied
+-- what stands at a place is removed, or where an index is given that item of its list
+abbrev pub removal : Place → Option ℕ → Move
+removal p None = Remove p
+removal p (Some i) = RemoveItem p i
+
+-- what has a want is removed which the move leaves unsatisfied: an entry, a field, or an item of a list
 pub record IsReferrer (book : Rulebook) (cur : Config) (m x : Move) : Type 0 where
   pub at : Place
+  pub item : Option ℕ
   pub want : book.Want
-  pub there : book.HasWant cur at want
+  pub there : book.HasWant cur at item want
   pub broken : ¬ book.IsSatisfied (step cur m) want
-  pub move : x ≡ Remove at
+  pub move : x ≡ removal at item
 
 -- ---- required values
 

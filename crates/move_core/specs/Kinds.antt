@@ -1,9 +1,9 @@
 -- The kinds of the boxes of a kit.
 use Rattle.std.specs.Prelude.{◌≡◌, ◌<◌, ℕ, List, [], ◌∷◌, map, slice_get, Some}
 
--- tables, keys, fields, seeds
+-- tables, keys, fields, seeds, items
 abbrev pub generator_kinds : List ℕ
-generator_kinds = 1 ∷ 2 ∷ 3 ∷ 4 ∷ []
+generator_kinds = 1 ∷ 2 ∷ 3 ∷ 4 ∷ 5 ∷ []
 
 -- the place above, the delete, referrers, required values
 abbrev pub extender_kinds : List ℕ

@@ -1,16 +1,17 @@
 -- The list of moves at a configuration: the ends of all chains, each once, in order.
-use Rattle.std.specs.Prelude.{◌≡◌, ◌≢◌, ℕ, zero, suc, ◌-◌, List, length, map, All}
+use Rattle.std.specs.Prelude.{◌≡◌, ◌≢◌, ℕ, zero, suc, List, [], ◌∷◌, map, All}
+use Rattle.std.specs.Option.{option_map_or}
 use Rattle.std.specs.List.{AllPairs, Contains}
 use Rattle.std.specs.declared.cmp.Ordering.TheVariants.{Less, Greater}
 use Rattle.conf_doc.specs.declared.configuration.Config.{Config}
 use Rattle.move_core.specs.Extensions.{IsExtension}
-use Rattle.move_core.specs.Generated.{IsGenerated, IsRestoring}
+use Rattle.move_core.specs.Generated.{IsGenerated, IsRestoring, field_class, item_class, key_class, table_class}
 use Rattle.move_core.specs.ListedOrder.{rank_cmp, listed_cmp}
-use Rattle.move_core.specs.Moves.{place}
+use Rattle.move_core.specs.Moves.{Place, index, place}
 use Rattle.move_core.specs.Rulebook.{Rulebook}
 use Rattle.move_core.specs.declared.moves.Generated.{Generated}
 use Rattle.move_core.specs.declared.moves.Move.{Move}
-use Rattle.move_core.specs.declared.moves.Move.TheVariants.{Add, Remove, Replace}
+use Rattle.move_core.specs.declared.moves.Move.TheVariants.{Add, Remove, Replace, AddItem, RemoveItem}
 use Rattle.move_core.specs.declared.moves.Ranked.{Ranked}
 
 -- ---- chains
@@ -49,6 +50,8 @@ other_tier m zero = 1
 other_tier (Add p part) (suc n) = 4
 other_tier (Remove p) (suc n) = 2
 other_tier (Replace p part) (suc n) = 2
+other_tier (AddItem p i text) (suc n) = 4
+other_tier (RemoveItem p i) (suc n) = 2
 
 -- the tier of a chain, by its generated move and its number of extensions
 pub record HasTier (start goal : Config) (first : Generated) (depth tier : ℕ) : Type 0 where
@@ -56,8 +59,15 @@ pub record HasTier (start goal : Config) (first : Generated) (depth tier : ℕ) 
   pub other : ¬ IsRestoring start goal first → tier ≡ other_tier first.mv depth
 
 -- a table, a key or a field, by the names of the place
+abbrev pub names_class : Place → ℕ
+names_class [] = table_class
+names_class (t ∷ []) = table_class
+names_class (t ∷ k ∷ []) = key_class
+names_class (t ∷ k ∷ f ∷ names) = field_class
+
+-- an item, or else by the names of the place
 abbrev pub place_class : Move → ℕ
-place_class m = length (place m) - 1
+place_class m = option_map_or (λ _. item_class) (index m) (names_class (place m))
 
 -- the class of a generated move is that of its generator, of an extended one that of its place
 abbrev pub chain_class : Generated → ℕ → Move → ℕ

@@ -17,10 +17,10 @@ use Rattle.conf_doc.specs.declared.configuration.Value.{Value}
 use Rattle.conf_doc.specs.declared.configuration.Value.TheVariants.{Text, List as Texts}
 use Rattle.conf_doc.specs.declared.parts.Part.{Part}
 use Rattle.conf_doc.specs.declared.parts.Part.TheVariants as part
-use Rattle.move_core.specs.ListedOrder.{action, listed_cmp, move_cmp, path_cmp, rank_cmp}
-use Rattle.move_core.specs.Moves.{new_part, place}
+use Rattle.move_core.specs.ListedOrder.{action, listed_cmp, move_cmp, path_cmp, place_cmp, rank_cmp}
+use Rattle.move_core.specs.Moves.{index, new_part, new_text, place}
 use Rattle.move_core.specs.declared.moves.Move.{Move}
-use Rattle.move_core.specs.declared.moves.Move.TheVariants.{Add, Remove, Replace}
+use Rattle.move_core.specs.declared.moves.Move.TheVariants.{Add, Remove, Replace, AddItem, RemoveItem}
 
 then_equal : (o : Ordering) → ordering_then o Equal ≡ o
 then_equal Less = refl
@@ -105,8 +105,11 @@ part_total =
 move_total : IsTotalOrder move_cmp
 move_total =
     then_total (on_total action nat_cmp_total)
+    (then_total
     (then_total (on_total place (lists_total nat_list_cmp_total))
-    (on_total new_part (options_total part_total)))
+    (on_total index (options_total nat_cmp_total)))
+    (then_total (on_total new_part (options_total part_total))
+    (on_total new_text (options_total nat_list_cmp_total))))
 
 rank_total : IsTotalOrder rank_cmp
 rank_total =
@@ -152,32 +155,67 @@ part_same (part.Value v) (part.Table t) e = absurd cc
 part_same (part.Value v) (part.Entry f) e = absurd cc
 part_same (part.Value v) (part.Value w) e = ap part.Value (value_same v w e)
 
-option_same : IsAntisymmetric (option_cmp part_cmp)
-option_same None None e = refl
-option_same None (Some p) e = absurd cc
-option_same (Some p) None e = absurd cc
-option_same (Some p) (Some q) e = ap Some (part_same p q e)
+option_same : {A : Type 0} {R : A → A → Ordering} → IsAntisymmetric R → IsAntisymmetric (option_cmp R)
+option_same same None None e = refl
+option_same same None (Some p) e = absurd cc
+option_same same (Some p) None e = absurd cc
+option_same same (Some p) (Some q) e = ap Some (same p q e)
 
 same_Some : {A : Type 0} (x y : A) → Some x ≡ Some y → x ≡ y
 same_Some x y e = cc
 
-move_from : (m n : Move) → action m ≡ action n → place m ≡ place n → new_part m ≡ new_part n → m ≡ n
-move_from (Add p a) (Add q b) kind at new = λ i. Add (at i) (same_Some a b new i)
-move_from (Add p a) (Remove q) kind at new = absurd cc
-move_from (Add p a) (Replace q b) kind at new = absurd (omega arith)
-move_from (Remove p) (Add q b) kind at new = absurd cc
-move_from (Remove p) (Remove q) kind at new = ap Remove at
-move_from (Remove p) (Replace q b) kind at new = absurd cc
-move_from (Replace p a) (Add q b) kind at new = absurd (omega arith)
-move_from (Replace p a) (Remove q) kind at new = absurd cc
-move_from (Replace p a) (Replace q b) kind at new = λ i. Replace (at i) (same_Some a b new i)
+-- moves that say the same in all respects
+record SameMoves (m n : Move) : Type 0 where
+  kind : action m ≡ action n
+  at : place m ≡ place n
+  item : index m ≡ index n
+  part : new_part m ≡ new_part n
+  text : new_text m ≡ new_text n
+
+move_from : (m n : Move) → SameMoves m n → m ≡ n
+move_from (Add p a) (Add q b) same = λ i. Add (same.at i) (same_Some a b same.part i)
+move_from (Add p a) (Remove q) same = absurd (let e = same.part in cc)
+move_from (Add p a) (Replace q b) same = absurd (let e = same.kind in omega arith)
+move_from (Add p a) (AddItem q j t) same = absurd (let e = same.part in cc)
+move_from (Add p a) (RemoveItem q j) same = absurd (let e = same.part in cc)
+move_from (Remove p) (Add q b) same = absurd (let e = same.part in cc)
+move_from (Remove p) (Remove q) same = ap Remove same.at
+move_from (Remove p) (Replace q b) same = absurd (let e = same.part in cc)
+move_from (Remove p) (AddItem q j t) same = absurd (let e = same.item in cc)
+move_from (Remove p) (RemoveItem q j) same = absurd (let e = same.item in cc)
+move_from (Replace p a) (Add q b) same = absurd (let e = same.kind in omega arith)
+move_from (Replace p a) (Remove q) same = absurd (let e = same.part in cc)
+move_from (Replace p a) (Replace q b) same =
+    λ i. Replace (same.at i) (same_Some a b same.part i)
+move_from (Replace p a) (AddItem q j t) same = absurd (let e = same.part in cc)
+move_from (Replace p a) (RemoveItem q j) same = absurd (let e = same.part in cc)
+move_from (AddItem p j t) (Add q b) same = absurd (let e = same.item in cc)
+move_from (AddItem p j t) (Remove q) same = absurd (let e = same.item in cc)
+move_from (AddItem p j t) (Replace q b) same = absurd (let e = same.item in cc)
+move_from (AddItem p j t) (AddItem q l u) same =
+    λ i. AddItem (same.at i) (same_Some j l same.item i) (same_Some t u same.text i)
+move_from (AddItem p j t) (RemoveItem q l) same = absurd (let e = same.text in cc)
+move_from (RemoveItem p j) (Add q b) same = absurd (let e = same.item in cc)
+move_from (RemoveItem p j) (Remove q) same = absurd (let e = same.item in cc)
+move_from (RemoveItem p j) (Replace q b) same = absurd (let e = same.item in cc)
+move_from (RemoveItem p j) (AddItem q l u) same = absurd (let e = same.text in cc)
+move_from (RemoveItem p j) (RemoveItem q l) same =
+    λ i. RemoveItem (same.at i) (same_Some j l same.item i)
 
 move_same : IsAntisymmetric move_cmp
 move_same m n e =
     let first = both_equal (nat_cmp (action m) (action n)) _ e in
-    let rest = both_equal (path_cmp (place m) (place n)) _ first.1 in
-    move_from m n (nat_cmp-IsAntisymmetric _ _ first.0)
-    (slice_cmp-IsAntisymmetric name_same _ _ rest.0) (option_same _ _ rest.1)
+    let rest = both_equal (place_cmp m n) _ first.1 in
+    let at = both_equal (path_cmp (place m) (place n)) _ rest.0 in
+    let new = both_equal (option_cmp part_cmp (new_part m) (new_part n)) _ rest.1 in
+    move_from m n
+    (record {
+      kind = nat_cmp-IsAntisymmetric _ _ first.0;
+      at = slice_cmp-IsAntisymmetric name_same _ _ at.0;
+      item = option_same nat_cmp-IsAntisymmetric _ _ at.1;
+      part = option_same part_same _ _ new.0;
+      text = option_same name_same _ _ new.1;
+    })
 
 -- it ties only what is the same
 pub listed_same : IsAntisymmetric listed_cmp

@@ -1,17 +1,36 @@
 -- Moves as operations of a patch, and the text of a plan.
-use Rattle.std.specs.Prelude.{ℕ, suc, List, [], ◌∷◌, ◌++◌, codes, decimal, length}
+use Rattle.std.specs.Int.Digits.{digits_of}
+use Rattle.std.specs.Prelude.{ℕ, zero, suc, ◌+◌, List, [], ◌∷◌, ◌++◌, codes, decimal, length, map}
 use Rattle.conf_doc.specs.Configuration.{part_tree}
+use Rattle.conf_doc.specs.Document.{text}
 use Rattle.conf_doc.specs.Texts.{compact, line_feed}
+use Rattle.patch_core.specs.Indexes.{base, digit_0}
 use Rattle.patch_core.specs.Operation.{Operation, add, remove, replace}
 use Rattle.patch_core.specs.Writing.{operation_document}
+use Rattle.move_core.specs.Moves.{Place}
 use Rattle.move_core.specs.declared.moves.Move.{Move}
-use Rattle.move_core.specs.declared.moves.Move.TheVariants.{Add, Remove, Replace}
+use Rattle.move_core.specs.declared.moves.Move.TheVariants.{Add, Remove, Replace, AddItem, RemoveItem}
+
+-- an index in decimal (RFC 6901, section 4): `0`, or digits that don't begin with a 0
+abbrev pub index_text : ℕ → List ℕ
+index_text zero = digit_0 ∷ []
+index_text (suc n) = map (λ d. digit_0 + d) (digits_of base (suc n))
+
+-- the place that a move's operation names: the place that changes, and behind its names the index of an item
+abbrev pub named_place : Move → Place
+named_place (Add p part) = p
+named_place (Remove p) = p
+named_place (Replace p part) = p
+named_place (AddItem p i item) = p ++ index_text i ∷ []
+named_place (RemoveItem p i) = p ++ index_text i ∷ []
 
 -- the operation that a move is
 abbrev pub op : Move → Operation
-op (Add p part) = add p (part_tree part)
-op (Remove p) = remove p
-op (Replace p part) = replace p (part_tree part)
+op (Add p part) = add (named_place (Add p part)) (part_tree part)
+op (Remove p) = remove (named_place (Remove p))
+op (Replace p part) = replace (named_place (Replace p part)) (part_tree part)
+op (AddItem p i item) = add (named_place (AddItem p i item)) (text item)
+op (RemoveItem p i) = remove (named_place (RemoveItem p i))
 
 -- a number and a space
 abbrev pub number_text : ℕ → List ℕ

@@ -1,12 +1,13 @@
 -- The five rules that a move is judged by.
-use Rattle.std.specs.Prelude.{◌≡◌, ◌⊎◌, ℕ, List, [], ◌∷◌, ◌++◌, Some, Contains}
+use Rattle.std.specs.Prelude.{◌≡◌, ◌⊎◌, ℕ, List, [], ◌∷◌, ◌++◌, Option, Some, Contains}
 use Rattle.conf_doc.specs.Changes.{HasPlace}
 use Rattle.conf_doc.specs.Pairs.{find}
 use Rattle.conf_doc.specs.declared.configuration.Config.{Config}
 use Rattle.move_core.specs.Extensions.{ChangesFor, HasRequired, rule_entry}
-use Rattle.move_core.specs.Moves.{Place, place, Agree}
+use Rattle.move_core.specs.Moves.{Place, Agree}
 use Rattle.move_core.specs.Rulebook.{Rulebook}
 use Rattle.move_core.specs.declared.moves.Move.{Move}
+use Rattle.move_core.specs.declared.moves.Move.TheVariants.{Add, Remove, Replace, AddItem, RemoveItem}
 use Rattle.move_core.specs.declared.settings.CreateOnly.{CreateOnly}
 use Rattle.move_core.specs.declared.settings.Required.{Required}
 use Rattle.move_core.specs.declared.settings.Settings.{Settings}
@@ -15,14 +16,33 @@ use Rattle.move_core.specs.declared.settings.Settings.{Settings}
 abbrev pub IsAtOrBelow : Place → Place → Type 0
 IsAtOrBelow p q = (rest : Place) × (q ≡ p ++ rest)
 
--- each want of next at or below the move's place is satisfied in cur, and each of cur in next
+-- the place, of an item with its index, is the move's or lies below it, in the configuration after the move; of an
+-- item that is added it is that item's, and where one is removed none is
+abbrev pub IsNewPlace : Move → Place → Option ℕ → Type 0
+IsNewPlace (Add path part) p item = IsAtOrBelow path p
+IsNewPlace (Remove path) p item = IsAtOrBelow path p
+IsNewPlace (Replace path part) p item = IsAtOrBelow path p
+IsNewPlace (AddItem path i text) p item = (p ≡ path) × (item ≡ Some i)
+IsNewPlace (RemoveItem path i) p item = ⊥
+
+-- the same in the configuration before the move; of an item that is removed it is that item's, and where one is
+-- added none is
+abbrev pub IsOldPlace : Move → Place → Option ℕ → Type 0
+IsOldPlace (Add path part) p item = IsAtOrBelow path p
+IsOldPlace (Remove path) p item = IsAtOrBelow path p
+IsOldPlace (Replace path part) p item = IsAtOrBelow path p
+IsOldPlace (AddItem path i text) p item = ⊥
+IsOldPlace (RemoveItem path i) p item = (p ≡ path) × (item ≡ Some i)
+
+-- each want of next at or below the move's place is satisfied in cur, and each of cur in next; of an item's move the
+-- wants of that item are meant
 pub record HasNoDependency (book : Rulebook) (cur next : Config) (m : Move) : Type 0 where
   pub new :
-      (p : Place) (w : book.Want) → IsAtOrBelow (place m) p
-      → book.HasWant next p w → book.IsSatisfied cur w
+      (p : Place) (item : Option ℕ) (w : book.Want) → IsNewPlace m p item
+      → book.HasWant next p item w → book.IsSatisfied cur w
   pub old :
-      (p : Place) (w : book.Want) → IsAtOrBelow (place m) p
-      → book.HasWant cur p w → book.IsSatisfied next w
+      (p : Place) (item : Option ℕ) (w : book.Want) → IsOldPlace m p item
+      → book.HasWant cur p item w → book.IsSatisfied next w
 
 -- each table without keys in next is in cur, without keys there too
 abbrev pub EmptiesNoTable : Config → Config → Type 0

@@ -18,7 +18,7 @@ use std::alloc::Global;
 pub trait MoveGen: Drop {
     ghost gen_kind: { Self → ℕ };
 
-    /// The kind: 1 for tables, 2 for keys, 3 for fields, 4 for seeds.
+    /// The kind: 1 for tables, 2 for keys, 3 for fields, 4 for seeds, 5 for items.
     fn kind(&self) -> u32
         ensures { result ≡ gen_kind self.now };
 

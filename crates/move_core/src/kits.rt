@@ -23,7 +23,7 @@ pub struct Kit {
 
 /// What is said of a kit.
 pub trait Boxes {
-    /// The generators are of the kinds 1 to 4, the extenders of 1 to 4 and the rules of 1 to 5, in order.
+    /// The generators are of the kinds 1 to 5, the extenders of 1 to 4 and the rules of 1 to 5, in order.
     ghost HasKinds: { Self → Type 0 };
 
     /// The rules before an index fit the models.
@@ -138,7 +138,7 @@ impl Kit {
         out: &mut Vec<Generated>,
     ) -> Result<(), Memory>
         requires kinds { ⟦<Kit as Boxes>⟧.HasKinds self.old }
-        requires at { i < 4 }
+        requires at { i < 5 }
         requires named { IsNamed ctx.now }
         requires cur { IsValidIn ctx.now cur.now }
         requires goal { IsValidIn ctx.now goal.now }

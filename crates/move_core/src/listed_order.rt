@@ -1,16 +1,18 @@
 //! The order of the list of moves.
 ghost use Rattle.std.specs.Prelude.{◌≡◌, ◌<◌, ◌≤◌};
 ghost use Rattle.std.specs.Option.{option_cmp};
+ghost use Rattle.std.specs.Ordering.{nat_cmp};
+ghost use Rattle.host_core.specs.Names.{name_cmp};
 ghost use Rattle.conf_doc.specs.PartOrder.{part_cmp};
-ghost use Rattle.move_core.specs.ListedOrder.{action, listed_cmp, move_cmp, path_cmp, rank_cmp};
-ghost use Rattle.move_core.specs.Moves.{new_part};
+ghost use Rattle.move_core.specs.ListedOrder.{action, listed_cmp, move_cmp, new_cmp, path_cmp, place_cmp, rank_cmp};
+ghost use Rattle.move_core.specs.Moves.{index, new_part, new_text};
 
 use crate::{Move, Ranked};
 use conf_doc::Path;
 use std::cmp::Ordering;
 
-/// Compares two listed moves: by rank, then Remove before Replace before Add, then by the path name by
-/// name, and last by the value. Takes no memory.
+/// Compares two listed moves: by rank, then Remove before Replace before Add, then by the path name by name, an item's
+/// index as a number, and last by the value. Takes no memory.
 pub fn cmp_listed(a: &Ranked, b: &Ranked) -> Ordering
     ensures { result ≡ listed_cmp a.now b.now }
 {
@@ -42,8 +44,40 @@ fn cmp_moves(a: &Move, b: &Move) -> Ordering
         Ordering::Equal => {}
         unequal => return unequal,
     }
+    match cmp_places(a, b) {
+        Ordering::Equal => cmp_new(a, b),
+        unequal => unequal,
+    }
+}
+
+/// By the names, then by the index: a field is before the items of its list.
+fn cmp_places(a: &Move, b: &Move) -> Ordering
+    ensures { result ≡ place_cmp a.now b.now }
+{
     match cmp_paths(a.place(), b.place()) {
-        Ordering::Equal => cmp_new_parts(a, b),
+        Ordering::Equal => cmp_indexes(a, b),
+        unequal => unequal,
+    }
+}
+
+/// No index before any, else as numbers.
+fn cmp_indexes(a: &Move, b: &Move) -> Ordering
+    ensures { result ≡ option_cmp nat_cmp (index a.now) (index b.now) }
+{
+    match (a.index(), b.index()) {
+        (None, None) => Ordering::Equal,
+        (None, Some(_)) => Ordering::Less,
+        (Some(_), None) => Ordering::Greater,
+        (Some(left), Some(right)) => left.cmp(&right),
+    }
+}
+
+/// By the part, or of an item by the text.
+fn cmp_new(a: &Move, b: &Move) -> Ordering
+    ensures { result ≡ new_cmp a.now b.now }
+{
+    match cmp_new_parts(a, b) {
+        Ordering::Equal => cmp_new_texts(a, b),
         unequal => unequal,
     }
 }
@@ -56,6 +90,8 @@ fn action(mv: &Move) -> u8
         Move::Remove(_) => 0,
         Move::Replace(..) => 1,
         Move::Add(..) => 2,
+        Move::AddItem(..) => 2,
+        Move::RemoveItem(..) => 0,
     }
 }
 
@@ -68,6 +104,18 @@ fn cmp_new_parts(a: &Move, b: &Move) -> Ordering
         (None, Some(_)) => Ordering::Less,
         (Some(_), None) => Ordering::Greater,
         (Some(left), Some(right)) => left.compare(right),
+    }
+}
+
+/// Nothing before something, else by the bytes of the texts.
+fn cmp_new_texts(a: &Move, b: &Move) -> Ordering
+    ensures { result ≡ option_cmp name_cmp (new_text a.now) (new_text b.now) }
+{
+    match (a.new_text(), b.new_text()) {
+        (None, None) => Ordering::Equal,
+        (None, Some(_)) => Ordering::Less,
+        (Some(_), None) => Ordering::Greater,
+        (Some(left), Some(right)) => left.cmp(right),
     }
 }
 

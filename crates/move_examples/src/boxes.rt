@@ -107,7 +107,8 @@ fn generate_all(
     generate(alloc, situation, kit, 0, lines)?;
     generate(alloc, situation, kit, 1, lines)?;
     generate(alloc, situation, kit, 2, lines)?;
-    generate(alloc, situation, kit, 3, lines)
+    generate(alloc, situation, kit, 3, lines)?;
+    generate(alloc, situation, kit, 4, lines)
 }
 
 /// Adds the moves of the generator at an index.
@@ -120,7 +121,7 @@ fn generate(
 ) -> Result<(), Fail>
     requires kinds { ⟦<Kit as KitBoxes>⟧.HasKinds kit.old }
     requires ready { IsReady situation.now }
-    requires at { i < 4 }
+    requires at { i < 5 }
     ensures kinds { ⟦<Kit as KitBoxes>⟧.HasKinds kit.new }
 {
     let Situation { ctx, cur, goal, .. } = situation;

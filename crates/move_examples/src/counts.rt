@@ -10,7 +10,7 @@ use example_rows::{Fail, Table, items_at, number_at};
 use host_core::Memory;
 use move_core::{Boxes, Ctx, Generated, Kit, Move, MoveExt, MoveGen, MoveRule};
 use move_extend::{DeleteExt, ReferrersExt, RequiredExt, UpperExt};
-use move_gen::{FieldGen, KeyGen, SeedGen, TableGen};
+use move_gen::{FieldGen, ItemGen, KeyGen, SeedGen, TableGen};
 use move_rules::{CreateOnlyRule, FullRule, NoDependencyRule, NoEmptyRule, RequiredRule};
 use plan_search::SearchError;
 use serde_json::Value;
@@ -234,6 +234,7 @@ fn ask_with_rules(
         counting_box(alloc, KeyGen::new(), all)?,
         counting_box(alloc, FieldGen::new(), all)?,
         counting_box(alloc, SeedGen::new(), all)?,
+        counting_box(alloc, ItemGen::new(), all)?,
     )?;
     ask_with_both(
         alloc,

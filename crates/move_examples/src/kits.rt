@@ -8,7 +8,7 @@ use example_rows::Fail;
 use host_core::Memory;
 use move_core::{Boxes, Kit, MoveExt, MoveGen, MoveRule};
 use move_extend::{DeleteExt, ReferrersExt, RequiredExt, UpperExt};
-use move_gen::{FieldGen, KeyGen, SeedGen, TableGen};
+use move_gen::{FieldGen, ItemGen, KeyGen, SeedGen, TableGen};
 use move_rules::{CreateOnlyRule, FullRule, NoDependencyRule, NoEmptyRule, RequiredRule};
 use recheck::RecheckRule;
 use serde_json::Value;
@@ -85,6 +85,7 @@ fn ask_rules<T: KitTable>(
         Box::new(alloc, KeyGen::new())?,
         Box::new(alloc, FieldGen::new())?,
         Box::new(alloc, SeedGen::new())?,
+        Box::new(alloc, ItemGen::new())?,
     )?;
     ask_both(alloc, gens, rules, table, situation, row)
 }
@@ -120,11 +121,13 @@ pub fn kit_generators(
     keys: Box<dyn MoveGen>,
     fields: Box<dyn MoveGen>,
     seeds: Box<dyn MoveGen>,
+    items: Box<dyn MoveGen>,
 ) -> Result<Vec<Box<dyn MoveGen>>, Memory>
     requires tables { gen_kind tables ≡ 1 }
     requires keys { gen_kind keys ≡ 2 }
     requires fields { gen_kind fields ≡ 3 }
     requires seeds { gen_kind seeds ≡ 4 }
+    requires items { gen_kind items ≡ 5 }
     ensures { IfOk result (λ boxes.
         AreOfKinds (λ b. (MoveGen-box b).gen_kind b.value) generator_kinds boxes.items) }
 {
@@ -133,6 +136,7 @@ pub fn kit_generators(
     boxes.push(keys)?;
     boxes.push(fields)?;
     boxes.push(seeds)?;
+    boxes.push(items)?;
     Ok(boxes)
 }
 

@@ -31,8 +31,11 @@ fn main(rt: HostRuntime) -> Result<(), Fail> {
     tell(&rt, "orders.json", &Orders)?;
     let inputs = read_inputs(&rt, "inputs.json")?;
     tell(&rt, "boxes.json", &Boxes { inputs: &inputs })?;
+    tell(&rt, "item_boxes.json", &Boxes { inputs: &inputs })?;
     tell(&rt, "lists.json", &Lists { inputs: &inputs })?;
+    tell(&rt, "item_lists.json", &Lists { inputs: &inputs })?;
     tell(&rt, "plans.json", &Plans { inputs: &inputs })?;
+    tell(&rt, "item_plans.json", &Plans { inputs: &inputs })?;
     tell(&rt, "rechecks.json", &Rechecks { inputs: &inputs })?;
     tell(&rt, "counts.json", &Counts { inputs: &inputs })?;
     tell(&rt, "operators.json", &Operators { inputs: &inputs })

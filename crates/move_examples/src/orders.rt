@@ -4,14 +4,15 @@ ghost use Rattle.std.specs.Prelude.{◌<◌, IfOk, length};
 use crate::ranks::ranked_at;
 use crate::situations::config_at;
 use conf_doc::{Config, Entry, Part, Path, Table as Entries, Value as Held};
-use example_rows::{Fail, Table, items_at, text_at};
+use example_rows::{Fail, Table, items_at, number_at, text_at};
+use host_core::Txt;
 use move_core::{Move, Ranked, cmp_listed};
 use serde_json::Value;
 use std::alloc::Global;
 
 /// A row has `moves` in order. Each has its `tier`, its number of `extensions` and its `class`, what it
 /// does, which is its `action`, and the names of its `place`. What it puts there is what the configuration
-/// `within` has there.
+/// `within` has there. A move of an item has its `index`, and the `text` that it adds.
 pub struct Orders;
 
 impl Table for Orders {
@@ -53,11 +54,27 @@ fn move_at(alloc: Global, item: &Value) -> Result<Move, Fail> {
     let place = items_at(item, "place")?;
     let action = text_at(item, "action")?;
     let path = path_of(alloc, place)?;
+    if item.get("index").is_some() {
+        return item_move(alloc, item, action, path);
+    }
     if action == "remove" {
         return Ok(Move::Remove(path));
     }
     let part = part_at(alloc, item, place)?;
     put_move(action, path, part)
+}
+
+/// The move of an item of the list at a path, by what it does.
+fn item_move(alloc: Global, item: &Value, action: &str, path: Path) -> Result<Move, Fail> {
+    let index = usize::try_from(number_at(item, "index")?).map_err(|_| Fail::Row)?;
+    match action {
+        "add" => {
+            let text = Txt::new(alloc, text_at(item, "text")?)?;
+            Ok(Move::AddItem(path, index, text))
+        }
+        "remove" => Ok(Move::RemoveItem(path, index)),
+        _ => Err(Fail::Row),
+    }
 }
 
 /// The move that puts a part at a path, by what it does.

@@ -24,8 +24,9 @@ fn class_named(name: &str) -> Result<u8, Fail> {
     match name {
         "table" => Ok(0),
         "key" => Ok(1),
-        "field" => Ok(2),
-        "seed" => Ok(3),
+        "item" => Ok(2),
+        "field" => Ok(3),
+        "seed" => Ok(4),
         _ => Err(Fail::Row),
     }
 }
@@ -35,7 +36,8 @@ pub fn class_name(class: u8) -> &'static str {
     match class {
         0 => "table",
         1 => "key",
-        2 => "field",
+        2 => "item",
+        3 => "field",
         _ => "seed",
     }
 }

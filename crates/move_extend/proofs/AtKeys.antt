@@ -8,7 +8,7 @@ use Rattle.conf_doc.specs.declared.configuration.Config.{Config}
 use Rattle.conf_doc.specs.declared.configuration.Entry.{Entry}
 use Rattle.conf_doc.specs.declared.configuration.Table.{Table}
 use Rattle.conf_doc.specs.declared.parts.Part.TheVariants as part
-use Rattle.move_core.specs.Moves.{Place, new_part, place, step}
+use Rattle.move_core.specs.Moves.{Place, part_after, place, step}
 use Rattle.move_core.specs.Services.{table_of}
 use Rattle.move_core.specs.declared.moves.Move.{Move}
 use Rattle.move_extend.specs.Entries.{entry_of, value_of}
@@ -88,7 +88,7 @@ by_table cur next m t is at u k =
       | true ↦ λ e. inr (same_by u t e)
       | false ↦ λ e.
           inl (sym (ap (option_and_then (find k))
-          (ap (find u) is ∙ other_table cur (place m) (new_part m) u (λ same. apart_by u t e (same ∙ sym at)))))
+          (ap (find u) is ∙ other_table cur (place m) (part_after cur m) u (λ same. apart_by u t e (same ∙ sym at)))))
     ] refl
 
 -- the second name of a place
@@ -104,8 +104,8 @@ by_key cur next m t k is at named key =
       | false ↦ λ e.
           let first : t ≡ named.0 = at ∙ ap table_of named.2 in
           let left : entry_of (step cur m) named.0 key ≡ entry_of cur named.0 key =
-          subst (λ p. entry_of (with_part cur p (new_part m)) named.0 key ≡ entry_of cur named.0 key) (sym named.2)
-          (other_key cur named.0 k named.1 (new_part m) key (apart_by key k e)) in
+          subst (λ p. entry_of (with_part cur p (part_after cur m)) named.0 key ≡ entry_of cur named.0 key) (sym named.2)
+          (other_key cur named.0 k named.1 (part_after cur m) key (apart_by key k e)) in
           inl (subst (λ u. entry_of cur u key ≡ entry_of next u key) (sym first) (sym (ap (λ c. entry_of c named.0 key) is ∙ left)))
     ] refl
 

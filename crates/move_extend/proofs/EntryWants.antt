@@ -10,10 +10,9 @@ use Rattle.conf_check.specs.declared.want_iter.WantIter.{WantIter}
 use Rattle.conf_check.specs.declared.want_iter.WantPlace.{WantPlace}
 use Rattle.move_core.specs.Contexts.{names_of}
 use Rattle.move_core.specs.declared.moves.Move.{Move}
-use Rattle.move_core.specs.declared.moves.Move.TheVariants.{Remove}
 use Rattle.move_extend.specs.Found.{Finds}
 use Rattle.move_extend.specs.Mentions.{GivesOfEntry, IsRemovalOf}
-use Rattle.move_extend.specs.Referrers.{IsBroken, place_of}
+use Rattle.move_extend.specs.Referrers.{IsBroken, place_of, removal_at}
 use Rattle.move_extend.specs.declared.changes.Change.{Change}
 use Rattle.move_extend.proofs.Names.{names_named}
 
@@ -57,9 +56,12 @@ module _ (c : Change) (t u k : List ℕ) (old : List Move) where
         subst (λ d. IsWantAt c.models.now d first.place (want_of a.want)) walk.of
         (subst (λ ms. IsWantAt ms s.config.now first.place (want_of a.want)) walk.by first.wanted.1)
 
+    item : a.item ≡ first.place.item
+    item = (subst (λ d. IsNamed d first.place a) walk.of first.named).item
+
     this : (x : Move) → IsRemovalOf c t a x → GivesOfEntry c t u k x
     this x is = record {
-      given = record { at = first.place; want = want_of a.want; wanted = wanted; broken = is.0; place = place_of a; names = named; move = is.1 };
+      given = record { at = first.place; want = want_of a.want; wanted = wanted; broken = is.0; place = place_of a; names = named; move = is.1 ∙ ap (removal_at c.cur.now (place_of a)) item };
       at = walk.within first.place (want_of a.want) first.wanted;
     }
 
@@ -70,7 +72,8 @@ module _ (c : Change) (t u k : List ℕ) (old : List Move) where
     here : (x : Move) (gives : GivesOfEntry c t u k x) → gives.given.at ≡ first.place → gives.given.want ≡ want_of a.want → Contains new x
     here x gives place want =
         let names : gives.given.place ≡ place_of a = same_Some gives.given.place (place_of a) (sym gives.given.names ∙ ap (names_of c.cur.now) place ∙ named) in
-        finds.all x (subst (IsBroken c.models.now c.next.now t) want gives.given.broken, gives.given.move ∙ ap Remove names)
+        let number : gives.given.at.item ≡ a.item = ap (λ q. q.item) place ∙ sym item in
+        finds.all x (subst (IsBroken c.models.now c.next.now t) want gives.given.broken, gives.given.move ∙ (λ i. removal_at c.cur.now (names i) (number i)))
 
     all_now : (x : Move) (gives : GivesOfEntry c t u k x) → Contains found x ⊎ IsWantAhead s gives.given.at gives.given.want
         → Contains new x ⊎ IsWantAhead v gives.given.at gives.given.want

@@ -16,7 +16,7 @@ use Rattle.conf_doc.proofs.Edits.{same_Some}
 use Rattle.key_split.specs.Key.{key_parts}
 use Rattle.move_core.specs.Contexts.{IsModelled, rulebook}
 use Rattle.move_core.specs.Extensions.{IsRequired, put_value, required_part, rule_entry, rule_field}
-use Rattle.move_core.specs.Moves.{Place, new_part, place, step}
+use Rattle.move_core.specs.Moves.{Place, part_after, place, step}
 use Rattle.move_core.specs.Services.{table_of}
 use Rattle.move_core.specs.declared.contexts.Ctx.{Ctx}
 use Rattle.move_core.specs.declared.moves.Move.{Move}
@@ -83,7 +83,7 @@ seen cur m q key differs = elim (by_table cur (step cur m) m (table_of (place m)
   | inr table ↦
       let there = subst (λ t. part_at cur (t ∷ key ∷ option_to_list q.field) ≢ part_at (step cur m) (t ∷ key ∷ option_to_list q.field)) table differs in
       ap (λ b. b && is_field_at (slice_get (place m) 2) q.field) (same_text q.table (table_of (place m)) table)
-      ∙ field_seen cur (place m) (new_part m) key q.field there
+      ∙ field_seen cur (place m) (part_after cur m) key q.field there
 ]
 
 -- where a move can change no requiring place nothing is required

@@ -55,6 +55,13 @@ module _ (q l p : WantPlace) (one : IsOneSlot q p) where
   between (inr (t, inr (k, inl less))) after = absurd (past_field t k less after)
   between (inr (t, inr (k, inr h))) after = record { table = sym t ∙ one.table; key = sym k ∙ one.key; field = sym h.0 ∙ one.field }
 
+-- the later one of two places of one entry or field has the greater number
+pub item_less : (q l : WantPlace) → IsOneSlot q l → IsPlaceBefore q l → q.item < l.item
+item_less q l one (inl less) = let e = one.table in absurd (omega arith)
+item_less q l one (inr (t, inl less)) = let e = one.key in absurd (omega arith)
+item_less q l one (inr (t, inr (k, inl less))) = absurd (not_itself q.field l.field one.field less)
+item_less q l one (inr (t, inr (k, inr h))) = h.1
+
 -- ---- a name stands at one position
 
 pub position_once : {A : Type 0} (ps : List (List ℕ × A)) (i j : ℕ) (p q : List ℕ × A) → IsRising ps → slice_get ps i ≡ Some p → slice_get ps j ≡ Some q → p.0 ≡ q.0 → i ≡ j

@@ -10,9 +10,8 @@ use Rattle.conf_doc.specs.declared.configuration.Value.{Value}
 use Rattle.conf_doc.specs.declared.configuration.Value.TheVariants.{Text, List as Listed}
 use Rattle.key_split.specs.Key.{key_parts}
 use Rattle.move_core.specs.declared.moves.Move.{Move}
-use Rattle.move_core.specs.declared.moves.Move.TheVariants.{Remove}
 use Rattle.move_extend.specs.Found.{GivenByOne}
-use Rattle.move_extend.specs.Referrers.{GivesRemovals, IsBroken, place_of}
+use Rattle.move_extend.specs.Referrers.{GivesRemovals, IsBroken, removal_of}
 use Rattle.move_extend.specs.declared.changes.Change.{Change}
 use Rattle.move_extend.specs.declared.mentions.Gone.{Gone}
 
@@ -52,10 +51,10 @@ BreaksOnly c t parts =
     (at : WantPlace) (w : Want) → IsWantAt c.models.now c.cur.now at w
     → IsBroken c.models.now c.next.now t w → Contains parts w.text
 
--- it is the removal of the place of that want, which is broken
+-- it is the removal of what has that want, which is broken
 abbrev pub IsRemovalOf : Change → List ℕ → WantAt → Move → Type 0
 IsRemovalOf c t at x =
-    IsBroken c.models.now c.next.now t (want_of at.want) × (x ≡ Remove (place_of at))
+    IsBroken c.models.now c.next.now t (want_of at.want) × (x ≡ removal_of c.cur.now at)
 
 -- the place of some broken want is removed
 abbrev pub GivesOfChange : Change → List ℕ → Move → Type 0

@@ -7,10 +7,10 @@ use Rattle.conf_check.specs.declared.want_iter.WantAt.{WantAt}
 use Rattle.conf_check.specs.declared.want_iter.WantPlace.{WantPlace}
 use Rattle.conf_doc.specs.declared.configuration.Config.{Config}
 use Rattle.yang_model.specs.ModelSets.{ModelSet}
-use Rattle.move_core.specs.Contexts.{names_of}
+use Rattle.move_core.specs.Contexts.{item_at, names_of}
+use Rattle.move_core.specs.Extensions.{removal}
 use Rattle.move_core.specs.Moves.{Place}
 use Rattle.move_core.specs.declared.moves.Move.{Move}
-use Rattle.move_core.specs.declared.moves.Move.TheVariants.{Remove}
 use Rattle.move_extend.specs.Found.{AddsUnlessLast}
 
 -- a key of the table is wanted that isn't there
@@ -22,13 +22,21 @@ IsBroken models next t want =
 abbrev pub place_of : WantAt → Place
 place_of at = at.table.now ∷ at.key.now ∷ option_to_list (option_map (λ f. f.now) at.field)
 
--- the removal of the place of such a want is put at the end, unless it is the last
-abbrev pub AddsRemoval : ModelSet → Config → List ℕ → WantAt → List Move → List Move → Type 0
-AddsRemoval models next t at old new =
-    (IsBroken models next t (want_of at.want) × AddsUnlessLast (Remove (place_of at)) old new)
+-- the removal of what stands at a place, or where a list stands there of its item of that number
+abbrev pub removal_at : Config → Place → ℕ → Move
+removal_at c p i = removal p (item_at c p i)
+
+-- that of what has a want that is handed out
+abbrev pub removal_of : Config → WantAt → Move
+removal_of c at = removal_at c (place_of at) at.item
+
+-- the removal of what has such a want is put at the end, unless it is the last
+abbrev pub AddsRemoval : ModelSet → Config → Config → List ℕ → WantAt → List Move → List Move → Type 0
+AddsRemoval models cur next t at old new =
+    (IsBroken models next t (want_of at.want) × AddsUnlessLast (removal_of cur at) old new)
     ⊎ ((¬ IsBroken models next t (want_of at.want)) × (new ≡ old))
 
--- the place of some such want is removed
+-- what has some such want is removed
 pub record GivesRemovals (models : ModelSet) (cur next : Config) (t : List ℕ) (x : Move)
     : Type 0 where
   pub at : WantPlace
@@ -37,4 +45,4 @@ pub record GivesRemovals (models : ModelSet) (cur next : Config) (t : List ℕ) 
   pub broken : IsBroken models next t want
   pub place : Place
   pub names : names_of cur at ≡ Some place
-  pub move : x ≡ Remove place
+  pub move : x ≡ removal_at cur place at.item

@@ -1,17 +1,17 @@
 //! The extender of referrers.
-ghost use Rattle.std.specs.Prelude.{◌≡◌, ◌↔◌, [], map, Some, IfOk, IsTrue, OnOk};
+ghost use Rattle.std.specs.Prelude.{◌≡◌, ◌↔◌, [], map, Some, IfOk, IsSome, IsTrue, OnOk};
 ghost use Rattle.conf_check.specs.Wants.{want_of};
 ghost use Rattle.conf_doc.specs.Pairs.{find};
 ghost use Rattle.conf_doc.specs.Paths.{IsPath};
 ghost use Rattle.move_core.specs.Appends.{Appends};
 ghost use Rattle.move_core.specs.Contexts.{rulebook};
 ghost use Rattle.move_core.specs.Extensions.{IsReferrer};
-ghost use Rattle.move_core.specs.Moves.{IsDefined};
+ghost use Rattle.move_core.specs.Moves.{IsDefined, list_at};
 ghost use Rattle.key_split.specs.Key.{key_parts};
 ghost use Rattle.move_extend.specs.Entries.{entry_of};
 ghost use Rattle.move_extend.specs.Found.{Finds};
 ghost use Rattle.move_extend.specs.Mentions.{BreaksOnly, GivesOfChange, GivesOfEntry, GivesOfTable, IsRemovalOf, texts_of};
-ghost use Rattle.move_extend.specs.Referrers.{AddsRemoval, GivesRemovals, IsBroken, place_of};
+ghost use Rattle.move_extend.specs.Referrers.{AddsRemoval, GivesRemovals, IsBroken, place_of, removal_of};
 
 use crate::changes::Change;
 use crate::entries::table_of;
@@ -20,7 +20,7 @@ use crate::kept_keys::{keeps_always, keeps_keys};
 use crate::mentions::{Gone, mentions_one, parts_of};
 use crate::referring::{is_referred, table_refers};
 use conf_check::{Want, WantAt, entry_wants, is_satisfied, wants};
-use conf_doc::{Config, Entry, Path, Table};
+use conf_doc::{Config, Entry, Path, Table, Value};
 use host_core::Memory;
 use move_core::{Ctx, Move, MoveExt, Moves, step};
 use std::alloc::Global;
@@ -72,6 +72,32 @@ fn path_of(alloc: Global, at: &WantAt) -> Result<Path, Memory>
     }
 }
 
+/// Whether a want stands in a list.
+fn is_in_list(cur: &Config, at: &WantAt) -> bool
+    ensures { IsTrue result ↔ IsSome (list_at cur.now (place_of at.now)) }
+{
+    match at.field {
+        Some(field) => match cur.value(at.table, at.key, field) {
+            Some(Value::List(_)) => true,
+            _ => false,
+        },
+        None => false,
+    }
+}
+
+/// The removal of what has a want: of an entry, a field, or an item of a list.
+fn removal_of(alloc: Global, cur: &Config, at: &WantAt) -> Result<Move, Memory>
+    requires { IsPath (place_of at.now) }
+    ensures { IfOk result (λ m. m ≡ removal_of cur.now at.now) }
+{
+    let path = path_of(alloc, at)?;
+    if is_in_list(cur, at) {
+        Ok(Move::RemoveItem(path, at.item))
+    } else {
+        Ok(Move::Remove(path))
+    }
+}
+
 /// Whether a key of a table is wanted that a configuration lacks.
 fn is_broken(models: &Models, next: &Config, table: &str, want: &Want) -> bool
     ensures { IsTrue result ↔ IsBroken models.now next.now table.now (want_of want.now) }
@@ -79,23 +105,24 @@ fn is_broken(models: &Models, next: &Config, table: &str, want: &Want) -> bool
     want.table == table && !is_satisfied(models, next, want)
 }
 
-/// Adds the removal of the place of such a want. The wants of one place stand together, so only the last
-/// removal may be the same.
+/// Adds the removal of what has such a want. The wants of one key stand together, so only the last removal may
+/// be the same.
 fn add_removal(
     alloc: Global,
     models: &Models,
+    cur: &Config,
     next: &Config,
     table: &str,
     at: &WantAt,
     found: &mut Moves,
 ) -> Result<(), Memory>
     requires { IsPath (place_of at.now) }
-    ensures { let Adds = AddsRemoval models.now next.now table.now at.now in
+    ensures { let Adds = AddsRemoval models.now cur.now next.now table.now at.now in
         OnOk result (Adds found.old found.new) }
 {
     if is_broken(models, next, table, &at.want) {
-        let path = path_of(alloc, at)?;
-        add_unless_last(found, Move::Remove(path))
+        let removal = removal_of(alloc, cur, at)?;
+        add_unless_last(found, removal)
     } else {
         Ok(())
     }
@@ -115,7 +142,7 @@ fn broken_wants(
     let _tables = cur.len();
     let mut found = Moves::new(alloc);
     for at in wants(models, cur) {
-        add_removal(alloc, models, next, table, &at, &mut found)?;
+        add_removal(alloc, models, cur, next, table, &at, &mut found)?;
     }
     Ok(found)
 }
@@ -133,8 +160,8 @@ fn find_removal(
         (Finds (IsRemovalOf change.now gone.now at.now) found.old found.new) }
 {
     if is_broken(change.models, change.next, gone, &at.want) {
-        let path = path_of(alloc, at)?;
-        add_move(found, Move::Remove(path))
+        let removal = removal_of(alloc, change.cur, at)?;
+        add_move(found, removal)
     } else {
         Ok(())
     }

@@ -1,8 +1,7 @@
 //! The extender of the place above.
 ghost use Rattle.std.specs.Prelude.{◌≡◌, option_map, IfOk};
 ghost use Rattle.conf_doc.specs.Changes.{part_at};
-ghost use Rattle.move_core.specs.Extensions.{as_in_goal, upper};
-ghost use Rattle.move_core.specs.Moves.{place};
+ghost use Rattle.move_core.specs.Extensions.{as_in_goal, upper, upper_place};
 
 use crate::entries::{copy_entry, copy_table, copy_value, entry_at, value_at};
 use crate::found::append_move;
@@ -46,13 +45,26 @@ impl MoveExt for UpperExt {
 }
 
 /// The place one name shorter, of a place of two or three names.
-fn upper_place(alloc: Global, place: &Path) -> Result<Option<Path>, Memory>
+fn shorter(alloc: Global, place: &Path) -> Result<Option<Path>, Memory>
     ensures { IfOk result (λ p. p ≡ upper place.now) }
 {
     match place.len() {
         2 => Ok(Some(Path::new(alloc, &[place.name_at(0)])?)),
         3 => Ok(Some(Path::new(alloc, &[place.name_at(0), place.name_at(1)])?)),
         _ => Ok(None),
+    }
+}
+
+/// The place one name shorter than the one that a move's operation names: of an item the field.
+fn upper_place(alloc: Global, mv: &Move) -> Result<Option<Path>, Memory>
+    ensures { IfOk result (λ p. p ≡ upper_place mv.now) }
+{
+    match mv {
+        Move::Add(place, _) => shorter(alloc, place),
+        Move::Remove(place) => shorter(alloc, place),
+        Move::Replace(place, _) => shorter(alloc, place),
+        Move::AddItem(place, _, _) => Ok(Some(place.copy(alloc)?)),
+        Move::RemoveItem(place, _) => Ok(Some(place.copy(alloc)?)),
     }
 }
 
@@ -82,9 +94,9 @@ fn as_in_goal(alloc: Global, goal: &Config, place: Path) -> Result<Move, Memory>
 
 /// The place above a move's becomes as in goal.
 fn upper_of(alloc: Global, goal: &Config, mv: &Move) -> Result<Option<Move>, Memory>
-    ensures { IfOk result (λ o. o ≡ option_map (as_in_goal goal.now) (upper (place mv.now))) }
+    ensures { IfOk result (λ o. o ≡ option_map (as_in_goal goal.now) (upper_place mv.now)) }
 {
-    match upper_place(alloc, mv.place())? {
+    match upper_place(alloc, mv)? {
         Some(place) => Ok(Some(as_in_goal(alloc, goal, place)?)),
         None => Ok(None),
     }

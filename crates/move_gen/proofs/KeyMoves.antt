@@ -9,7 +9,7 @@ use Rattle.move_core.specs.Generated.{AddsEntry, IsForItsPlace, IsFromKeys, IsKe
 use Rattle.move_core.specs.Moves.{Lacks, Place}
 use Rattle.move_core.specs.declared.moves.Generated.{Generated}
 use Rattle.move_core.specs.declared.moves.Move.{Move}
-use Rattle.move_core.specs.declared.moves.Move.TheVariants.{Add, Remove, Replace}
+use Rattle.move_core.specs.declared.moves.Move.TheVariants.{Add, Remove, Replace, AddItem, RemoveItem}
 use Rattle.move_gen.specs.Given.{IsAddedEntry, IsOfTable, IsRemovedEntry, move_for, own_move}
 use Rattle.move_gen.specs.Giving.{IsOfSome}
 use Rattle.move_gen.proofs.Owned.{apart_add, of_its_place, owned}
@@ -82,6 +82,8 @@ module _ (cur goal : Config) where
   removes_forth (Remove (t ∷ k ∷ f ∷ p)) g e is = let long = is.0 in absurd (omega (arith, long))
   removes_forth (Add p x) g e is = absurd is
   removes_forth (Replace p x) g e is = absurd is
+  removes_forth (AddItem p i x) g e is = absurd is
+  removes_forth (RemoveItem p i) g e is = absurd is
 
   removes_back : (g : Generated) → IsOfSome (IsOfTable (IsRemovedEntry goal)) cur g → IsKeyRemove cur goal g.mv × IsForItsPlace g × (g.class ≡ key_class)
   removes_back g h =

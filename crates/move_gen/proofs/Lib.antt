@@ -1,6 +1,7 @@
 pub mod Appended
 pub mod Chosen
 pub mod FieldMoves
+pub mod ItemMoves
 pub mod KeyMoves
 pub mod Named
 pub mod OfKinds

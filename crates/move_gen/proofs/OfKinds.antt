@@ -3,7 +3,7 @@ use Rattle.std.proofs.Common.{◌↔◌, List, Result, Ok, Err, inl, inr, refl, 
 use Rattle.std.specs.Prelude.{OnOk}
 use Rattle.conf_doc.specs.declared.configuration.Config.{Config}
 use Rattle.move_core.specs.Appends.{Appends}
-use Rattle.move_core.specs.Generated.{IsFromFields, IsFromKeys, IsFromSeeds, IsGenerated}
+use Rattle.move_core.specs.Generated.{IsFromFields, IsFromItems, IsFromKeys, IsFromSeeds, IsGenerated}
 use Rattle.move_core.specs.Rulebook.{Rulebook}
 use Rattle.move_core.specs.declared.moves.Generated.{Generated}
 use Rattle.move_gen.specs.Giving.{Gives}
@@ -22,7 +22,8 @@ module _ (book : Rulebook) (cur goal : Config) (g : Generated) where
       back (inl is) = let e = is.0 in absurd (omega (arith, e))
       back (inr (inl is)) = is.1
       back (inr (inr (inl is))) = let e = is.0 in absurd (omega (arith, e))
-      back (inr (inr (inr is))) = let e = is.0 in absurd (omega (arith, e))
+      back (inr (inr (inr (inl is)))) = let e = is.0 in absurd (omega (arith, e))
+      back (inr (inr (inr (inr is)))) = let e = is.0 in absurd (omega (arith, e))
 
   pub third_kind : IsFromFields cur goal g ↔ IsGenerated book cur goal 3 g
   third_kind = (λ is. inr (inr (inl (refl, is))), back)
@@ -31,13 +32,25 @@ module _ (book : Rulebook) (cur goal : Config) (g : Generated) where
       back (inl is) = let e = is.0 in absurd (omega (arith, e))
       back (inr (inl is)) = let e = is.0 in absurd (omega (arith, e))
       back (inr (inr (inl is))) = is.1
-      back (inr (inr (inr is))) = let e = is.0 in absurd (omega (arith, e))
+      back (inr (inr (inr (inl is)))) = let e = is.0 in absurd (omega (arith, e))
+      back (inr (inr (inr (inr is)))) = let e = is.0 in absurd (omega (arith, e))
 
   pub fourth_kind : IsFromSeeds book cur goal g ↔ IsGenerated book cur goal 4 g
-  fourth_kind = (λ is. inr (inr (inr (refl, is))), back)
+  fourth_kind = (λ is. inr (inr (inr (inl (refl, is)))), back)
     where
       back : IsGenerated book cur goal 4 g → IsFromSeeds book cur goal g
       back (inl is) = let e = is.0 in absurd (omega (arith, e))
       back (inr (inl is)) = let e = is.0 in absurd (omega (arith, e))
       back (inr (inr (inl is))) = let e = is.0 in absurd (omega (arith, e))
-      back (inr (inr (inr is))) = is.1
+      back (inr (inr (inr (inl is)))) = is.1
+      back (inr (inr (inr (inr is)))) = let e = is.0 in absurd (omega (arith, e))
+
+  pub fifth_kind : IsFromItems cur goal g ↔ IsGenerated book cur goal 5 g
+  fifth_kind = (λ is. inr (inr (inr (inr (refl, is)))), back)
+    where
+      back : IsGenerated book cur goal 5 g → IsFromItems cur goal g
+      back (inl is) = let e = is.0 in absurd (omega (arith, e))
+      back (inr (inl is)) = let e = is.0 in absurd (omega (arith, e))
+      back (inr (inr (inl is))) = let e = is.0 in absurd (omega (arith, e))
+      back (inr (inr (inr (inl is)))) = let e = is.0 in absurd (omega (arith, e))
+      back (inr (inr (inr (inr is)))) = is.1

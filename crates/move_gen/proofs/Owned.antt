@@ -6,7 +6,7 @@ use Rattle.move_core.specs.Generated.{IsForItsPlace}
 use Rattle.move_core.specs.Moves.{Place, place}
 use Rattle.move_core.specs.declared.moves.Generated.{Generated}
 use Rattle.move_core.specs.declared.moves.Move.{Move}
-use Rattle.move_core.specs.declared.moves.Move.TheVariants.{Add, Remove, Replace}
+use Rattle.move_core.specs.declared.moves.Move.TheVariants.{Add, Remove, Replace, AddItem, RemoveItem}
 use Rattle.move_gen.specs.Given.{own_move}
 
 -- a move for its own place is told by the move and the class
@@ -27,6 +27,8 @@ is_remove : Move → Bool
 is_remove (Add p x) = false
 is_remove (Remove p) = true
 is_remove (Replace p x) = false
+is_remove (AddItem p i x) = false
+is_remove (RemoveItem p i) = false
 
 pub apart_add : (p q : Place) (x : Part) → Remove p ≡ Add q x → ⊥
 unfolding is_remove

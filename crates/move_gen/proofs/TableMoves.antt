@@ -6,7 +6,7 @@ use Rattle.conf_doc.specs.declared.parts.Part.TheVariants as part
 use Rattle.move_core.specs.Generated.{IsFromTables, IsTableMove, table_class}
 use Rattle.move_core.specs.declared.moves.Generated.{Generated}
 use Rattle.move_core.specs.declared.moves.Move.{Move}
-use Rattle.move_core.specs.declared.moves.Move.TheVariants.{Add, Remove, Replace}
+use Rattle.move_core.specs.declared.moves.Move.TheVariants.{Add, Remove, Replace, AddItem, RemoveItem}
 use Rattle.move_gen.specs.Given.{IsAddedTable, IsRemovedTable, own_move}
 use Rattle.move_gen.specs.Giving.{IsOfSome}
 use Rattle.move_gen.proofs.Owned.{apart_add, mapped_as, mapped_some, of_its_place, owned, some_mapped}
@@ -22,6 +22,8 @@ module _ (cur goal : Config) where
       inr (record { name = t; part = at.0; there = at.1; is = (is.1, e ∙ ap (λ y. own_move (Add (t ∷ []) y) table_class) at.2) })
   forth (Add (t ∷ u ∷ p) x) g e is = let long = is.0 in absurd (omega (arith, long))
   forth (Replace p x) g e is = absurd is
+  forth (AddItem p i x) g e is = absurd is
+  forth (RemoveItem p i) g e is = absurd is
 
   back : (g : Generated) → IsOfSome (IsRemovedTable goal) cur g ⊎ IsOfSome (IsAddedTable cur) goal g → IsFromTables cur goal g
   back g (inl h) = owned (IsTableMove cur goal) _ table_class g h.is.1 (refl, some_mapped part.Table _ h.part h.there, h.is.0)

@@ -11,7 +11,7 @@ use Rattle.conf_check.specs.Wants.{Want, IsNamed, IsWantAt, field_name, want_of}
 use Rattle.conf_check.specs.declared.want_iter.WantAt.{WantAt}
 use Rattle.conf_check.specs.declared.want_iter.WantIter.{WantIter}
 use Rattle.conf_check.specs.declared.want_iter.WantPlace.{WantPlace}
-use Rattle.move_core.specs.Contexts.{HasWant, field_names, names_of}
+use Rattle.move_core.specs.Contexts.{HasWant, field_names, item_at, names_of}
 use Rattle.yang_model.specs.ModelSets.{ModelSet}
 use Rattle.move_gen.specs.FieldWants.{AreElsewhere}
 use Rattle.move_gen.proofs.Owned.{mapped_as}
@@ -99,11 +99,12 @@ module _ (models : ModelSet) (c : Config) (t k f : List ℕ) (s s' : WantIter) (
   here = inv.within gives.place (want_of at.want) gives.wanted
 
   -- the want is at the field
-  pub stands : b ≡ true → HasWant models c (t ∷ k ∷ f ∷ []) (want_of at.want)
+  pub stands : b ≡ true → HasWant models c (t ∷ k ∷ f ∷ []) (item_at c (t ∷ k ∷ f ∷ []) gives.place.item) (want_of at.want)
   stands is_there = record {
     at = gives.place;
     wanted = subst (λ m. IsWantAt m c gives.place (want_of at.want)) inv.models (subst (λ x. IsWantAt s.models.now x gives.place (want_of at.want)) inv.config gives.wanted.1);
     names = hits c t k f gives.place at place_named here (says.0 is_there);
+    index = refl;
   }
 
   -- it isn't
@@ -125,8 +126,8 @@ module _ (models : ModelSet) (c : Config) (t k f : List ℕ) (s s' : WantIter) (
       go p w (inr ahead) = by p w (gives.others p w ahead)
 
 -- at the end no want is at the field
-pub none_left : (models : ModelSet) (c : Config) (t k f : List ℕ) (s : WantIter) → AreElsewhere models c t k f s → IsDone s → (w : Want) → ¬ HasWant models c (t ∷ k ∷ f ∷ []) w
-none_left models c t k f s inv done w h = by (inv.rest h.at w (names_at c t k f h.at h.names).0 h.wanted)
+pub none_left : (models : ModelSet) (c : Config) (t k f : List ℕ) (s : WantIter) → AreElsewhere models c t k f s → IsDone s → (i : Option ℕ) (w : Want) → ¬ HasWant models c (t ∷ k ∷ f ∷ []) i w
+none_left models c t k f s inv done i w h = by (inv.rest h.at w (names_at c t k f h.at h.names).0 h.wanted)
   where
     by : (names_of c h.at ≢ Some (t ∷ k ∷ f ∷ [])) ⊎ IsWantAhead s h.at w → ⊥
     by (inl other) = other h.names

@@ -8,3 +8,4 @@ pub mod Choosing
 pub mod EntryLaws
 pub mod FieldWants
 pub mod Given
+pub mod ItemsGiven

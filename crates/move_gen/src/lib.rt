@@ -7,11 +7,13 @@ mod entries;
 mod field_wants;
 mod fields;
 mod giving;
+mod items;
 mod keys;
 mod seeds;
 mod tables;
 
 pub use fields::{FieldGen, field_moves};
+pub use items::ItemGen;
 pub use keys::KeyGen;
 pub use seeds::SeedGen;
 pub use tables::TableGen;

@@ -16,7 +16,7 @@ use Rattle.move_core.specs.ListedOrder.{move_cmp, rank_cmp}
 use Rattle.move_core.specs.declared.contexts.Ctx.{Ctx}
 use Rattle.move_core.specs.declared.moves.Generated.{Generated}
 use Rattle.move_core.specs.declared.moves.Move.{Move}
-use Rattle.move_core.specs.declared.moves.Move.TheVariants.{Add, Remove, Replace}
+use Rattle.move_core.specs.declared.moves.Move.TheVariants.{Add, Remove, Replace, AddItem, RemoveItem}
 use Rattle.move_core.specs.declared.moves.Ranked.{Ranked}
 use Rattle.move_lists.specs.MoveKeys.{keys_decide}
 use Rattle.move_lists.specs.Ranking.{IsReachOf}
@@ -59,6 +59,8 @@ early_or_not start goal g = by (restoring_or_not start goal g) g.mv refl
     by (inr not) (Add p v) e = inr (λ h. absurd (let t = sym (ap (λ x. other_tier x 1) e) ∙ h.1 in omega (arith, t)))
     by (inr not) (Remove p) e = inl (not, ap (λ x. other_tier x 1) e)
     by (inr not) (Replace p v) e = inl (not, ap (λ x. other_tier x 1) e)
+    by (inr not) (AddItem p i v) e = inr (λ h. absurd (let t = sym (ap (λ x. other_tier x 1) e) ∙ h.1 in omega (arith, t)))
+    by (inr not) (RemoveItem p i) e = inl (not, ap (λ x. other_tier x 1) e)
 
 -- ---- tiers
 
@@ -83,6 +85,8 @@ other_tier_suc : (m : Move) (n : ℕ) → other_tier m (suc n) ≡ other_tier m 
 other_tier_suc (Add p v) n = refl
 other_tier_suc (Remove p) n = refl
 other_tier_suc (Replace p v) n = refl
+other_tier_suc (AddItem p i v) n = refl
+other_tier_suc (RemoveItem p i) n = refl
 
 pub early_has : (start goal : Config) (g : Generated) (n : ℕ) → LeadsEarly start goal g → HasTier start goal g (suc n) 2
 early_has start goal g n is = record {
@@ -94,6 +98,8 @@ two_or_four : (m : Move) → (other_tier m 1 ≡ 2) ⊎ (other_tier m 1 ≡ 4)
 two_or_four (Add p v) = inr refl
 two_or_four (Remove p) = inl refl
 two_or_four (Replace p v) = inl refl
+two_or_four (AddItem p i v) = inr refl
+two_or_four (RemoveItem p i) = inl refl
 
 pub late_has : (start goal : Config) (g : Generated) (n : ℕ) → ¬ LeadsEarly start goal g → HasTier start goal g (suc n) 4
 late_has start goal g n late = record { restoring = λ r. refl; other = λ not. by not (two_or_four g.mv) }

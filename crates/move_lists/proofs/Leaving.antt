@@ -1,14 +1,14 @@
 -- What a generated move of a field leaves there.
-use Rattle.std.proofs.Common.{◌≡◌, inl, inr, length, List, All, ap, ◌∙◌, arith}
+use Rattle.std.proofs.Common.{◌≡◌, inl, inr, length, List, None, All, ap, ◌∙◌, arith}
 use Rattle.conf_doc.specs.Changes.{part_at}
 use Rattle.conf_doc.specs.declared.configuration.Config.{Config}
-use Rattle.move_core.specs.Generated.{AddsEntry, IsFieldMove, IsForItsPlace, IsKeyRemove, IsTableMove, SaysOfEntry}
+use Rattle.move_core.specs.Generated.{AddsEntry, IsFieldMove, IsForItsPlace, IsItemMove, IsKeyRemove, IsTableMove, SaysOfEntry}
 use Rattle.move_core.specs.Listed.{IsGeneratedMove}
-use Rattle.move_core.specs.Moves.{new_part, place}
+use Rattle.move_core.specs.Moves.{index, new_part, place}
 use Rattle.move_core.specs.Rulebook.{Rulebook}
 use Rattle.move_core.specs.declared.moves.Generated.{Generated}
 use Rattle.move_core.specs.declared.moves.Move.{Move}
-use Rattle.move_core.specs.declared.moves.Move.TheVariants.{Add, Remove, Replace}
+use Rattle.move_core.specs.declared.moves.Move.TheVariants.{Add, Remove, Replace, AddItem, RemoveItem}
 use Rattle.move_lists.specs.Firsts.{LeavesGoals}
 
 module _ (cur goal : Config) where
@@ -17,30 +17,45 @@ module _ (cur goal : Config) where
   by_table (Add p x) is = is.2
   by_table (Remove p) is = is.2
   by_table (Replace p x) is = absurd is
+  by_table (AddItem p i x) is = absurd is
+  by_table (RemoveItem p i) is = absurd is
 
   by_key : (m : Move) → IsKeyRemove cur goal m → part_at goal (place m) ≡ new_part m
   by_key (Add p x) is = absurd is
   by_key (Remove p) is = is.2
   by_key (Replace p x) is = absurd is
+  by_key (AddItem p i x) is = absurd is
+  by_key (RemoveItem p i) is = absurd is
 
   by_field : (m : Move) → IsFieldMove cur goal m → part_at goal (place m) ≡ new_part m
   by_field (Add p x) is = is.3
   by_field (Remove p) is = is.3
   by_field (Replace p x) is = is.2
+  by_field (AddItem p i x) is = absurd is
+  by_field (RemoveItem p i) is = absurd is
+
+  -- a move of an item has an index
+  has_index : (m : Move) → IsItemMove cur goal m → index m ≡ None → ⊥
+  has_index (Add p x) is none = is
+  has_index (Remove p) is none = is
+  has_index (Replace p x) is none = is
+  has_index (AddItem p i x) is none = cc
+  has_index (RemoveItem p i) is none = cc
 
   at_own : (g : Generated) → IsForItsPlace g → part_at goal (place g.mv) ≡ new_part g.mv → LeavesGoals goal g
-  at_own g own leaves long = ap (part_at goal) own ∙ leaves
+  at_own g own leaves long none = ap (part_at goal) own ∙ leaves
 
   -- one that adds an entry is for a place of two names
   by_entry : (IsAs : SaysOfEntry) (g : Generated) → AddsEntry IsAs cur goal g → LeavesGoals goal g
-  by_entry IsAs g is long = absurd (let e = ap length is.for in omega (arith, long, e))
+  by_entry IsAs g is long none = absurd (let e = ap length is.for in omega (arith, long, e))
 
   pub leaves_goals : (book : Rulebook) (g : Generated) → IsGeneratedMove book cur goal g → LeavesGoals goal g
   leaves_goals book g (kind, inl h) = at_own g h.1.1 (by_table g.mv h.1.0)
   leaves_goals book g (kind, inr (inl (k, (inl h, c)))) = at_own g h.1 (by_key g.mv h.0)
   leaves_goals book g (kind, inr (inl (k, (inr h, c)))) = by_entry _ g h
   leaves_goals book g (kind, inr (inr (inl h))) = at_own g h.1.1 (by_field g.mv h.1.0)
-  leaves_goals book g (kind, inr (inr (inr h))) = by_entry _ g h.1.0
+  leaves_goals book g (kind, inr (inr (inr (inl h)))) = by_entry _ g h.1.0
+  leaves_goals book g (kind, inr (inr (inr (inr h)))) = λ long none. absurd (has_index g.mv h.1.0 none)
 
   pub all_leave_goals : (book : Rulebook) (gs : List Generated) → All (IsGeneratedMove book cur goal) gs → All (LeavesGoals goal) gs
   all_leave_goals book gs each = λ k d lt. leaves_goals book _ (each k d lt)

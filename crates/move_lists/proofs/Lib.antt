@@ -6,6 +6,7 @@ pub mod Existing
 pub mod Finite
 pub mod FirstChains
 pub mod Gathered
+pub mod Indexed
 pub mod Joined
 pub mod Known
 pub mod Leaving

@@ -4,7 +4,7 @@ use Rattle.std.specs.List.{Contains}
 use Rattle.std.proofs.lemmas.List.Elements.{Contains-append_left, Contains-push, Contains-push_cases, All-append, All-nil, All-push, All-contains, All-weaker}
 use Rattle.std.proofs.lemmas.Option.{slice_get_within, slice_get-get_or, get_or_from_slice_get}
 use Rattle.move_core.specs.Contexts.{rulebook}
-use Rattle.move_core.specs.Extensions.{IsUpper, as_in_goal, upper}
+use Rattle.move_core.specs.Extensions.{IsUpper, as_in_goal, upper_place}
 use Rattle.move_core.specs.Listed.{IsListed}
 use Rattle.move_core.specs.Moves.{IsDefined, place}
 use Rattle.move_core.specs.declared.moves.Move.{Move}
@@ -322,7 +322,7 @@ pub above_known : (q : Question) (beside es : Depths) (i : ℕ) (mv : Move) (dep
     → IsSpreadBefore q beside es i → SharesAbove es i → (m : Move) → IsUpper q.goal.now mv m → HasMove beside m ⊎ HasMove es m
 above_known q beside es i mv depth at before shares m is =
     before shares.k shares.before shares.follows shares.at_before m
-    (1, inl (refl, subst (λ p. IsSomeAnd p (λ p. m ≡ as_in_goal q.goal.now p)) (sym (shares.same ∙ ap (λ (e : Move × ℕ). upper (place e.0)) (same shares.at at))) is))
+    (1, inl (refl, subst (λ p. IsSomeAnd p (λ p. m ≡ as_in_goal q.goal.now p)) (sym (shares.same ∙ ap (λ (e : Move × ℕ). upper_place e.0) (same shares.at at))) is))
   where
     same : slice_get es i ≡ Some shares.here → slice_get es i ≡ Some (mv, depth) → shares.here ≡ (mv, depth)
     same a b = cc

@@ -119,7 +119,7 @@ has_standing c p has = by (part_at c p) refl
 
 -- ---- places by positions
 
-member_at : {A : Type 0} (xs : List A) (i : ℕ) (x : A) → slice_get xs i ≡ Some x → Contains xs x
+pub member_at : {A : Type 0} (xs : List A) (i : ℕ) (x : A) → slice_get xs i ≡ Some x → Contains xs x
 member_at [] i x e = absurd (cc)
 member_at (y ∷ ys) zero x e = subst (Contains (y ∷ ys)) (same_Some y x e) (first_member y ys)
 member_at (y ∷ ys) (suc i) x e = later_member y ys x (member_at ys i x e)

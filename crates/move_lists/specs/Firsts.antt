@@ -1,11 +1,11 @@
 -- The generated moves at a configuration, each with whether it is restoring.
-use Rattle.std.specs.Prelude.{◌≡◌, ◌↔◌, List, length, map, All, IsTrue}
+use Rattle.std.specs.Prelude.{◌≡◌, ◌↔◌, List, None, length, map, All, IsTrue}
 use Rattle.std.specs.List.{Contains}
 use Rattle.conf_doc.specs.Changes.{part_at}
 use Rattle.conf_doc.specs.declared.configuration.Config.{Config}
 use Rattle.move_core.specs.Generated.{IsRestoring}
 use Rattle.move_core.specs.Listed.{IsGeneratedMove}
-use Rattle.move_core.specs.Moves.{new_part}
+use Rattle.move_core.specs.Moves.{index, new_part}
 use Rattle.move_core.specs.Rulebook.{Rulebook}
 use Rattle.move_core.specs.declared.moves.Generated.{Generated}
 use Rattle.move_lists.specs.declared.firsts.First.{First}
@@ -23,6 +23,7 @@ pub record AreFirstsOf (book : Rulebook) (start cur goal : Config) (fs : List Fi
   pub each : All (λ f. IsGeneratedMove book cur goal f.generated × IsTold start goal f) fs
   pub all : (g : Generated) → IsGeneratedMove book cur goal g → Contains (generated_of fs) g
 
--- at a field the move leaves what goal has there
+-- at a field the move leaves what goal has there, unless it is an item's
 abbrev pub LeavesGoals : Config → Generated → Type 0
-LeavesGoals goal g = length g.place ≡ 3 → part_at goal g.place ≡ new_part g.mv
+LeavesGoals goal g =
+    length g.place ≡ 3 → index g.mv ≡ None → part_at goal g.place ≡ new_part g.mv

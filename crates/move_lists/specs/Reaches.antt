@@ -1,7 +1,7 @@
 -- How moves are reached from others by extensions.
 use Rattle.std.specs.Prelude.{◌≡◌, ◌⊎◌, ℕ, ◌+◌, ◌<◌, ◌≤◌, List, [], ◌∷◌, ◌++◌, Some, slice_get, All}
 use Rattle.std.specs.List.{Contains}
-use Rattle.move_core.specs.Extensions.{upper}
+use Rattle.move_core.specs.Extensions.{upper_place}
 use Rattle.move_core.specs.Moves.{IsDefined, place}
 use Rattle.move_core.specs.declared.moves.Generated.{Generated}
 use Rattle.move_core.specs.declared.moves.Move.{Move}
@@ -69,7 +69,7 @@ pub record SharesAbove (es : Depths) (i : ℕ) : Type 0 where
   pub follows : k < i
   pub at_before : slice_get es k ≡ Some before
   pub at : slice_get es i ≡ Some here
-  pub same : upper (place before.0) ≡ upper (place here.0)
+  pub same : upper_place before.0 ≡ upper_place here.0
 
 -- the extenders can be asked about the move at an index
 pub record CanSpread (q : Question) (es : Depths) (i : ℕ) : Type 0 where

@@ -42,6 +42,7 @@ pub(crate) fn generated_moves(
     kit.moves_at(alloc, 1, ctx, cur, goal, &mut out)?;
     kit.moves_at(alloc, 2, ctx, cur, goal, &mut out)?;
     kit.moves_at(alloc, 3, ctx, cur, goal, &mut out)?;
+    kit.moves_at(alloc, 4, ctx, cur, goal, &mut out)?;
     Ok(out)
 }
 

@@ -73,12 +73,13 @@ pub fn first_moves(
     Ok(Firsts { firsts })
 }
 
-/// Whether a generated move is restoring. At a field it leaves what goal has there, so that start alone is looked at.
+/// Whether a generated move is restoring. At a field it leaves what goal has there, so that start alone is looked at,
+/// unless it is an item's.
 fn is_restoring(start: &Config, goal: &Config, generated: &Generated) -> bool
     requires { LeavesGoals goal.now generated.now }
     ensures { IsTrue result ↔ IsRestoring start.now goal.now generated.now }
 {
-    if generated.place.len() == 3 {
+    if generated.place.len() == 3 && generated.mv.index().is_none() {
         has_value(start, &generated.place, generated.mv.new_part())
     } else {
         agree_at(start, goal, &generated.place)

@@ -16,6 +16,15 @@ const ALONE: u8 = 1;
 
 const RESTORING: u8 = 3;
 
+/// The classes of extended moves.
+const TABLE_CLASS: u8 = 0;
+
+const KEY_CLASS: u8 = 1;
+
+const ITEM_CLASS: u8 = 2;
+
+const FIELD_CLASS: u8 = 3;
+
 /// Some of the generated moves.
 #[derive(Clone, Copy, Drop)]
 pub(crate) enum Choice {
@@ -36,6 +45,7 @@ fn leads_early(first: &First) -> bool
 {
     match &first.generated.mv {
         Move::Add(..) => false,
+        Move::AddItem(..) => false,
         _ => !first.is_restoring,
     }
 }
@@ -105,7 +115,14 @@ pub(crate) fn rank_alone(
 fn place_class(mv: &Move) -> u8
     ensures { result ≡ place_class mv.now }
 {
-    mv.place().len() as u8 - 1
+    if mv.index().is_some() {
+        return ITEM_CLASS;
+    }
+    match mv.place().len() {
+        1 => TABLE_CLASS,
+        2 => KEY_CLASS,
+        _ => FIELD_CLASS,
+    }
 }
 
 /// The chains of a tier with so many extensions or more.

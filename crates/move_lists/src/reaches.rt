@@ -120,7 +120,7 @@ impl Reach {
     {
         let (before, _) = self.at(k);
         let (mv, _) = self.at(i);
-        is_same_above(before.place(), mv.place())
+        is_same_above(before, mv)
     }
 
     /// Whether the move at an index has the same place above as one of the few before it.

@@ -1,5 +1,5 @@
 -- The rule against dependencies, from the entries that it looks at to all.
-use Rattle.std.proofs.Common.{◌≡◌, ◌≤◌, ◌⊎◌, ◌↔◌, inl, inr, ℕ, List, [], ◌∷◌, ◌++◌, Bool, true, false, Option, Some, None, option_map, option_and_then, length, slice_get, map, IsTrue, refl, sym, ap, ◌∙◌, subst, arith}
+use Rattle.std.proofs.Common.{◌≡◌, ◌≤◌, ◌⊎◌, ◌↔◌, inl, inr, ℕ, List, [], ◌∷◌, ◌++◌, Bool, true, false, Option, Some, None, option_map, option_and_then, length, slice_get, map, nat_eq, IsTrue, refl, sym, ap, ◌∙◌, subst, arith}
 use Rattle.std.specs.Option.{option_to_list}
 use Rattle.conf_doc.specs.Pairs.{find, IsRising}
 use Rattle.conf_doc.specs.WellFormed.{IsConfig}
@@ -7,7 +7,10 @@ use Rattle.conf_doc.specs.declared.configuration.Config.{Config}
 use Rattle.conf_doc.specs.declared.configuration.Entry.{Entry}
 use Rattle.conf_doc.specs.declared.configuration.Table.{Table}
 use Rattle.conf_doc.proofs.Edits.{find_at, same_Some}
+use Rattle.std.proofs.lemmas.Bool.{eq-eqb, eqb-true}
+use Rattle.std.proofs.lemmas.List.{append-nil}
 use Rattle.std.proofs.lemmas.Option.{slice_get-map}
+use Rattle.conf_doc.specs.declared.parts.Part.{Part}
 use Rattle.conf_check.specs.Rows.{IsEntryAt}
 use Rattle.conf_check.specs.WantRuns.{GivesFirst, GivesNextWant, IsWantAhead}
 use Rattle.conf_check.specs.Wants.{Want, IsNamed, IsWantAt, field_name, want_of}
@@ -15,12 +18,12 @@ use Rattle.conf_check.specs.declared.want_iter.WantAt.{WantAt}
 use Rattle.conf_check.specs.declared.want_iter.WantIter.{WantIter}
 use Rattle.conf_check.specs.declared.want_iter.WantPlace.{WantPlace}
 use Rattle.yang_model.specs.ModelSets.{ModelSet}
-use Rattle.move_core.specs.Contexts.{field_names, names_of, rulebook}
-use Rattle.move_core.specs.Moves.{Place, place}
+use Rattle.move_core.specs.Contexts.{field_names, item_at, names_of, rulebook}
+use Rattle.move_core.specs.Moves.{Place}
 use Rattle.move_core.specs.Rules.{HasNoDependency, IsAtOrBelow}
 use Rattle.move_core.specs.declared.contexts.Ctx.{Ctx}
-use Rattle.move_core.specs.declared.moves.Move.{Move}
-use Rattle.move_rules.specs.Dependencies.{EntryKeeps, IsKept, IsKeptAt, KeepsWants, TableKeeps, place_of}
+use Rattle.move_core.specs.declared.moves.Move.TheVariants.{Add, Remove, Replace, AddItem, RemoveItem}
+use Rattle.move_rules.specs.Dependencies.{EntryKeeps, IsKept, IsKeptAt, IsMeant, KeepsBoth, KeepsWants, TableKeeps, place_of}
 use Rattle.move_rules.specs.Entries.{AreAll}
 
 -- ---- from positions to names
@@ -106,6 +109,21 @@ module _ (t k : List ℕ) (b : Bool) where
       both_ways : (d : Bool) → d ≡ true → d ≡ false → ⊥
       both_ways d first second = cc
 
+-- a place that lies below another and has as many names is that one
+pub at_itself : (p q : Place) (n m : ℕ) → n ≡ length p → m ≡ length q → IsAtOrBelow p q → IsTrue (nat_eq n m) ↔ (q ≡ p)
+at_itself p q n m left right below = (
+  λ t.
+      let same : n ≡ m = eqb-true n m t in
+      let none = no_more p below.0 (sym left ∙ same ∙ right ∙ ap length below.1) in
+      below.1 ∙ ap (λ rest. p ++ rest) none ∙ append-nil p,
+  λ is. eq-eqb n m (left ∙ ap length (sym is) ∙ sym right),
+)
+  where
+    no_more : (xs ys : Place) → length xs ≡ length (xs ++ ys) → ys ≡ []
+    no_more [] [] e = refl
+    no_more [] (y ∷ ys) e = absurd (omega arith)
+    no_more (x ∷ xs) ys e = no_more xs ys (omega arith)
+
 -- ---- and back
 
 by_field : (t k : List ℕ) (o : Option Place) (n : Place) → option_map (λ f. t ∷ k ∷ f) o ≡ Some n → (rest : Place) × (n ≡ t ∷ k ∷ rest)
@@ -145,17 +163,17 @@ at_name ps i p rising e =
 -- ---- one want after another
 
 -- the wants that are looked at are kept, the others are ahead
-pub record IsWalk (models : ModelSet) (c other : Config) (at : Place) (t k : List ℕ) (s : WantIter) : Type 0 where
+pub record IsWalk (models : ModelSet) (c other : Config) (at : Place) (index : Option ℕ) (t k : List ℕ) (s : WantIter) : Type 0 where
   pub by : s.models.now ≡ models
   pub of : s.config.now ≡ c
   pub rest :
       (p : WantPlace) (w : Want) → IsEntryAt c t k p.table p.key → IsWantAt models c p w
-      → IsKept models c other at p w ⊎ IsWantAhead s p w
+      → IsKept models c other at index p w ⊎ IsWantAhead s p w
   pub within : (p : WantPlace) (w : Want) → IsWantAhead s p w → IsEntryAt c t k p.table p.key
 
-module _ (models : ModelSet) (c other : Config) (at : Place) (t k : List ℕ) where
+module _ (models : ModelSet) (c other : Config) (at : Place) (index : Option ℕ) (t k : List ℕ) where
   pub walk_begins : (s : WantIter) → s.models.now ≡ models → s.config.now ≡ c
-      → ((p : WantPlace) (w : Want) → IsWantAhead s p w ↔ (IsEntryAt c t k p.table p.key × IsWantAt models c p w)) → IsWalk models c other at t k s
+      → ((p : WantPlace) (w : Want) → IsWantAhead s p w ↔ (IsEntryAt c t k p.table p.key × IsWantAt models c p w)) → IsWalk models c other at index t k s
   walk_begins s ms config ahead = record {
     by = ms;
     of = config;
@@ -163,7 +181,7 @@ module _ (models : ModelSet) (c other : Config) (at : Place) (t k : List ℕ) wh
     within = λ p w is. ((ahead p w).0 is).0;
   }
 
-  module _ (s u : WantIter) (a : WantAt) (walk : IsWalk models c other at t k s) (gives : GivesNextWant s (Some a) u) where
+  module _ (s u : WantIter) (a : WantAt) (walk : IsWalk models c other at index t k s) (gives : GivesNextWant s (Some a) u) where
     abbrev first : GivesFirst s a u
     first = gives.gives
 
@@ -175,28 +193,37 @@ module _ (models : ModelSet) (c other : Config) (at : Place) (t k : List ℕ) wh
         subst (λ d. IsWantAt models d first.place (want_of a.want)) walk.of
         (subst (λ ms. IsWantAt ms s.config.now first.place (want_of a.want)) walk.by first.wanted.1)
 
-    kept : IsKeptAt models other at a → IsKept models c other at first.place (want_of a.want)
-    kept keeps n names below = keeps (subst (IsAtOrBelow at) (same_Some n (place_of a) (sym names ∙ named)) below)
+    item : a.item ≡ first.place.item
+    item = (subst (λ d. IsNamed d first.place a) walk.of first.named).item
 
-    pub walk_goes_on : IsKeptAt models other at a → IsWalk models c other at t k u
+    kept : IsKeptAt models c other at index a → IsKept models c other at index first.place (want_of a.want)
+    kept keeps n names below =
+        keeps
+        (subst (λ i. IsMeant at index (place_of a) (item_at c (place_of a) i)) (sym item)
+        (subst (λ q. IsMeant at index q (item_at c q first.place.item)) (same_Some n (place_of a) (sym names ∙ named)) below))
+
+    pub walk_goes_on : IsKeptAt models c other at index a → IsWalk models c other at index t k u
     walk_goes_on keeps = record {
       by = gives.models ∙ walk.by;
       of = gives.config ∙ walk.of;
       rest = λ p w entry is. elim (walk.rest p w entry is) [
         | inl keeps ↦ inl keeps
         | inr ahead ↦ elim (first.others p w ahead) [
-          | inl same ↦ inl (subst (λ v. IsKept models c other at p v) (sym same.1) (subst (λ q. IsKept models c other at q (want_of a.want)) (sym same.0) (kept keeps)))
+          | inl same ↦ inl (subst (λ v. IsKept models c other at index p v) (sym same.1) (subst (λ q. IsKept models c other at index q (want_of a.want)) (sym same.0) (kept keeps)))
           | inr later ↦ inr later
         ]
       ];
       within = λ p w ahead. walk.within p w (first.behind p w ahead).1;
     }
 
-    pub walk_stops : ¬ IsKeptAt models other at a → ¬ EntryKeeps models c other at t k
+    pub walk_stops : ¬ IsKeptAt models c other at index a → ¬ EntryKeeps models c other at index t k
     walk_stops breaks keeps =
-        breaks (λ below. keeps first.place (want_of a.want) (walk.within first.place (want_of a.want) first.wanted) wanted (place_of a) named below)
+        breaks
+        (λ below.
+        keeps first.place (want_of a.want) (walk.within first.place (want_of a.want) first.wanted) wanted (place_of a) named
+        (subst (λ i. IsMeant at index (place_of a) (item_at c (place_of a) i)) item below))
 
-  pub walk_ends : (s u : WantIter) → IsWalk models c other at t k s → GivesNextWant s None u → EntryKeeps models c other at t k
+  pub walk_ends : (s u : WantIter) → IsWalk models c other at index t k s → GivesNextWant s None u → EntryKeeps models c other at index t k
   walk_ends s u walk gives p w entry wanted = elim (walk.rest p w entry wanted) [
     | inl keeps ↦ keeps
     | inr ahead ↦ absurd (gives.gives.0 p w ahead)
@@ -204,40 +231,48 @@ module _ (models : ModelSet) (c other : Config) (at : Place) (t k : List ℕ) wh
 
 -- ---- from entries to all
 
-module _ (models : ModelSet) (c other : Config) (at : Place) where
-  of_entry : KeepsWants models c other at → (t k : List ℕ) → EntryKeeps models c other at t k
-  of_entry keeps t k p w entry wanted n names below = keeps n w below (record { at = p; wanted = wanted; names = names })
+-- what is meant is the place or lies below it
+meant_below : (at : Place) (index : Option ℕ) (n : Place) (i : Option ℕ) → IsMeant at index n i → IsAtOrBelow at n
+meant_below at None n _ is = is
+meant_below at (Some i) n _ is = ([], is.0 ∙ sym (append-nil at))
 
-  pub keeps_in_entry : (t k : List ℕ) (rest : Place) → at ≡ t ∷ k ∷ rest → EntryKeeps models c other at t k ↔ KeepsWants models c other at
+module _ (models : ModelSet) (c other : Config) (at : Place) (index : Option ℕ) where
+  of_entry : KeepsWants models c other at index → (t k : List ℕ) → EntryKeeps models c other at index t k
+  of_entry keeps t k p w entry wanted n names below =
+      keeps n (item_at c n p.item) w below (record { at = p; wanted = wanted; names = names; index = refl })
+
+  pub keeps_in_entry : (t k : List ℕ) (rest : Place) → at ≡ t ∷ k ∷ rest → EntryKeeps models c other at index t k ↔ KeepsWants models c other at index
   keeps_in_entry t k rest is = (
-    λ keeps n w below has.
+    λ keeps n item w meant has.
+        let below = meant_below at index n item meant in
         let names : n ≡ t ∷ k ∷ (rest ++ below.0) = below.1 ∙ ap (λ p. p ++ below.0) is in
-        keeps has.at w (entry_named c has.at t k (rest ++ below.0) (has.names ∙ ap Some names)) has.wanted n has.names below,
+        keeps has.at w (entry_named c has.at t k (rest ++ below.0) (has.names ∙ ap Some names)) has.wanted n has.names (subst (IsMeant at index n) (sym has.index) meant),
     λ keeps. of_entry keeps t k,
   )
 
-  pub keeps_in_table : (t : List ℕ) → at ≡ t ∷ [] → TableKeeps models c other at t ↔ KeepsWants models c other at
+  pub keeps_in_table : (t : List ℕ) → at ≡ t ∷ [] → TableKeeps models c other at index t ↔ KeepsWants models c other at index
   keeps_in_table t is = (
-    λ keeps n w below has.
+    λ keeps n item w meant has.
+        let below = meant_below at index n item meant in
         let names : n ≡ t ∷ below.0 = below.1 ∙ ap (λ p. p ++ below.0) is in
         let table = by_table has.at.key has.at.field (slice_get c has.at.table) n has.names in
         let entry = by_entry table.0.0 has.at.field (slice_get table.0.1 has.at.key) n table.2 in
         let first : t ≡ table.0.0 = heads (sym names ∙ entry.3) in
         let whole : n ≡ t ∷ entry.0.0 ∷ entry.2 = entry.3 ∙ ap (λ u. u ∷ entry.0.0 ∷ entry.2) (sym first) in
-        keeps entry.0.0 has.at w (entry_named c has.at t entry.0.0 entry.2 (has.names ∙ ap Some whole)) has.wanted n has.names below,
+        keeps entry.0.0 has.at w (entry_named c has.at t entry.0.0 entry.2 (has.names ∙ ap Some whole)) has.wanted n has.names (subst (IsMeant at index n) (sym has.index) meant),
     λ keeps. of_entry keeps t,
   )
 
   -- the table that stands at the name is the one that is looked at
-  pub keeps_at_keys : (t : List ℕ) (entries : Table) → IsConfig c → Some entries ≡ find t c → AreAll (EntryKeeps models c other at t) (map (λ e. e.0) entries)
-      → TableKeeps models c other at t
+  pub keeps_at_keys : (t : List ℕ) (entries : Table) → IsConfig c → Some entries ≡ find t c → AreAll (EntryKeeps models c other at index t) (map (λ e. e.0) entries)
+      → TableKeeps models c other at index t
   keeps_at_keys t entries well is all k p w entry =
       let found : find t c ≡ Some entry.entries = at_name c p.table (t, entry.entries) well.shaped.rising entry.at in
       let same : entry.entries ≡ entries = same_Some entry.entries entries (sym found ∙ sym is) in
       all p.key k
       (slice_get-map (λ e. e.0) entries p.key ∙ ap (option_map (λ e. e.0)) (subst (λ es. slice_get es p.key ≡ Some (k, entry.fields)) same entry.at_key)) p w entry
 
-  pub keeps_nowhere : (t : List ℕ) → IsConfig c → None ≡ find t c → TableKeeps models c other at t
+  pub keeps_nowhere : (t : List ℕ) → IsConfig c → None ≡ find t c → TableKeeps models c other at index t
   keeps_nowhere t well is k p w entry =
       let found : find t c ≡ Some entry.entries = at_name c p.table (t, entry.entries) well.shaped.rising entry.at in
       let no : None ≡ Some entry.entries = is ∙ found in
@@ -259,23 +294,23 @@ two_names (u ∷ j ∷ rest) t k e f = let first = same_Some u t e in let second
 pub says_as : {P Q : Type 0} (b : Bool) → IsTrue b ↔ P → P ↔ Q → IsTrue b ↔ Q
 says_as b says same = (λ h. same.0 (says.0 h), λ q. says.1 (same.1 q))
 
--- both ways
-pub both_keep : (ctx : Ctx) (cur next : Config) (m : Move) (a b : Bool) → a ≡ true → IsTrue a ↔ KeepsWants ctx.models next cur (place m)
-    → IsTrue b ↔ KeepsWants ctx.models cur next (place m) → IsTrue b ↔ HasNoDependency (rulebook ctx) cur next m
-both_keep ctx cur next m a b passes new old = (
-  λ t. record { new = λ p w below has. new.0 passes p w below has; old = λ p w below has. old.0 t p w below has },
-  λ rule. old.1 (λ n w below has. rule.old n w below has),
-)
+-- ---- the rule of each move
 
-pub first_breaks : (ctx : Ctx) (cur next : Config) (m : Move) (a : Bool) → a ≡ false → IsTrue a ↔ KeepsWants ctx.models next cur (place m)
-    → IsTrue a ↔ HasNoDependency (rulebook ctx) cur next m
-first_breaks ctx cur next m a fails new = (
-  λ t. absurd (not_both a t fails),
-  λ rule. new.1 (λ n w below has. rule.new n w below has),
-)
-  where
-    not_both : (b : Bool) → b ≡ true → b ≡ false → ⊥
-    not_both b t f = cc
+module _ (ctx : Ctx) (cur next : Config) (p : Place) where
+  pub add_keeps : (x : Part) → KeepsBoth ctx.models cur next p ↔ HasNoDependency (rulebook ctx) cur next (Add p x)
+  add_keeps x = (λ keeps. record { new = λ q i w at has. keeps.0 q i w at has; old = λ q i w at has. keeps.1 q i w at has }, λ rule. (λ q i w at has. rule.new q i w at has, λ q i w at has. rule.old q i w at has))
+
+  pub remove_keeps : KeepsBoth ctx.models cur next p ↔ HasNoDependency (rulebook ctx) cur next (Remove p)
+  remove_keeps = (λ keeps. record { new = λ q i w at has. keeps.0 q i w at has; old = λ q i w at has. keeps.1 q i w at has }, λ rule. (λ q i w at has. rule.new q i w at has, λ q i w at has. rule.old q i w at has))
+
+  pub replace_keeps : (x : Part) → KeepsBoth ctx.models cur next p ↔ HasNoDependency (rulebook ctx) cur next (Replace p x)
+  replace_keeps x = (λ keeps. record { new = λ q i w at has. keeps.0 q i w at has; old = λ q i w at has. keeps.1 q i w at has }, λ rule. (λ q i w at has. rule.new q i w at has, λ q i w at has. rule.old q i w at has))
+
+  pub add_item_keeps : (i : ℕ) (x : List ℕ) → KeepsWants ctx.models next cur p (Some i) ↔ HasNoDependency (rulebook ctx) cur next (AddItem p i x)
+  add_item_keeps i x = (λ keeps. record { new = λ q n w at has. keeps q n w at has; old = λ q n w at has. absurd at }, λ rule q n w at has. rule.new q n w at has)
+
+  pub remove_item_keeps : (i : ℕ) → KeepsWants ctx.models cur next p (Some i) ↔ HasNoDependency (rulebook ctx) cur next (RemoveItem p i)
+  remove_item_keeps i = (λ keeps. record { new = λ q n w at has. absurd at; old = λ q n w at has. keeps q n w at has }, λ rule q n w at has. rule.old q n w at has)
 
 -- the test fails where it says so
 pub none_kept : {P : Type 0} (b : Bool) → b ≡ false → IsTrue b ↔ P → ¬ P

@@ -4,7 +4,7 @@ use Rattle.std.specs.Ordering.{eq_by_cmp}
 use Rattle.host_core.specs.Names.{name_cmp}
 use Rattle.conf_doc.specs.Pairs.{find}
 use Rattle.conf_doc.specs.declared.configuration.Config.{Config}
-use Rattle.move_core.specs.Moves.{new_part, place, step}
+use Rattle.move_core.specs.Moves.{part_after, place, step}
 use Rattle.move_core.specs.Rules.{EmptiesNoTable}
 use Rattle.move_core.specs.Services.{table_of}
 use Rattle.move_core.specs.declared.moves.Move.{Move}
@@ -12,7 +12,7 @@ use Rattle.move_rules.proofs.Kept.{apart_by, other_table, same_by}
 
 module _ (cur next : Config) (m : Move) (is : next ≡ step cur m) where
   elsewhere : (u : List ℕ) → u ≢ table_of (place m) → find u next ≡ find u cur
-  elsewhere u other = ap (find u) is ∙ other_table cur (place m) (new_part m) u other
+  elsewhere u other = ap (find u) is ∙ other_table cur (place m) (part_after cur m) u other
 
   by_table : (find (table_of (place m)) next ≡ Some [] → find (table_of (place m)) cur ≡ Some []) → EmptiesNoTable cur next
   by_table here u empty =

@@ -1,15 +1,15 @@
 //! One step of a plan: whether it is allowed where it stands, or the first cause against it.
-ghost use Rattle.std.specs.Prelude.{◌≡◌, ◌↔◌, IfOk, IsTrue, MatchOption};
+ghost use Rattle.std.specs.Prelude.{◌≡◌, ◌↔◌, ◌<◌, ◌≤◌, length, option_map, IfOk, IsSomeAnd, IsTrue, MatchOption};
 ghost use Rattle.conf_doc.specs.Changes.{Fits, HasParent, HasPlace};
 ghost use Rattle.conf_doc.specs.WellFormed.{IsConfig};
 ghost use Rattle.move_core.specs.Contexts.{IsNamed, IsResult, rulebook};
-ghost use Rattle.move_core.specs.Moves.{IsDefined};
+ghost use Rattle.move_core.specs.Moves.{IsDefined, list_at};
 ghost use Rattle.plan_check.specs.Verdicts.{IsFine, IsFirstBroken, IsVerdict};
 
 use crate::NoWhy;
 use crate::chains::is_listed;
-use conf_doc::{Config, Part, Path};
-use host_core::Memory;
+use conf_doc::{Config, Part, Path, Value};
+use host_core::{Memory, Names};
 use move_core::{Ctx, Move, step};
 use plan_rules::{empties_none, has_no_dependency, is_valid, keeps_create_only, keeps_required};
 use std::alloc::Global;
@@ -58,6 +58,39 @@ fn fits(place: &Path, part: &Part) -> bool
     }
 }
 
+/// The items of the list at a place, where a list stands there.
+fn list_at<'c>(config: &'c Config, place: &Path) -> Option<&'c Names>
+    ensures { option_map (λ items. items.now) result ≡ list_at config.now place.now }
+{
+    if place.len() != 3 {
+        return None;
+    }
+    match config.value(place.name_at(0), place.name_at(1), place.name_at(2)) {
+        Some(Value::List(items)) => Some(items),
+        _ => None,
+    }
+}
+
+/// Whether a list of at least so many items stands at a place.
+fn has_items(config: &Config, place: &Path, count: usize) -> bool
+    ensures { IsTrue result ↔ IsSomeAnd (list_at config.now place.now) (λ items. count ≤ length items) }
+{
+    match list_at(config, place) {
+        Some(items) => count <= items.len(),
+        None => false,
+    }
+}
+
+/// Whether a list of more items stands there.
+fn has_more_items(config: &Config, place: &Path, count: usize) -> bool
+    ensures { IsTrue result ↔ IsSomeAnd (list_at config.now place.now) (λ items. count < length items) }
+{
+    match list_at(config, place) {
+        Some(items) => count < items.len(),
+        None => false,
+    }
+}
+
 /// Whether a move is defined at a configuration.
 fn is_defined(cur: &Config, mv: &Move) -> bool
     ensures { IsTrue result ↔ IsDefined cur.now mv.now }
@@ -68,6 +101,8 @@ fn is_defined(cur: &Config, mv: &Move) -> bool
         }
         Move::Remove(path) => has_place(cur, path),
         Move::Replace(path, part) => fits(path, part) && has_place(cur, path),
+        Move::AddItem(path, index, _) => has_items(cur, path, *index),
+        Move::RemoveItem(path, index) => has_more_items(cur, path, *index),
     }
 }
 

@@ -16,7 +16,7 @@ use Rattle.move_core.specs.Rulebook.{Rulebook}
 use Rattle.move_core.specs.declared.contexts.Ctx.{Ctx}
 use Rattle.move_core.specs.declared.moves.Generated.{Generated}
 use Rattle.move_core.specs.declared.moves.Move.{Move}
-use Rattle.move_core.specs.declared.moves.Move.TheVariants.{Add, Remove, Replace}
+use Rattle.move_core.specs.declared.moves.Move.TheVariants.{Add, Remove, Replace, AddItem, RemoveItem}
 use Rattle.move_core.specs.declared.moves.Ranked.{Ranked}
 use Rattle.move_lists.specs.Parts.{part_at, part_of}
 use Rattle.plan_search.specs.FirstWays.{StandsBefore}
@@ -65,6 +65,8 @@ no_other m zero t e le = true≢false (sym le ∙ ap (λ x. nat_le x 0) e)
 no_other (Add p part) (suc d) t e le = true≢false (sym le ∙ ap (λ x. nat_le x 0) e)
 no_other (Remove p) (suc d) t e le = true≢false (sym le ∙ ap (λ x. nat_le x 0) e)
 no_other (Replace p part) (suc d) t e le = true≢false (sym le ∙ ap (λ x. nat_le x 0) e)
+no_other (AddItem p i text) (suc d) t e le = true≢false (sym le ∙ ap (λ x. nat_le x 0) e)
+no_other (RemoveItem p i) (suc d) t e le = true≢false (sym le ∙ ap (λ x. nat_le x 0) e)
 
 -- no chain has the part 0
 no_part : (start goal : Config) (g : Generated) (d t : ℕ)
@@ -93,6 +95,8 @@ few_other m zero = refl
 few_other (Add p part) (suc d) = refl
 few_other (Remove p) (suc d) = refl
 few_other (Replace p part) (suc d) = refl
+few_other (AddItem p i text) (suc d) = refl
+few_other (RemoveItem p i) (suc d) = refl
 
 -- a listed move has a chain of some part
 some_part : (book : Rulebook) (start goal cur : Config) (m : Move)

@@ -202,7 +202,7 @@ fn is_other_value(cur: &Config, part: &Part, table: &str, key: &str, field: &str
     }
 }
 
-/// Whether a move of a field changes what stands there. An Add and a Remove do.
+/// Whether a move of a field changes what stands there. An Add and a Remove do, also of an item.
 fn changes_field(cur: &Config, mv: &Move, table: &str, key: &str, field: &str) -> bool
     requires defined { IsDefined cur.now mv.now }
     requires place { place mv.now ≡ table.now ∷ key.now ∷ field.now ∷ [] }
@@ -212,6 +212,8 @@ fn changes_field(cur: &Config, mv: &Move, table: &str, key: &str, field: &str) -
         Move::Add(_, _) => true,
         Move::Remove(_) => true,
         Move::Replace(_, part) => is_other_value(cur, part, table, key, field),
+        Move::AddItem(_, _, _) => true,
+        Move::RemoveItem(_, _) => true,
     }
 }
 

@@ -23,7 +23,7 @@ pub returns-then-is_at_field : goal.returns-then-is_at_field
 returns-then-is_at_field c = (
   λ t. absurd (false≢true t),
   λ free.
-      absurd (free (want_of c.in-Some.at.want)
+      absurd (free _ (want_of c.in-Some.at.want)
       (stands c.args.ctx.now.models c.args.goal.now c.args.table.now c.args.key.now c.args.field.now c.loop-at.at-iterator c.next.new.self c.in-Some.at c.loop-at.invariant.2
       c.is_at_field.result c.is_at_field.ensures c.in-Some.ensures.steps.gives c.if-is_at_field.true)),
 )

@@ -6,8 +6,8 @@ pub loop-at-init : goal.loop-at-init
 loop-at-init c = (
   tt,
   tt,
-  subst (IsWalk c.args.models.now c.args.config.now c.args.other.now c.args.place.now c.args.table.now c.args.key.now) (sym c.into_iter-at-iterator.ensures.into_iter_gives)
-      (walk_begins c.args.models.now c.args.config.now c.args.other.now c.args.place.now c.args.table.now c.args.key.now c.entry_wants-at-items.result
+  subst (IsWalk c.args.models.now c.args.config.now c.args.other.now c.args.place.now c.args.index c.args.table.now c.args.key.now) (sym c.into_iter-at-iterator.ensures.into_iter_gives)
+      (walk_begins c.args.models.now c.args.config.now c.args.other.now c.args.place.now c.args.index c.args.table.now c.args.key.now c.entry_wants-at-items.result
       c.entry_wants-at-items.ensures.models c.entry_wants-at-items.ensures.config c.entry_wants-at-items.ensures.ahead),
 )
 
@@ -15,7 +15,7 @@ pub returns-then-not-is_kept : goal.returns-then-not-is_kept
 returns-then-not-is_kept c = (
   λ t. absurd (cc),
   λ keeps. absurd
-      (walk_stops c.args.models.now c.args.config.now c.args.other.now c.args.place.now c.args.table.now c.args.key.now c.loop-at.at-iterator c.next.new.self c.in-Some.at
+      (walk_stops c.args.models.now c.args.config.now c.args.other.now c.args.place.now c.args.index c.args.table.now c.args.key.now c.loop-at.at-iterator c.next.new.self c.in-Some.at
       c.loop-at.invariant.2 c.in-Some.ensures.steps (none_kept c.is_kept.result c.if-not-is_kept.true c.is_kept.ensures) keeps),
 )
 
@@ -23,13 +23,13 @@ pub loop-at-preserved : goal.loop-at-preserved
 loop-at-preserved c = (
   tt,
   tt,
-  walk_goes_on c.args.models.now c.args.config.now c.args.other.now c.args.place.now c.args.table.now c.args.key.now c.loop-at.at-iterator c.next.new.self c.in-Some.at
+  walk_goes_on c.args.models.now c.args.config.now c.args.other.now c.args.place.now c.args.index c.args.table.now c.args.key.now c.loop-at.at-iterator c.next.new.self c.in-Some.at
       c.loop-at.invariant.2 c.in-Some.ensures.steps (c.is_kept.ensures.0 c.if-not-is_kept.false),
 )
 
 pub returns : goal.returns
 returns c = (
-  λ t. walk_ends c.args.models.now c.args.config.now c.args.other.now c.args.place.now c.args.table.now c.args.key.now c.loop-at.at-iterator c.next.new.self
+  λ t. walk_ends c.args.models.now c.args.config.now c.args.other.now c.args.place.now c.args.index c.args.table.now c.args.key.now c.loop-at.at-iterator c.next.new.self
       c.loop-at.invariant.2 c.in-None.ensures.steps,
   λ keeps. refl,
 )

@@ -1,0 +1,13 @@
+use Rattle.move_core.specs.Generated.{IsFromItems}
+use Rattle.chain_begins.specs.Given.{IsOfTable}
+use Rattle.chain_begins.specs.Giving.{IsOfSome}
+use Rattle.chain_begins.specs.ItemsGiven.{IsOfItemsOfEntry}
+use Rattle.chain_begins.proofs.Appended.{gives_alike}
+use Rattle.chain_begins.proofs.ItemMoves.{of_items}
+use Rattle.chain_begins.proofs.items.give_items.Goals as goal
+
+pub returns : goal.returns
+returns c =
+    let cur = c.args.cur.now in let goal = c.args.goal.now in
+    gives_alike (IsOfSome (IsOfTable (IsOfItemsOfEntry cur)) goal) (IsFromItems cur goal) c.give_entries.result c.args.out.now.items c.give_entries.new.out.items
+    (of_items cur goal) c.give_entries.ensures
