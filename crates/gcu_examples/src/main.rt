@@ -29,6 +29,7 @@ fn main(rt: HostRuntime) -> Result<(), Fail> {
     tell(&rt, "commands.json", &Commands)?;
     let inputs = read_inputs(&rt, "inputs.json")?;
     tell(&rt, "changes.json", &Changes { inputs: &inputs })?;
+    tell(&rt, "item_dry_runs.json", &Changes { inputs: &inputs })?;
     let few = read_inputs(&rt, "few_inputs.json")?;
     tell(&rt, "stops.json", &Stops { inputs: &few })
 }

@@ -8,7 +8,7 @@ use gcu_engine::{kit_extenders, kit_generators, kit_rules};
 use host_core::{MemHost, Memory};
 use move_core::{Kit, MoveExt, MoveGen};
 use move_extend::{DeleteExt, ReferrersExt, RequiredExt, UpperExt};
-use move_gen::{FieldGen, KeyGen, SeedGen, TableGen};
+use move_gen::{FieldGen, ItemGen, KeyGen, SeedGen, TableGen};
 use move_rules::{CreateOnlyRule, FullRule, NoDependencyRule, NoEmptyRule, RequiredRule};
 use std::alloc::Global;
 
@@ -24,6 +24,7 @@ pub fn run_all(
         Box::new(alloc, KeyGen::new())?,
         Box::new(alloc, FieldGen::new())?,
         Box::new(alloc, SeedGen::new())?,
+        Box::new(alloc, ItemGen::new())?,
     )?;
     run_with(alloc, gens, stops, host)
 }
