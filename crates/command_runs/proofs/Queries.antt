@@ -140,7 +140,7 @@ last_told text e is = inl (quiet_has_none text (subst Quiet (sym is) (last_line_
 
 -- the plan of a search for one
 pub plan_fits : (p : Planning) (ms : List Move) → IsPlanFor p ms → FitTheirPlaces ms
-plan_fits p ms is = way_fits _ p.goal p.start ms p.goal is.0
+plan_fits p ms is = way_fits p.ctx p.goal p.start ms p.goal is.0
 
 pub plan_is_short : (p : Planning) (ms : List Move) → p.budget ≤ most_budget → IsPlanFor p ms → length ms < 2 ^ 64
 plan_is_short p ms few is = let less = is.1 in omega (arith, few, less)

@@ -1,17 +1,20 @@
 -- What a command did of a plan, told by what it printed alone.
-use Rattle.std.specs.Prelude.{◌≡◌, ◌⊎◌, ◌<◌, ◌^◌, ℕ, suc, List, [], ◌∷◌, ◌++◌, length}
+use Rattle.std.specs.Prelude.{◌≡◌, ◌⊎◌, ◌<◌, ◌≤◌, ◌^◌, ℕ, suc, List, [], ◌∷◌, ◌++◌, length}
 use Rattle.host_core.specs.State.{IsFront}
 use Rattle.conf_doc.specs.Changes.{Fits}
 use Rattle.move_core.specs.Operations.{plan_text}
 use Rattle.move_core.specs.declared.moves.Move.{Move}
-use Rattle.move_core.specs.declared.moves.Move.TheVariants.{Add, Remove, Replace}
+use Rattle.move_core.specs.declared.moves.Move.TheVariants.{Add, Remove, Replace, AddItem, RemoveItem}
 use Rattle.change_apply.specs.Acknowledgements.{ack, acks}
 
--- what a move puts at its place is of the kind that stands there: a table, an entry or a value
+-- What a move puts at its place is of the kind that stands there: a table, an entry or a value. What it removes stands
+-- at no more than three names, and an item in a field.
 abbrev pub FitsItsPlace : Move → Type 0
 FitsItsPlace (Add path part) = Fits path part
-FitsItsPlace (Remove path) = Unit {0}
+FitsItsPlace (Remove path) = length path ≤ 3
 FitsItsPlace (Replace path part) = Fits path part
+FitsItsPlace (AddItem path i text) = length path ≡ 3
+FitsItsPlace (RemoveItem path i) = length path ≡ 3
 
 -- each of the moves does
 abbrev pub FitTheirPlaces : List Move → Type 0

@@ -73,7 +73,8 @@ fn list_at<'c>(config: &'c Config, place: &Path) -> Option<&'c Names>
 
 /// Whether a list of at least so many items stands at a place.
 fn has_items(config: &Config, place: &Path, count: usize) -> bool
-    ensures { IsTrue result ↔ IsSomeAnd (list_at config.now place.now) (λ items. count ≤ length items) }
+    ensures { IsTrue result
+        ↔ IsSomeAnd (list_at config.now place.now) (λ items. count ≤ length items) }
 {
     match list_at(config, place) {
         Some(items) => count <= items.len(),
@@ -83,7 +84,8 @@ fn has_items(config: &Config, place: &Path, count: usize) -> bool
 
 /// Whether a list of more items stands there.
 fn has_more_items(config: &Config, place: &Path, count: usize) -> bool
-    ensures { IsTrue result ↔ IsSomeAnd (list_at config.now place.now) (λ items. count < length items) }
+    ensures { IsTrue result
+        ↔ IsSomeAnd (list_at config.now place.now) (λ items. count < length items) }
 {
     match list_at(config, place) {
         Some(items) => count < items.len(),

@@ -1,12 +1,12 @@
 -- A compact text has no line feed.
-use Rattle.std.proofs.Common.{◌≡◌, ◌≢◌, ℕ, zero, suc, ◌<◌, ◌==◌, Bool, true, false, not, ◌&&◌, List, [], ◌∷◌, ◌++◌, inl, inr, refl, sym, ap, subst, arith}
+use Rattle.std.proofs.Common.{◌≡◌, ◌≢◌, ℕ, zero, suc, ◌<◌, ◌==◌, Bool, true, false, not, ◌&&◌, List, [], ◌∷◌, inl, inr, refl, sym, subst, arith}
 use Rattle.std.proofs.lemmas.Bool.{and_parts, cases_lt, cases_eq}
 use Rattle.json.specs.Print.{escape_byte, quoted}
 use Rattle.json.specs.Print as print
 use Rattle.json.proofs.Printed.Strings.{escape_byte_plain}
 use Rattle.serde_json.specs.Written.{comma_if, items_text, members_text}
 use Rattle.conf_doc.specs.Document.{Document, text, list, object, Items, no_items, item, Members, no_members, member}
-use Rattle.conf_doc.specs.Texts.{compact, value, item_values, member_values}
+use Rattle.conf_doc.specs.Texts.{compact, item_values, member_values}
 use Rattle.plan_texts.specs.Lines.{HasNoFeed, feed}
 use Rattle.plan_texts.proofs.LineLemmas.{no_feed-append}
 

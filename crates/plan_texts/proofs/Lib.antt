@@ -1,7 +1,9 @@
 pub mod CountLemmas
 pub mod Feeds
+pub mod ItemLemmas
 pub mod LineLemmas
 pub mod MoveTexts
+pub mod OfOperations
 pub mod OneElement
 pub mod OneMove
 pub mod OnePlan

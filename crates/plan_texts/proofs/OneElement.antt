@@ -1,6 +1,6 @@
 -- A compact text in brackets is read as the patch of its operation.
-use Rattle.std.proofs.Common.{◌≡◌, ℕ, ◌≤◌, List, [], ◌∷◌, ◌++◌, Option, Some, None, option_map, Ok, Err, Result, refl, sym, ap, ◌∙◌, arith, append_assoc}
-use Rattle.conf_doc.specs.Document.{Document, depth}
+use Rattle.std.proofs.Common.{◌≡◌, ℕ, ◌≤◌, List, [], ◌∷◌, None, Ok, Err, sym, ap, ◌∙◌, arith, append_assoc}
+use Rattle.conf_doc.specs.Document.{depth}
 use Rattle.conf_doc.specs.Sound.{IsSound}
 use Rattle.conf_doc.specs.Texts.{compact}
 use Rattle.patch_core.specs.Apply.{most_levels}

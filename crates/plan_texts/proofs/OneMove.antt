@@ -1,8 +1,9 @@
 -- A text is of one move.
-use Rattle.std.proofs.Common.{◌≡◌, ◌≤◌, ℕ, List, [], ◌∷◌, Option, Some, Ok, refl, sym, ap, ◌∙◌, subst, arith}
+use Rattle.std.proofs.Common.{◌≡◌, ◌≤◌, ℕ, List, [], ◌∷◌, ◌++◌, length, length-append, Option, Some, Ok, refl, sym, ap, ◌∙◌, subst, arith}
 use Rattle.conf_doc.specs.Changes.{Fits}
 use Rattle.conf_doc.specs.Configuration.{tree, part_tree}
-use Rattle.conf_doc.specs.Document.{Document, depth}
+use Rattle.conf_doc.specs.Document.{Document, depth, text}
+use Rattle.conf_doc.specs.Paths.{IsPath}
 use Rattle.conf_doc.specs.Sound.{IsSound}
 use Rattle.conf_doc.specs.declared.configuration.Config.{Config}
 use Rattle.conf_doc.specs.declared.parts.Part.{Part}
@@ -11,12 +12,13 @@ use Rattle.patch_core.specs.Apply.{most_levels}
 use Rattle.patch_core.specs.Operation.{Operation}
 use Rattle.patch_core.specs.Reading.{patch}
 use Rattle.patch_core.specs.Writing.{patch_document, patch_file}
-use Rattle.move_core.specs.Operations.{op}
+use Rattle.move_core.specs.Operations.{index_text, op}
 use Rattle.move_core.specs.declared.moves.Move.{Move}
-use Rattle.move_core.specs.declared.moves.Move.TheVariants.{Add, Remove, Replace}
+use Rattle.move_core.specs.declared.moves.Move.TheVariants.{Add, Remove, Replace, AddItem, RemoveItem}
 use Rattle.plan_texts.specs.Moves.{move_text}
 use Rattle.plan_texts.specs.Parts.{IsOfKind, IsShapedAs, wrap}
 use Rattle.plan_texts.specs.PlanTexts.{IsMove, IsPart}
+use Rattle.plan_texts.proofs.ItemLemmas.{items_told}
 use Rattle.plan_texts.proofs.MoveTexts.{shallow_move, sound_move}
 use Rattle.plan_texts.proofs.OneElement.{one_read}
 use Rattle.plan_texts.proofs.PartLemmas.{around, around_formed, entry_inside, entry_wrapped, found_entry, found_part, found_table, found_value, shaped_around, table_inside, table_wrapped, value_inside, value_wrapped}
@@ -54,20 +56,53 @@ module _ (m : List (List ℕ) → Part → Move) where
   puts_told p q v w place same fit fits is are =
       ap (λ (r : List (List ℕ)). m r v) place ∙ ap (m q) (parts_told q v w (subst (λ (r : List (List ℕ)). Fits r v) place fit) fits is are same)
 
+-- the names of a field and an index are no place of a part
+no_part : (p q : List (List ℕ)) (i : ℕ) → length p ≡ 3 → IsPath q → p ++ index_text i ∷ [] ≡ q → ⊥
+no_part p q i three path same =
+    omega (arith, sym (length-append p (index_text i ∷ [])) ∙ ap length same, three, path.few)
+
 moves_told : (m n : Move) → IsMove m → IsMove n → op m ≡ op n → m ≡ n
 moves_told (Add p v) (Add q w) is are e =
     let place : p ≡ q = cc in let same : part_tree v ≡ part_tree w = cc in
     puts_told Add p q v w place same is.part.0 are.part.0 is.part.1 are.part.1
 moves_told (Add p v) (Remove q) is are e = absurd cc
 moves_told (Add p v) (Replace q w) is are e = absurd cc
+moves_told (Add p v) (AddItem q j y) is are e =
+    let names : p ≡ q ++ index_text j ∷ [] = cc in absurd (no_part q p j are.item.0 is.path (sym names))
+moves_told (Add p v) (RemoveItem q j) is are e = absurd cc
 moves_told (Remove p) (Add q w) is are e = absurd cc
 moves_told (Remove p) (Remove q) is are e = let place : p ≡ q = cc in ap Remove place
 moves_told (Remove p) (Replace q w) is are e = absurd cc
+moves_told (Remove p) (AddItem q j y) is are e = absurd cc
+moves_told (Remove p) (RemoveItem q j) is are e =
+    let names : p ≡ q ++ index_text j ∷ [] = cc in absurd (no_part q p j are.item.0 is.path (sym names))
 moves_told (Replace p v) (Add q w) is are e = absurd cc
 moves_told (Replace p v) (Remove q) is are e = absurd cc
 moves_told (Replace p v) (Replace q w) is are e =
     let place : p ≡ q = cc in let same : part_tree v ≡ part_tree w = cc in
     puts_told Replace p q v w place same is.part.0 are.part.0 is.part.1 are.part.1
+moves_told (Replace p v) (AddItem q j y) is are e = absurd cc
+moves_told (Replace p v) (RemoveItem q j) is are e = absurd cc
+moves_told (AddItem p i x) (Add q w) is are e =
+    let names : p ++ index_text i ∷ [] ≡ q = cc in absurd (no_part p q i is.item.0 are.path names)
+moves_told (AddItem p i x) (Remove q) is are e = absurd cc
+moves_told (AddItem p i x) (Replace q w) is are e = absurd cc
+moves_told (AddItem p i x) (AddItem q j y) is are e =
+    let names : p ++ index_text i ∷ [] ≡ q ++ index_text j ∷ [] = cc in
+    let texts : text x ≡ text y = cc in
+    let same : x ≡ y = cc in
+    let told = items_told p q i j names in
+    (λ k. AddItem (told.0 k) (told.1 k) (same k))
+moves_told (AddItem p i x) (RemoveItem q j) is are e = absurd cc
+moves_told (RemoveItem p i) (Add q w) is are e = absurd cc
+moves_told (RemoveItem p i) (Remove q) is are e =
+    let names : p ++ index_text i ∷ [] ≡ q = cc in absurd (no_part p q i is.item.0 are.path names)
+moves_told (RemoveItem p i) (Replace q w) is are e = absurd cc
+moves_told (RemoveItem p i) (AddItem q j y) is are e = absurd cc
+moves_told (RemoveItem p i) (RemoveItem q j) is are e =
+    let names : p ++ index_text i ∷ [] ≡ q ++ index_text j ∷ [] = cc in
+    let told = items_told p q i j names in
+    (λ k. RemoveItem (told.0 k) (told.1 k))
 
 -- ---- moves by their texts
 

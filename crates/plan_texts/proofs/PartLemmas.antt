@@ -1,11 +1,11 @@
 -- Parts read alone, by the configurations around them.
-use Rattle.std.proofs.Common.{◌≡◌, ◌≢◌, ℕ, List, [], ◌∷◌, Option, Some, None, option_map, Ok, refl, sym, ap, ◌∙◌, subst, codes, IfSome, IsUtf8, arith}
+use Rattle.std.proofs.Common.{◌≡◌, ℕ, List, [], ◌∷◌, Option, Some, None, option_map, Ok, refl, ap, ◌∙◌, IfSome, IsUtf8, arith}
 use Rattle.conf_doc.specs.Changes.{entry_at, value_at}
 use Rattle.conf_doc.specs.Configuration.{tree, part_tree}
 use Rattle.conf_doc.specs.Document.{Document}
 use Rattle.conf_doc.specs.Pairs.{find}
 use Rattle.conf_doc.specs.Shaping.{configuration}
-use Rattle.conf_doc.specs.WellFormed.{Each, IsShaped, IsConfig, IsTable, IsEntry}
+use Rattle.conf_doc.specs.WellFormed.{IsShaped, IsConfig, IsTable, IsEntry}
 use Rattle.conf_doc.specs.declared.configuration.Config.{Config}
 use Rattle.conf_doc.specs.declared.configuration.Entry.{Entry}
 use Rattle.conf_doc.specs.declared.configuration.Table.{Table}

@@ -1,5 +1,5 @@
 -- The lines of a plan, one after another.
-use Rattle.std.proofs.Common.{◌≡◌, ◌≢◌, ℕ, zero, suc, ◌+◌, ◌/◌, ◌%◌, ◌<◌, ◌≤◌, ◌^◌, List, [], ◌∷◌, ◌++◌, length, decimal, codes, inl, inr, refl, sym, ap, ◌∙◌, subst, arith, append_assoc}
+use Rattle.std.proofs.Common.{◌≡◌, ◌≢◌, ℕ, zero, suc, ◌+◌, ◌<◌, ◌^◌, List, [], ◌∷◌, ◌++◌, length, decimal, codes, inl, inr, refl, sym, ap, ◌∙◌, subst, arith, append_assoc}
 use Rattle.std.specs.Prelude.{All}
 use Rattle.std.proofs.lemmas.Fmt.{decimal_by_steps}
 use Rattle.std.proofs.lemmas.List.{append-nil}
@@ -12,7 +12,7 @@ use Rattle.plan_texts.specs.Ends.{IsEnd}
 use Rattle.plan_texts.specs.declared.ends.End.TheVariants.{Good, Other, More}
 use Rattle.plan_texts.specs.Lines.{HasNoFeed, count_words, feed}
 use Rattle.plan_texts.specs.Moves.{move_text}
-use Rattle.plan_texts.specs.PlanTexts.{BeginsWith, Begins, HasMore, HasNoCount, HasOther, IsFirstFault, IsMove, IsPlanText, LacksMove, count_end, done_line}
+use Rattle.plan_texts.specs.PlanTexts.{BeginsWith, Begins, HasNoCount, IsFirstFault, IsMove, IsPlanText, count_end}
 use Rattle.plan_texts.proofs.Feeds.{no_feed}
 use Rattle.plan_texts.proofs.LineLemmas.{has_feed, no_feed-append, same_line}
 

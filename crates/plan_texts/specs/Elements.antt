@@ -1,6 +1,5 @@
 -- One operation, read from its compact text.
 use Rattle.std.specs.Prelude.{◌≡◌, ◌≤◌, ℕ, List, [], ◌∷◌, ◌++◌, codes, Option, Some, None}
-use Rattle.conf_doc.specs.Document.{depth}
 use Rattle.conf_doc.specs.Sound.{IsSound}
 use Rattle.conf_doc.specs.Texts.{compact}
 use Rattle.patch_core.specs.Operation.{Operation}

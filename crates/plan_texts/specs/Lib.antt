@@ -3,6 +3,7 @@ pub mod PlanTexts
 -- what only private clauses cite
 pub mod Elements
 pub mod Ends
+pub mod Items
 pub mod Lines
 pub mod Moves
 pub mod Parts

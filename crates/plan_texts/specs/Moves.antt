@@ -1,5 +1,5 @@
 -- Operations and texts as moves.
-use Rattle.std.specs.Prelude.{◌≡◌, ◌≢◌, ℕ, List, ◌++◌, Option, Some, None, IfSome, MatchOption}
+use Rattle.std.specs.Prelude.{◌≡◌, ◌≢◌, ℕ, List, ◌++◌, Option, Some, IfSome, MatchOption}
 use Rattle.conf_doc.specs.Changes.{Fits}
 use Rattle.conf_doc.specs.Configuration.{part_tree}
 use Rattle.conf_doc.specs.Document.{Document}

@@ -1,12 +1,12 @@
 -- The text of a plan, and the first line at fault of one that is none.
-use Rattle.std.specs.Prelude.{◌≡◌, ◌≢◌, ◌⊎◌, ℕ, ◌+◌, ◌<◌, ◌^◌, List, [], ◌++◌, length, codes, All, IfSome}
+use Rattle.std.specs.Prelude.{◌≡◌, ◌≢◌, ◌⊎◌, ℕ, ◌+◌, ◌<◌, ◌^◌, List, [], ◌++◌, length, codes, All, IfSome, IsUtf8}
 use Rattle.conf_doc.specs.Changes.{Fits}
 use Rattle.conf_doc.specs.Paths.{IsPath}
 use Rattle.conf_doc.specs.Texts.{line_feed}
 use Rattle.conf_doc.specs.WellFormed.{AreTexts, IsEntry, IsTable, IsValue}
 use Rattle.conf_doc.specs.declared.parts.Part.{Part}
 use Rattle.conf_doc.specs.declared.parts.Part.TheVariants as part
-use Rattle.move_core.specs.Moves.{new_part, place}
+use Rattle.move_core.specs.Moves.{index, new_part, new_text, place}
 use Rattle.move_core.specs.Operations.{count_line, plan_line, plan_lines, plan_text}
 use Rattle.move_core.specs.declared.moves.Move.{Move}
 use Rattle.plan_texts.specs.declared.errors.PlanError.{PlanError}
@@ -20,11 +20,18 @@ IsPart (part.Table t) = IsTable t
 IsPart (part.Entry e) = IsEntry e
 IsPart (part.Value v) = IsValue v
 
--- a move as it stands in a plan: its place has one to three names, and its part fits the place
+-- more than any index of an item
+abbrev pub index_end : ℕ
+index_end = 2 ^ 64
+
+-- a move as it stands in a plan: its place has one to three names, and its part fits the place; an item stands in a
+-- field, and its index is a number of the machine
 pub record IsMove (m : Move) : Type 0 where
   pub path : IsPath (place m)
   pub texts : AreTexts (place m)
   pub part : IfSome (new_part m) (λ p. Fits (place m) p × IsPart p)
+  pub item : IfSome (index m) (λ i. (length (place m) ≡ 3) × (i < index_end))
+  pub text : IfSome (new_text m) IsUtf8
 
 -- ---- texts of plans
 

@@ -5,6 +5,7 @@ mod counts;
 mod elements;
 mod ends;
 mod errors;
+mod items;
 mod laws;
 mod lines;
 mod moves;

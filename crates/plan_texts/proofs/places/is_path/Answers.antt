@@ -1,4 +1,4 @@
-use Rattle.std.proofs.Common.{◌≡◌, true, sym, ◌∙◌, arith}
+use Rattle.std.proofs.Common.{sym, ◌∙◌, arith}
 use Rattle.plan_texts.proofs.PathLemmas.{is_a_path}
 use Rattle.plan_texts.proofs.places.is_path.Goals as goal
 

@@ -1,6 +1,6 @@
 use Rattle.std.proofs.Common.{inl, subst}
 use Rattle.plan_texts.proofs.CountLemmas.{Counts}
-use Rattle.plan_texts.proofs.PlanLines.{count_is, no_count_line, no_line}
+use Rattle.plan_texts.proofs.PlanLines.{no_count_line, no_line}
 use Rattle.plan_texts.proofs.reading.read_plan.Goals as goal
 
 pub returns-in_default : goal.returns-in_default

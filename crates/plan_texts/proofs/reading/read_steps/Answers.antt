@@ -1,7 +1,7 @@
 use Rattle.std.proofs.Common.{◌≡◌, ◌+◌, ◌<◌, ◌^◌, ◌∷◌, [], length, ap, arith, subst, length-append}
 use Rattle.plan_texts.specs.Lines.{feed}
 use Rattle.plan_texts.specs.Moves.{IsStepIn}
-use Rattle.plan_texts.proofs.PlanLines.{good_end, missing, more_end, moves_more, no_step, other_end, steps_more}
+use Rattle.plan_texts.proofs.PlanLines.{missing, moves_more, no_step, other_end, steps_more}
 use Rattle.plan_texts.proofs.reading.read_steps.Goals as goal
 
 pub returns-in_default : goal.returns-in_default
