@@ -24,6 +24,7 @@ use Rattle.gcu_engine.specs.Answers.{IsDoneOutput, Says}
 use Rattle.gcu_engine.specs.Changing.{IsChangeFor, IsLast, IsLastLine, acknowledged as acknowledged_in, begun}
 use Rattle.gcu_engine.specs.Crashes.{IsOutputFront, IsPlanFront, LeftChanged, LeftEarly, LeftOfChange}
 use Rattle.gcu_engine.proofs.Closed.{begun_output}
+use Rattle.gcu_engine.proofs.LastLines.{last_line_of, service_last_line}
 use Rattle.command_runs.specs.Works.{AreAcknowledged, FitTheirPlaces, IsWork}
 use Rattle.command_runs.proofs.Acked.{acknowledged_by, cut_acknowledged, printed_acks, quiet_front}
 use Rattle.command_runs.proofs.LastLines.{last_is_quiet}
@@ -63,21 +64,21 @@ change_budget from budget s p given =
 line_said : (from : Target) (budget : ℕ) (s now : State) (e : Outcome) (text : List ℕ) → Says (change_asked from budget s) s now e text → IsLastLine text
 line_said from budget s now Done text (r, given, leaves, out) =
     let h = change_given from budget s r given in
-    inl (Done, subst (λ (q : Request). IsDoneOutput q text) (sym h.1) out)
-line_said from budget s now Memory text h = inl (Memory, h.1)
-line_said from budget s now InputFault text h = inl (InputFault, h.2)
-line_said from budget s now (DiskFault step) text h = inl (DiskFault step, h.2)
+    last_line_of Done text (subst (λ (q : Request). IsDoneOutput q text) (sym h.1) out) tt
+line_said from budget s now Memory text h = last_line_of Memory text h.1 tt
+line_said from budget s now InputFault text h = last_line_of InputFault text h.2 tt
+line_said from budget s now (DiskFault step) text h = last_line_of (DiskFault step) text h.2 tt
 line_said from budget s now (PrintFault step) text never = absurd never
-line_said from budget s now (ServiceFault step service) text (p, given, halted, is) = inr (step, service, name_at p.ctx.settings service, is)
-line_said from budget s now Unorderable text h = inl (Unorderable, h.2)
-line_said from budget s now (Budget n) text h = inl (Budget n, h.2)
-line_said from budget s now other text h = inl (other, h.2)
+line_said from budget s now (ServiceFault step service) text (p, given, halted, is) = service_last_line step service (name_at p.ctx.settings service) text is
+line_said from budget s now Unorderable text h = last_line_of Unorderable text h.2 tt
+line_said from budget s now (Budget n) text h = last_line_of (Budget n) text h.2 tt
+line_said from budget s now other text h = last_line_of other text h.2 tt
 
 -- so is the text behind the acknowledgements
 is_last_line : (c : Change) (began now : State) (e : Outcome) (text : List ℕ) → IsLast c began now e text → IsLastLine text
-is_last_line c began now Done text h = inl (Done, h.1)
-is_last_line c began now (DiskFault step) text h = inl (DiskFault step, h.1)
-is_last_line c began now (ServiceFault step service) text h = inr (step, service, h.0.refused.name, h.1)
+is_last_line c began now Done text h = last_line_of Done text h.1 tt
+is_last_line c began now (DiskFault step) text h = last_line_of (DiskFault step) text h.1 tt
+is_last_line c began now (ServiceFault step service) text h = service_last_line step service h.0.refused.name text h.1
 is_last_line c began now other text never = absurd never
 
 module _ (from : Target) (budget : ℕ) (few : budget ≤ most_budget) (s : State) (output : List ℕ) where

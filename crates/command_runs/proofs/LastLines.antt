@@ -1,6 +1,6 @@
 -- The last line of an answer begins neither as a plan does nor as an acknowledgement.
 use Rattle.std.proofs.Common.{inl, inr, ℕ, List, sym, subst, arith}
-use Rattle.gcu_output.specs.Lines.{last_line, service_line}
+use Rattle.gcu_output.specs.Lines.{last_line}
 use Rattle.gcu_output.specs.declared.outcomes.Outcome.{Outcome}
 use Rattle.gcu_output.specs.declared.outcomes.Outcome.TheVariants.{Done, PrintFault}
 use Rattle.gcu_engine.specs.Changing.{IsLastLine}
@@ -12,9 +12,6 @@ last_line_is_quiet Done = acked.other 100 _ (omega arith) (omega arith)
 last_line_is_quiet (PrintFault step) = silent
 last_line_is_quiet other = acked.other 114 _ (omega arith) (omega arith)
 
-service_line_is_quiet : (step service : ℕ) (name : List ℕ) → Quiet (service_line step service name)
-service_line_is_quiet step service name = acked.other 114 _ (omega arith) (omega arith)
-
 pub last_is_quiet : (text : List ℕ) → IsLastLine text → Quiet text
-last_is_quiet text (inl (answer, e)) = subst Quiet (sym e) (last_line_is_quiet answer)
-last_is_quiet text (inr (step, service, name, e)) = subst Quiet (sym e) (service_line_is_quiet step service name)
+last_is_quiet text (inl e) = subst Quiet (sym e) (acked.other 100 _ (omega arith) (omega arith))
+last_is_quiet text (inr (why, e, one)) = subst Quiet (sym e) (acked.other 114 _ (omega arith) (omega arith))

@@ -2,12 +2,10 @@ pub mod Acked
 pub mod Added
 pub mod Budgets
 pub mod ChangesLeft
-pub mod CompactLines
 pub mod CompactTold
 pub mod Fitting
 pub mod LastLines
 pub mod Leading
-pub mod Lines
 pub mod MovesTold
 pub mod NotedFiles
 pub mod PlanLines

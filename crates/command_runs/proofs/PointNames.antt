@@ -22,10 +22,10 @@ use Rattle.gcu_output.specs.declared.outcomes.Outcome.TheVariants.{Done}
 use Rattle.gcu_engine.specs.PointLines.{named_number, number_or_broken, point_lines}
 use Rattle.move_core.specs.Operations.{plan_lines, plan_text}
 use Rattle.move_core.specs.declared.moves.Move.{Move}
+use Rattle.gcu_engine.proofs.Lines.{IsOneLine, decimal_is_one_line, first_lines, one_line-append}
 use Rattle.command_runs.proofs.Acked.{not_empty}
 use Rattle.command_runs.proofs.CompactTold.{heads}
 use Rattle.command_runs.proofs.LastLines.{last_line_is_quiet}
-use Rattle.command_runs.proofs.Lines.{IsOneLine, decimal_is_one_line, first_lines, one_line-append}
 use Rattle.command_runs.proofs.PlanLines.{count, count_is_one, counted}
 use Rattle.command_runs.proofs.WorksTold.{HasNoSteps, quiet_has_none}
 

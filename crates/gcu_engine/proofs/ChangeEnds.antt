@@ -23,6 +23,7 @@ use Rattle.gcu_engine.specs.Doing.{ClosesAs, EndsWork, HasBytes, IsEnded}
 use Rattle.gcu_engine.specs.declared.change.ReadyChange.{ReadyChange}
 use Rattle.gcu_engine.proofs.FaultTexts.{disk_there, service_there}
 use Rattle.gcu_engine.proofs.Changes.{last_output}
+use Rattle.gcu_engine.proofs.LastLines.{last_line_of, service_last_line}
 
 -- what is there before the last line, of a host that may not tell its state
 abbrev pub IsLastIn : Change → Option State → Option State → Outcome → List ℕ → Type 0
@@ -115,9 +116,9 @@ service_printed old mid new rises h = subst (λ (n : ℕ). Rose old.service n) (
 
 -- the last line of an answer
 pub is_last_line : (c : Change) (began now : State) (answer : Outcome) (text : List ℕ) → IsLast c began now answer text → IsLastLine text
-is_last_line c began now Done text h = inl (Done, h.1)
-is_last_line c began now (DiskFault k) text h = inl (DiskFault k, h.1)
-is_last_line c began now (ServiceFault k service) text h = inr (k, service, h.0.refused.name, h.1)
+is_last_line c began now Done text h = last_line_of Done text h.1 tt
+is_last_line c began now (DiskFault k) text h = last_line_of (DiskFault k) text h.1 tt
+is_last_line c began now (ServiceFault k service) text h = service_last_line k service h.0.refused.name text h.1
 is_last_line c began now other text never = absurd never
 
 module _ {H : Type 0} (moment : H → ℕ) (left_since : H → ℕ → Left → Type 0) where

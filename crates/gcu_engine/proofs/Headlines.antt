@@ -1,5 +1,5 @@
 -- The promise of the whole program follows from what it answers and what a crash leaves.
-use Rattle.std.proofs.Common.{◌≡◌, ◌≤◌, ◌⊎◌, inl, inr, ℕ, suc, List, [], ◌++◌, length, append-nil, append_assoc, refl, sym, ap, ◌∙◌, subst, Option, Some, None, Ok, Err, IfSome, ⊎_elim}
+use Rattle.std.proofs.Common.{◌≡◌, ◌≢◌, ◌≤◌, ◌⊎◌, inl, inr, ℕ, suc, List, ◌++◌, length, refl, sym, ap, ◌∙◌, subst, Option, Some, None, Ok, Err, IfSome, ⊎_elim}
 use Rattle.host_core.specs.Counts.{Counts}
 use Rattle.host_core.specs.Crashes.{Image, Left, LeavesOnly, MayLeave}
 use Rattle.host_core.specs.State.{State, printed}
@@ -9,13 +9,10 @@ use Rattle.conf_store.specs.Changes.{IsSettled}
 use Rattle.conf_store.specs.Stored.{stored}
 use Rattle.checkpoints.specs.Changes.{with_point, without_point}
 use Rattle.checkpoints.specs.Points.{points}
-use Rattle.move_core.specs.Operations.{plan_text}
 use Rattle.move_core.specs.Plans.{conf}
 use Rattle.change_apply.specs.Acknowledgements.{acks}
 use Rattle.change_apply.specs.Change.{Change, name_at, steps}
 use Rattle.change_apply.specs.Crashes.{StandAt}
-use Rattle.change_apply.specs.Ends.{IsStopped}
-use Rattle.change_apply.specs.declared.ready.Restart.{Restart}
 use Rattle.plan_options.specs.Targets.{Target, rolled_back}
 use Rattle.gcu_output.specs.Lines.{last_line}
 use Rattle.gcu_output.specs.declared.outcomes.Outcome.{Outcome}
@@ -26,160 +23,25 @@ use Rattle.gcu_requests.specs.ChangeAsked.{change_asked}
 use Rattle.gcu_requests.specs.Form.{Form, form}
 use Rattle.gcu_requests.specs.Form as forms
 use Rattle.gcu_requests.specs.OneAnswer.{AskedIsOne, HasOneAnswer}
-use Rattle.gcu_requests.specs.PlanAsked.{dry_run_asked}
 use Rattle.gcu_requests.specs.Request as request
 use Rattle.gcu_requests.specs.Request.{Planning, Request}
-use Rattle.gcu_engine.specs.Answers.{Answers, IsDoneOutput, IsRefusal, IsUntouched, Leaves, LeavesDone, LeavesStopped, Prints, Says}
-use Rattle.gcu_engine.specs.Changing.{IsBegun, IsChangeFor, IsLastLine, acknowledged, begun}
+use Rattle.gcu_engine.specs.Answers.{Answers, IsDoneOutput, IsRefusal, IsUntouched, Leaves, LeavesDone, Prints, Says}
+use Rattle.gcu_engine.specs.Changing.{IsChangeFor, IsLastLine, acknowledged, begun}
 use Rattle.gcu_engine.specs.Crashes.{LeftByForm, LeftChanged, LeftEarly, LeftMeanwhile, LeftOf, LeftOfChange, LeftWriting}
 use Rattle.gcu_engine.specs.Doing.{LeftToEarly}
-use Rattle.gcu_engine.specs.Headline.{HasNoOrder, HasWholePoints, IsBefore, IsForeseen, IsHeadline, IsLastOrNext, IsOneChange, IsPlanOutput, IsQuiet, PrintsPlan, StandsAfter, StoresPoint, StoresTarget, target_in}
+use Rattle.gcu_engine.specs.Headline.{HasNoOrder, IsBefore, IsForeseen, IsHeadline, IsLastOrNext, IsQuiet, PrintsPlan, StoresPoint, StoresTarget}
 use Rattle.gcu_engine.specs.Plannings.{IsUnsolved}
 use Rattle.gcu_engine.proofs.Acknowledged.{acked_is}
 use Rattle.gcu_engine.proofs.ChangeEnds.{is_last_line}
 use Rattle.gcu_engine.proofs.Changes.{some_is}
 use Rattle.gcu_engine.proofs.Closed.{begun_output, either_points, either_stored}
-use Rattle.gcu_engine.proofs.Requests.{IsRequestOf, change_given, plan_given, requested}
+use Rattle.gcu_engine.proofs.FormPromises.{IsOneChange, LacksOrder, PointsAfter, StandsAfter, change_of_words, order_by_words, other_by_words, points_by_words, target_in, target_of_words}
+use Rattle.gcu_engine.proofs.LastLines.{last_line_of, refusal_line, service_last_line}
+use Rattle.gcu_engine.proofs.PlanPrints.{change_prints, no_request, plan_prints, same_change, unknown_line, unknown_prints, untouched_output}
+use Rattle.gcu_engine.proofs.Requests.{IsRequestOf, change_given, requested}
 use Rattle.gcu_engine.proofs.RightPlans.{IsAsked, right_plan, way_last}
 
--- ---- what is planned
-
-pub same_change : (p q : Planning) → request.change p ≡ request.change q → p ≡ q
-same_change p q e = let same : p ≡ q = cc in same
-
 -- ---- what is printed
-
--- the output before the last line, and that line: of a plan that is right, or of nothing
-pub record IsText (from : Target) (s now : State) (text : List ℕ) : Type 0 where
-  pub front : List ℕ
-  pub printed_is : now.output ≡ s.output ++ front
-  pub right : IsPlanOutput from s (front ++ text)
-
--- nothing stands before the last line
-alone : (from : Target) (s now : State) (text : List ℕ) → now.output ≡ s.output → IsPlanOutput from s text → IsText from s now text
-alone from s now text same right = record { front = []; printed_is = same ∙ sym (append-nil s.output); right = right }
-
-last_alone : (from : Target) (s now : State) (text : List ℕ) (e : Outcome) → now.output ≡ s.output → text ≡ last_line e → IsText from s now text
-last_alone from s now text e same is = alone from s now text same (inl (inl (e, is)))
-
-module _ (from : Target) (s now : State) where
-  untouched_output : (asking : Asking Request) → IsUntouched asking s now → now.output ≡ s.output
-  untouched_output asking (inl same) = ap (λ (t : State). t.output) same
-  untouched_output asking (inr (reads, same)) = ap (λ (t : State). t.output) same
-
-  module _ (budget : ℕ) where
-    abbrev printing : Asking Request
-    printing = dry_run_asked from budget s
-
-    planned_text : (p : Planning) (r : Request) → IsAsked from s p → request.plan p ≡ r → LeavesDone r s now → (text : List ℕ) → IsDoneOutput r text → IsText from s now text
-    planned_text p r is same leaves text out =
-        let unchanged : now ≡ s = subst (λ (q : Request). LeavesDone q s now) (sym same) leaves in
-        let ms = subst (λ (q : Request). IsDoneOutput q text) (sym same) out in
-        alone from s now text (ap (λ (t : State). t.output) unchanged) (inr (ms.0, last_line Done, right_plan from s p ms.0 is ms.1, ms.2))
-
-    no_stop : (step : ℕ) (p : Planning) (r : Request) → request.plan p ≡ r → LeavesStopped r step s now → ⊥
-    no_stop step p r same h = subst (λ (q : Request). LeavesStopped q step s now) (sym same) h
-
-    plan_text_is : (e : Outcome) (text : List ℕ) → Says printing s now e text → IsText from s now text
-    plan_text_is Done text (r, given, leaves, out) = let g = plan_given from budget s r given in planned_text g.0 r g.1 g.2 leaves text out
-    plan_text_is Memory text h = last_alone from s now text Memory (untouched_output printing h.0) h.1
-    plan_text_is InputFault text h = last_alone from s now text InputFault (untouched_output printing h.1) h.2
-    plan_text_is (DiskFault step) text (reads, inl (first, same), is) = last_alone from s now text (DiskFault step) (untouched_output printing same) is
-    plan_text_is (DiskFault step) text (reads, inr (r, given, stopped), is) =
-        let g = plan_given from budget s r given in absurd (no_stop step g.0 r g.2 stopped)
-    plan_text_is (PrintFault step) text never = absurd never
-    plan_text_is (ServiceFault step service) text (p, given, halted, is) =
-        let g = plan_given from budget s (request.change p) given in let apart : request.plan g.0 ≡ request.change p = g.2 in absurd cc
-    plan_text_is Unorderable text h = last_alone from s now text Unorderable (untouched_output printing h.1) h.2
-    plan_text_is (Budget n) text h = last_alone from s now text (Budget n) (untouched_output printing h.1) h.2
-    plan_text_is other text h = last_alone from s now text other (untouched_output printing h.1) h.2
-
-    abbrev doing : Asking Request
-    doing = change_asked from budget s
-
-    -- behind the text of a plan
-    behind : (p : Planning) (c : Change) → IsAsked from s p → IsChangeFor p s c → (began : State) → IsBegun c (begun c s) began
-        → (more text : List ℕ) → now.output ≡ began.output ++ more → IsText from s now text
-    behind p c asks is began begins more text printed_is = record {
-      front = plan_text c.moves ++ more;
-      printed_is = printed_is ∙ ap (λ (o : List ℕ). o ++ more) (begun_output c (begun c s) began begins) ∙ append_assoc s.output (plan_text c.moves) more;
-      right = inr (c.moves, more ++ text, right_plan from s p c.moves asks is.plan, append_assoc (plan_text c.moves) more text);
-    }
-
-    stopped_text : (p : Planning) (c : Change) → IsAsked from s p → IsChangeFor p s c → (began : State) → IsBegun c (begun c s) began
-        → (k : ℕ) (part : List ℕ) (started : List Restart) → IsStopped c k part started began now → (text : List ℕ) → IsText from s now text
-    stopped_text p c asks is began begins k part started stopped text =
-        behind p c asks is began begins (acks k ++ part) text (stopped.output ∙ append_assoc began.output (acks k) part)
-
-    changed_text : (p : Planning) (r : Request) → IsAsked from s p → request.change p ≡ r → LeavesDone r s now → (text : List ℕ) → IsText from s now text
-    changed_text p r asks same leaves text =
-        let h = subst (λ (q : Request). LeavesDone q s now) (sym same) leaves in
-        behind p h.0 asks h.1 h.2 h.3 (acks (steps h.0)) text (ap (λ (t : State). t.output) (some_is now _ h.4.1))
-
-    halted_text : (step : ℕ) (p : Planning) (r : Request) → IsAsked from s p → request.change p ≡ r → LeavesStopped r step s now → (text : List ℕ) → IsText from s now text
-    halted_text step p r asks same stopped text =
-        let h = subst (λ (q : Request). LeavesStopped q step s now) (sym same) stopped in
-        stopped_text p h.0 asks h.1 h.2 h.3 step [] [] h.4 text
-
-    change_text_is : (e : Outcome) (text : List ℕ) → Says doing s now e text → IsText from s now text
-    change_text_is Done text (r, given, leaves, out) = let g = change_given from budget s r given in changed_text g.0 r g.1 g.2 leaves text
-    change_text_is Memory text h = last_alone from s now text Memory (untouched_output doing h.0) h.1
-    change_text_is InputFault text h = last_alone from s now text InputFault (untouched_output doing h.1) h.2
-    change_text_is (DiskFault step) text (reads, inl (first, same), is) = last_alone from s now text (DiskFault step) (untouched_output doing same) is
-    change_text_is (DiskFault step) text (reads, inr (r, given, stopped), is) =
-        let g = change_given from budget s r given in halted_text step g.0 r g.1 g.2 stopped text
-    change_text_is (PrintFault step) text never = absurd never
-    change_text_is (ServiceFault step service) text (p, given, h, is) =
-        let g = change_given from budget s (request.change p) given in
-        let asks = subst (IsAsked from s) (same_change g.0 p g.2) g.1 in
-        stopped_text p h.0 asks h.1 h.2 h.3 step [] h.4.started h.4.stopped text
-    change_text_is Unorderable text h = last_alone from s now text Unorderable (untouched_output doing h.1) h.2
-    change_text_is (Budget n) text h = last_alone from s now text (Budget n) (untouched_output doing h.1) h.2
-    change_text_is other text h = last_alone from s now text other (untouched_output doing h.1) h.2
-
--- what is printed of such a text
-prints_text : (from : Target) (s now : State) (after : Option State) (output rest : List ℕ) → after ≡ Some (printed output now) → IsText from s now (output ++ rest) → PrintsPlan from s after
-prints_text from s now after output rest is h = (
-  printed output now,
-  h.front ++ output,
-  rest,
-  is,
-  ap (λ (l : List ℕ). l ++ output) h.printed_is ∙ append_assoc s.output h.front output,
-  subst (IsPlanOutput from s) (sym (append_assoc h.front output rest)) h.right,
-)
-
-whole_text : (from : Target) (s now : State) (after : Option State) (output : List ℕ) → after ≡ Some (printed output now) → IsText from s now output → PrintsPlan from s after
-whole_text from s now after output is h =
-    prints_text from s now after output [] is (subst (IsText from s now) (sym (append-nil output)) h)
-
-module _ (from : Target) (budget : ℕ) (s now : State) (after : Option State) (old new : Counts) (output : List ℕ) (is : after ≡ Some (printed output now)) where
-  plan_cut : (step : ℕ) → Prints (dry_run_asked from budget s) s now old new (PrintFault step) output → PrintsPlan from s after
-  plan_cut step (inl (acked, (other, rest, cause, says))) = prints_text from s now after output rest is (plan_text_is from s now budget other (output ++ rest) says)
-  plan_cut step (inr (p, given, h)) =
-      let g = plan_given from budget s (request.change p) given in let apart : request.plan g.0 ≡ request.change p = g.2 in absurd cc
-
-  -- what a plan that is only printed prints
-  plan_prints : (result : Outcome) → Prints (dry_run_asked from budget s) s now old new result output → PrintsPlan from s after
-  plan_prints (PrintFault step) h = plan_cut step h
-  plan_prints other h = whole_text from s now after output is (plan_text_is from s now budget other output h)
-
-  change_cut : (step : ℕ) → Prints (change_asked from budget s) s now old new (PrintFault step) output → PrintsPlan from s after
-  change_cut step (inl (acked, (other, rest, cause, says))) = prints_text from s now after output rest is (change_text_is from s now budget other (output ++ rest) says)
-  change_cut step (inr (p, given, inl (first, (c, rest, fits, text, same)))) =
-      let g = change_given from budget s (request.change p) given in
-      let asks = subst (IsAsked from s) (same_change g.0 p g.2) g.1 in
-      prints_text from s now after output rest is
-      (alone from s now (output ++ rest) (ap (λ (t : State). t.output) same)
-      (inr (c.moves, [], right_plan from s p c.moves asks fits.plan, sym text ∙ sym (append-nil (plan_text c.moves)))))
-  change_cut step (inr (p, given, inr ((c, fits, began, begins, stopped), none))) =
-      let g = change_given from budget s (request.change p) given in
-      let asks = subst (IsAsked from s) (same_change g.0 p g.2) g.1 in
-      whole_text from s now after output is (stopped_text from s now budget p c asks fits began begins step stopped.part _ stopped.stopped output)
-
-  -- what a plan that is done prints
-  change_prints : (result : Outcome) → Prints (change_asked from budget s) s now old new result output → PrintsPlan from s after
-  change_prints (PrintFault step) h = change_cut step h
-  change_prints other h = whole_text from s now after output is (change_text_is from s now budget other output h)
 
 plans_print : (f : Option Form) (from : Target) (s : State) (after : Option State) (old new : Counts) (result : Outcome) → target_in f ≡ Some from
     → Leaves (form_asked f s) s after old new result → PrintsPlan from s after
@@ -205,7 +67,7 @@ plans_print (Some (forms.check_plan patch plan)) from s after old new result is 
 unsolved : (q r : Request) → q ≡ r → IsUnsolved r Unorderable → IsUnsolved q Unorderable
 unsolved q r same h = subst (λ (x : Request). IsUnsolved x Unorderable) (sym same) h
 
-none_of : (f : Option Form) (s : State) (r : Request) → IsRequestOf f s r → IsUnsolved r Unorderable → HasNoOrder f s
+none_of : (f : Option Form) (s : State) (r : Request) → IsRequestOf f s r → IsUnsolved r Unorderable → LacksOrder f s
 none_of (Some (forms.plan from budget)) s r (p, is, same) h = record {
   ctx = p.ctx;
   read = is.read;
@@ -240,11 +102,15 @@ none_of (Some forms.check) s r same h = absurd (unsolved request.check r same h)
 none_of (Some forms.list_checkpoints) s r (names, same) h = absurd (unsolved (request.list_checkpoints names) r same h)
 none_of None s r never h = absurd never
 
-no_order_is : (f : Option Form) (s : State) (after : Option State) (old new : Counts) (result : Outcome) → Leaves (form_asked f s) s after old new result
-    → result ≡ Unorderable → HasNoOrder f s
-no_order_is f s after old new result h is =
-    let says = subst (λ (e : Outcome). Prints (form_asked f s) s h.0 old new e h.1) is h.3 in
-    none_of f s says.0.0 (requested f s says.0.0 says.0.1) says.0.2
+is_command : (f : Option Form) (s : State) (r : Request) → IsRequestOf f s r → f ≢ None
+is_command f s r is none = subst (λ (g : Option Form). IsRequestOf g s r) none is
+
+no_order_is : (words : List (List ℕ)) (s : State) (after : Option State) (old new : Counts) (result : Outcome) → Leaves (form_asked (form words) s) s after old new result
+    → result ≡ Unorderable → HasNoOrder words s
+no_order_is words s after old new result h is =
+    let says = subst (λ (e : Outcome). Prints (form_asked (form words) s) s h.0 old new e h.1) is h.3 in
+    let r = requested (form words) s says.0.0 says.0.1 in
+    order_by_words words s (is_command (form words) s says.0.0 r) (none_of (form words) s says.0.0 r says.0.2)
 
 -- ---- a finished change
 
@@ -266,6 +132,10 @@ finishes from budget s after old new h =
           ∙ ap (λ (x : Config). Ok (conf x c.moves (length c.moves))) done.1.start ∙ ap (λ (x : Config). Ok x) last,
     )
 
+-- words that are no command are never done
+unknown_fails : (s : State) (after : Option State) (old new : Counts) → Leaves (form_asked None s) s after old new Done → ⊥
+unknown_fails s after old new h = no_request s h.3.0 h.3.1
+
 rolls_back : (name : List ℕ) (s : State) (after : Option State) → StoresTarget (rolled_back name) s after → StoresPoint name s after
 rolls_back name s after (t, start, goal, is, stands, made, stored_is) = (t, goal, is, made, stored_is)
 
@@ -281,25 +151,30 @@ module _ (asking : Asking Request) (s now : State) where
   untouched_restarts (inr (reads, same)) = ap (λ (t : State). t.restarts) same
 
   module _ (after : Option State) (output : List ℕ) (is : after ≡ Some (printed output now)) where
-    quiet_by : (e : Outcome) → IsUntouched asking s now → output ≡ last_line e → IsQuiet s after e
-    quiet_by e same said = record {
-      now = printed output now;
-      is = is;
-      files = untouched_files same;
-      output = (λ i. untouched_output (rolled_back []) s now asking same i ++ said i);
-      restarts = untouched_restarts same;
-    }
+    -- nothing is changed, and the last line of the answer is all that is printed
+    pub refusal_says : (old new : Counts) (e : Outcome) → Prints asking s now old new e output → IsRefusal e → IsUntouched asking s now × (output ≡ last_line e)
+    refusal_says old new Done h never = absurd never
+    refusal_says old new (DiskFault step) h never = absurd never
+    refusal_says old new (PrintFault step) h never = absurd never
+    refusal_says old new (ServiceFault step service) h never = absurd never
+    refusal_says old new Memory h any = h
+    refusal_says old new InputFault h any = (h.1, h.2)
+    refusal_says old new Unorderable h any = (h.1, h.2)
+    refusal_says old new (Budget n) h any = (h.1, h.2)
+    refusal_says old new other h any = (h.1, h.2)
 
-    quiet_is : (old new : Counts) (e : Outcome) → Prints asking s now old new e output → IsRefusal e → IsQuiet s after e
-    quiet_is old new Done h never = absurd never
-    quiet_is old new (DiskFault step) h never = absurd never
-    quiet_is old new (PrintFault step) h never = absurd never
-    quiet_is old new (ServiceFault step service) h never = absurd never
-    quiet_is old new Memory h any = quiet_by Memory h.0 h.1
-    quiet_is old new InputFault h any = quiet_by InputFault h.1 h.2
-    quiet_is old new Unorderable h any = quiet_by Unorderable h.1 h.2
-    quiet_is old new (Budget n) h any = quiet_by (Budget n) h.1 h.2
-    quiet_is old new other h any = quiet_by other h.1 h.2
+    quiet_is : (old new : Counts) (e : Outcome) → Prints asking s now old new e output → IsRefusal e → IsQuiet s after
+    quiet_is old new e h any =
+        let says = refusal_says old new e h any in
+        record {
+          now = printed output now;
+          is = is;
+          files = untouched_files says.0;
+          line = output;
+          refusal = refusal_line e output says.1 any;
+          output = ap (λ (o : List ℕ). o ++ output) (untouched_output asking s now says.0);
+          restarts = untouched_restarts says.0;
+        }
 
 -- what is foreseen is the refusal of what is asked
 foreseen : (asking : Asking Request) (s now : State) (old new : Counts) (e : Outcome) (output : List ℕ) → Prints asking s now old new e output → IsForeseen e → asking.Gives (Err e)
@@ -322,15 +197,15 @@ settled_files s part left clean may = subst (λ p. Image p s.files left.files) c
 line_said : (from : Target) (budget : ℕ) (s now : State) (e : Outcome) (text : List ℕ) → Says (change_asked from budget s) s now e text → IsLastLine text
 line_said from budget s now Done text (r, given, leaves, out) =
     let g = change_given from budget s r given in
-    inl (Done, subst (λ (q : Request). IsDoneOutput q text) (sym g.2) out)
-line_said from budget s now Memory text h = inl (Memory, h.1)
-line_said from budget s now InputFault text h = inl (InputFault, h.2)
-line_said from budget s now (DiskFault step) text h = inl (DiskFault step, h.2)
+    last_line_of Done text (subst (λ (q : Request). IsDoneOutput q text) (sym g.2) out) tt
+line_said from budget s now Memory text h = last_line_of Memory text h.1 tt
+line_said from budget s now InputFault text h = last_line_of InputFault text h.2 tt
+line_said from budget s now (DiskFault step) text h = last_line_of (DiskFault step) text h.2 tt
 line_said from budget s now (PrintFault step) text never = absurd never
-line_said from budget s now (ServiceFault step service) text (p, given, halted, is) = inr (step, service, name_at p.ctx.settings service, is)
-line_said from budget s now Unorderable text h = inl (Unorderable, h.2)
-line_said from budget s now (Budget n) text h = inl (Budget n, h.2)
-line_said from budget s now other text h = inl (other, h.2)
+line_said from budget s now (ServiceFault step service) text (p, given, halted, is) = service_last_line step service (name_at p.ctx.settings service) text is
+line_said from budget s now Unorderable text h = last_line_of Unorderable text h.2 tt
+line_said from budget s now (Budget n) text h = last_line_of (Budget n) text h.2 tt
+line_said from budget s now other text h = last_line_of other text h.2 tt
 
 pub early_before : (from : Target) (budget : ℕ) (s : State) (left : Left) → IsSettled s → LeftEarly (change_asked from budget s) s left → IsBefore from s left
 early_before from budget s left clean (part, inl (now, answer, rest, says, same), may) = record {
@@ -350,6 +225,17 @@ early_before from budget s left clean (part, inr (p, c, rest, given, fits, is), 
       output = may.output;
       stored_is = ap stored (settled_files s part left clean may);
     }
+
+-- so do words that are no command
+unknown_before : (from : Target) (s : State) (left : Left) → IsSettled s → LeftOf (form_asked None s) s left → IsBefore from s left
+unknown_before from s left clean (part, (now, answer, rest, says, same), inl may) = record {
+  part = part;
+  rest = rest;
+  text = inl (unknown_line s now answer (part ++ rest) says).0;
+  output = may.output;
+  stored_is = ap stored (settled_files s part left clean may);
+}
+unknown_before from s left clean (part, front, inr (r, given, h)) = absurd (no_request s r given)
 
 -- the folder stands for one of the plan's configurations
 at_start : (p : Planning) (s : State) (c : Change) → IsChangeFor p s c → (k : ℕ) (left : Left) → StandAt c k left.files
@@ -432,7 +318,7 @@ form_stands : (f : Option Form) (s : State) (left : Left) → IsSettled s → Le
 form_stands (Some (forms.change from budget)) s left clean h = change_stands from budget s left clean h
 form_stands other s left clean h = other_stands (form_asked other s) s left clean h
 
-form_points : (f : Option Form) (s : State) (left : Left) → IsSettled s → LeftByForm f s left → HasWholePoints f s left.files
+form_points : (f : Option Form) (s : State) (left : Left) → IsSettled s → LeftByForm f s left → PointsAfter f s left.files
 form_points (Some (forms.change from budget)) s left clean h = inl (change_points (change_asked from budget s) s left clean h)
 form_points other s left clean h = other_points other s left clean h
 
@@ -487,23 +373,41 @@ module _ {H : Type 0} (moment : H → ℕ) (left_since : H → ℕ → Left → 
       → (IsRefusal result → LeavesOnly moment left_since old new (KeepsStored (Some s)))
       → IsHeadline words s after result (left_since new (moment old))
   headline_of words s after old new before later result one answers crash keeps = record {
-    printed = λ from is. plans_print (form words) from s after before later result is answers;
-    no_order = no_order_is (form words) s after before later result answers;
+    printed = λ from is. prints from (target_of_words from words is);
+    no_order = no_order_is words s after before later result answers;
     crash = λ clean left since.
         record {
-          stands = form_stands (form words) s left clean (crash.each left since);
-          points_are = form_points (form words) s left clean (crash.each left since);
+          change = λ from is. changing from clean left since (change_of_words from words is);
+          other = other_by_words words s left (form_stands (form words) s left clean (crash.each left since));
+          points_are = points_by_words words s left.files (form_points (form words) s left clean (crash.each left since));
         };
     refused = λ any clean left since.
         form_refused (form words) s left result (one words s) (foreseen (asked words s) s answers.0 before later result answers.1 answers.3 any) clean (crash.each left since);
     kept = λ any clean left since. (keeps any).each left since clean;
     quiet = λ any. quiet_is (asked words s) s answers.0 after answers.1 answers.2 before later result answers.3 any;
-    finished = λ from budget is done. changes from budget is done;
-    rolled = λ name budget is done. rolls_back name s after (changes (rolled_back name) budget is done);
+    finished = λ from is done. changes from (change_of_words from words is) done;
+    rolled = λ name is done. rolls_back name s after (changes (rolled_back name) (change_of_words (rolled_back name) words is) done);
   }
     where
-      changes : (from : Target) (budget : ℕ) → form words ≡ Some (forms.change from budget) → result ≡ Done → StoresTarget from s after
-      changes from budget is done =
+      prints : (from : Target) → (form words ≡ None) ⊎ (target_in (form words) ≡ Some from) → PrintsPlan from s after
+      prints from (inl none) =
+          let h = subst (λ (f : Option Form). Leaves (form_asked f s) s after before later result) none answers in
+          unknown_prints from s h.0 after before later h.1 h.2 result h.3
+      prints from (inr e) = plans_print (form words) from s after before later result e answers
+
+      changing : (from : Target) → IsSettled s → (left : Left) → left_since new (moment old) left → (form words ≡ None) ⊎ ((budget : ℕ) × (form words ≡ Some (forms.change from budget)))
+          → IsBefore from s left ⊎ IsLastOrNext from s left
+      changing from clean left since (inl none) =
+          inl (unknown_before from s left clean (subst (λ (f : Option Form). LeftByForm f s left) none (crash.each left since)))
+      changing from clean left since (inr (budget, e)) =
+          subst (λ (f : Option Form). StandsAfter f s left) e (form_stands (form words) s left clean (crash.each left since))
+
+      changes : (from : Target) → (form words ≡ None) ⊎ ((budget : ℕ) × (form words ≡ Some (forms.change from budget))) → result ≡ Done → StoresTarget from s after
+      changes from (inl none) done =
+          absurd (unknown_fails s after before later
+          (subst (λ (e : Outcome). Leaves (form_asked None s) s after before later e) done
+          (subst (λ (f : Option Form). Leaves (form_asked f s) s after before later result) none answers)))
+      changes from (inr (budget, is)) done =
           finishes from budget s after before later
           (subst (λ (e : Outcome). Leaves (change_asked from budget s) s after before later e) done
           (subst (λ (f : Option Form). Leaves (form_asked f s) s after before later result) is answers))

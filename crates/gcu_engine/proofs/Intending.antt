@@ -33,7 +33,8 @@ use Rattle.gcu_engine.proofs.Acknowledged.{acked_is}
 use Rattle.gcu_engine.proofs.ChangeEnds.{is_last_line}
 use Rattle.gcu_engine.proofs.Closed.{begun_output}
 use Rattle.gcu_engine.proofs.Closing.{at_first}
-use Rattle.gcu_engine.proofs.Headlines.{early_before, same_change, settled_files}
+use Rattle.gcu_engine.proofs.Headlines.{early_before, settled_files}
+use Rattle.gcu_engine.proofs.PlanPrints.{same_change}
 use Rattle.gcu_engine.proofs.Requests.{change_given}
 use Rattle.gcu_engine.proofs.RightPlans.{IsAsked, right_plan, way_last}
 

@@ -8,17 +8,23 @@ mod Changes
 mod CheckSaying
 pub mod Closed
 mod Closing
+mod CommandWords
+pub mod CompactLines
 mod Completing
 mod Contents
 mod Deletions
 mod DemoSaying
 mod Elapsing
 mod FaultTexts
+mod FormPromises
 mod Headlines
 mod Intending
+pub mod LastLines
+pub mod Lines
 mod Listing
 mod Naming
 mod PlanCheckSaying
+mod PlanPrints
 mod PlanSaying
 mod ReadyChanges
 mod ReadyOrNot

@@ -1,7 +1,8 @@
 -- What a change leaves and has printed that does what is planned: finished, or stopped.
-use Rattle.std.specs.Prelude.{◌≡◌, ◌⊎◌, ℕ, List, [], ◌++◌, map, Some, None}
+use Rattle.std.specs.Prelude.{◌≡◌, ◌≢◌, ◌⊎◌, ℕ, List, [], ◌++◌, codes, map, Some, None}
 use Rattle.std.specs.FinMap.{get}
 use Rattle.host_core.specs.State.{State, printed, settled, with_pending}
+use Rattle.conf_doc.specs.Texts.{line_feed}
 use Rattle.conf_store.specs.Files.{intent_file}
 use Rattle.conf_store.specs.Folds.{StandsFor}
 use Rattle.move_core.specs.Operations.{plan_text}
@@ -74,11 +75,15 @@ AreAcknowledged step before now =
 
 -- ---- the last line
 
--- the last line of some answer
+-- one line that begins with `refused`
+abbrev pub IsRefusalLine : List ℕ → Type 0
+IsRefusalLine text =
+    (why : List ℕ) × (text ≡ codes "refused " ++ why ++ line_feed)
+    × ((front back : List ℕ) → why ≢ front ++ line_feed ++ back)
+
+-- the last line of an answer: `done`, or that of a refusal; which line each answer has, `last_line` says
 abbrev pub IsLastLine : List ℕ → Type 0
-IsLastLine text =
-    ((answer : Outcome) × (text ≡ last_line answer))
-    ⊎ ((step : ℕ) × (service : ℕ) × (name : List ℕ) × (text ≡ service_line step service name))
+IsLastLine text = (text ≡ codes "done" ++ line_feed) ⊎ IsRefusalLine text
 
 -- that text is the last line of the answer, in the state that the change then left
 abbrev pub IsLast : Change → State → State → Outcome → List ℕ → Type 0

@@ -7,7 +7,7 @@
 --
 -- Of `replace`, `rollback` and `resume` the last configuration is that of the file, of the checkpoint and of
 -- `intent`. Where no plan is done, or the command is refused, the stored configuration after a crash is that of the beginning.
-use Rattle.std.specs.Prelude.{◌≡◌, ◌≢◌, ◌≤◌, ◌⊎◌, ℕ, suc, List, [], ◌++◌, length, slice_get, Option, Some, None, IfSome, Ok}
+use Rattle.std.specs.Prelude.{◌≡◌, ◌≢◌, ◌≤◌, ◌⊎◌, ℕ, suc, List, [], ◌∷◌, ◌++◌, codes, length, slice_get, Contains, Option, Some, Ok}
 use Rattle.std.specs.FinMap.{get}
 use Rattle.host_core.specs.Crashes.{Left}
 use Rattle.host_core.specs.State.{Files, State}
@@ -22,14 +22,32 @@ use Rattle.move_core.specs.Plans.{IsAllowed, IsReachable, conf}
 use Rattle.move_core.specs.declared.contexts.Ctx.{Ctx}
 use Rattle.move_core.specs.declared.moves.Move.{Move}
 use Rattle.change_apply.specs.Acknowledgements.{ack, acks}
-use Rattle.plan_options.specs.Targets.{Target, rolled_back}
-use Rattle.gcu_output.specs.Lines.{last_line}
+use Rattle.plan_options.specs.Options.{dry_run_word}
+use Rattle.plan_options.specs.Targets.{Target, patched, replaced, resumed, rolled_back}
 use Rattle.gcu_output.specs.declared.outcomes.Outcome.{Outcome}
 use Rattle.gcu_output.specs.declared.outcomes.Outcome.TheVariants.{Done, Memory, InputFault, Unorderable, Budget}
-use Rattle.gcu_requests.specs.Form.{Form, form, plan, change, save_checkpoint, delete_checkpoint}
 use Rattle.gcu_engine.specs.Answers.{IsRefusal}
-use Rattle.gcu_engine.specs.Changing.{IsLastLine}
+use Rattle.gcu_engine.specs.Changing.{IsLastLine, IsRefusalLine}
 use Rattle.gcu_engine.specs.Contents.{IsContextIn, IsMade}
+
+-- ---- the words
+
+-- the first words of a command that plans towards a target
+abbrev pub first_words : Target → List (List ℕ)
+first_words (patched path) = codes "apply-patch" ∷ path ∷ []
+first_words (replaced path) = codes "replace" ∷ path ∷ []
+first_words (rolled_back name) = codes "rollback" ∷ name ∷ []
+first_words resumed = codes "resume" ∷ []
+
+-- the words begin so, whatever options stand behind: with wrong ones the command is refused
+abbrev pub IsPlanCommand : Target → List (List ℕ) → Type 0
+IsPlanCommand from words = (options : List (List ℕ)) × (words ≡ first_words from ++ options)
+
+-- the same, and no option is `--dry-run`: a command that does its plan
+abbrev pub IsChangeCommand : Target → List (List ℕ) → Type 0
+IsChangeCommand from words =
+    (options : List (List ℕ)) × (words ≡ first_words from ++ options)
+    × (¬ Contains options dry_run_word)
 
 -- ---- a plan
 
@@ -59,25 +77,15 @@ PrintsPlan from s after =
     (t : State) × (added : List ℕ) × (rest : List ℕ) × (after ≡ Some t)
     × (t.output ≡ s.output ++ added) × IsPlanOutput from s (added ++ rest)
 
--- the target of a command that plans
-abbrev pub target_in : Option Form → Option Target
-target_in (Some (plan from budget)) = Some from
-target_in (Some (change from budget)) = Some from
-target_in other = None
-
--- where a plan begins and where it is to arrive: from the stored configuration at what the target makes of it;
--- in a demonstration from a generated one at another
-abbrev pub IsPlanned : Option Form → State → (start goal : Config) → Type 0
-IsPlanned f s start goal =
-    IfSome (target_in f) (λ from. (stored s.files ≡ Ok start) × IsMade from s start goal)
-
--- no sequence of allowed moves leads from the start to the goal
-pub record HasNoOrder (f : Option Form) (s : State) : Type 0 where
+-- no sequence of allowed moves leads from the start to the goal: from the stored configuration to what the target
+-- makes of it, or in a demonstration from a generated one to another
+pub record HasNoOrder (words : List (List ℕ)) (s : State) : Type 0 where
   pub ctx : Ctx
   pub read : IsContextIn s ctx
   pub start : Config
   pub goal : Config
-  pub planned : IsPlanned f s start goal
+  pub planned : (from : Target) → IsPlanCommand from words
+      → (stored s.files ≡ Ok start) × IsMade from s start goal
   pub none : ¬ IsReachable (rulebook ctx) goal start goal
 
 -- ---- a crash
@@ -111,28 +119,33 @@ pub record IsLastOrNext (from : Target) (s : State) (left : Left) : Type 0 where
       (stored left.files ≡ Ok (conf right.start ms done))
       ⊎ (stored left.files ≡ Ok (conf right.start ms (suc done)))
 
--- what the folder stands for after a crash: a command that does no plan leaves that as before
-abbrev pub StandsAfter : Option Form → State → Left → Type 0
-StandsAfter (Some (change from budget)) s left = IsBefore from s left ⊎ IsLastOrNext from s left
-StandsAfter other s left = stored left.files ≡ stored s.files
+-- `checkpoint NAME` adds one, with the stored configuration
+pub record AddsPoint (words : List (List ℕ)) (s : State) (files : Files) : Type 0 where
+  pub name : List ℕ
+  pub config : Config
+  pub words_are : words ≡ codes "checkpoint" ∷ name ∷ []
+  pub stored_is : stored s.files ≡ Ok config
+  pub points_are : points files ≡ with_point name config (points s.files)
 
--- the one checkpoint that a command adds, with the stored configuration, or removes
-abbrev pub IsOneChange : Option Form → State → Files → Type 0
-IsOneChange (Some (save_checkpoint name)) s files =
-    (config : Config) × (stored s.files ≡ Ok config)
-    × (points files ≡ with_point name config (points s.files))
-IsOneChange (Some (delete_checkpoint name)) s files =
-    points files ≡ without_point name (points s.files)
-IsOneChange other s files = ⊥
+-- `delete-checkpoint NAME` removes one
+pub record RemovesPoint (words : List (List ℕ)) (s : State) (files : Files) : Type 0 where
+  pub name : List ℕ
+  pub words_are : words ≡ codes "delete-checkpoint" ∷ name ∷ []
+  pub points_are : points files ≡ without_point name (points s.files)
 
 -- the checkpoints are as before, or with the one change that the command makes
-abbrev pub HasWholePoints : Option Form → State → Files → Type 0
-HasWholePoints f s files = (points files ≡ points s.files) ⊎ IsOneChange f s files
+abbrev pub HasWholePoints : List (List ℕ) → State → Files → Type 0
+HasWholePoints words s files =
+    (points files ≡ points s.files) ⊎ (AddsPoint words s files ⊎ RemovesPoint words s files)
 
--- what a crash leaves
+-- what a crash leaves: of a command that does a plan what was there or one of its configurations, of another one
+-- what the folder stood for
 pub record IsWhole (words : List (List ℕ)) (s : State) (left : Left) : Type 0 where
-  pub stands : StandsAfter (form words) s left
-  pub points_are : HasWholePoints (form words) s left.files
+  pub change : (from : Target) → IsChangeCommand from words
+      → IsBefore from s left ⊎ IsLastOrNext from s left
+  pub other : ((from : Target) → ¬ IsChangeCommand from words)
+      → stored left.files ≡ stored s.files
+  pub points_are : HasWholePoints words s left.files
 
 -- ---- a finished change
 
@@ -158,12 +171,15 @@ IsForeseen Unorderable = ⊥
 IsForeseen (Budget n) = ⊥
 IsForeseen other = IsRefusal other
 
--- the files are as before, the last line is all that was printed, and nothing was restarted
-pub record IsQuiet (s : State) (after : Option State) (result : Outcome) : Type 0 where
+-- the files are as before, the line of a refusal is all that was printed, and nothing was restarted; which line
+-- each answer has, `Says` says
+pub record IsQuiet (s : State) (after : Option State) : Type 0 where
   pub now : State
   pub is : after ≡ Some now
   pub files : now.files ≡ s.files
-  pub output : now.output ≡ s.output ++ last_line result
+  pub line : List ℕ
+  pub refusal : IsRefusalLine line
+  pub output : now.output ≡ s.output ++ line
   pub restarts : now.restarts ≡ s.restarts
 
 -- ---- all of it
@@ -172,8 +188,8 @@ pub record IsQuiet (s : State) (after : Option State) (result : Outcome) : Type 
 -- leaves since then
 pub record IsHeadline (words : List (List ℕ)) (s : State) (after : Option State) (result : Outcome)
     (IsLeftSince : Left → Type 0) : Type 0 where
-  pub printed : (from : Target) → target_in (form words) ≡ Some from → PrintsPlan from s after
-  pub no_order : result ≡ Unorderable → HasNoOrder (form words) s
+  pub printed : (from : Target) → IsPlanCommand from words → PrintsPlan from s after
+  pub no_order : result ≡ Unorderable → HasNoOrder words s
   pub crash : IsSettled s → (left : Left) → IsLeftSince left → IsWhole words s left
   -- a crash in a command that is refused leaves the files from before
   pub refused : IsForeseen result → IsSettled s
@@ -181,8 +197,8 @@ pub record IsHeadline (words : List (List ℕ)) (s : State) (after : Option Stat
   -- with another answer than those of 0, 4, 5 and 6 it leaves what the folder stood for
   pub kept : IsRefusal result → IsSettled s
       → (left : Left) → IsLeftSince left → stored left.files ≡ stored s.files
-  pub quiet : IsRefusal result → IsQuiet s after result
-  pub finished : (from : Target) (budget : ℕ) → form words ≡ Some (change from budget)
-      → result ≡ Done → StoresTarget from s after
-  pub rolled : (name : List ℕ) (budget : ℕ) → form words ≡ Some (change (rolled_back name) budget)
-      → result ≡ Done → StoresPoint name s after
+  pub quiet : IsRefusal result → IsQuiet s after
+  pub finished : (from : Target) → IsChangeCommand from words → result ≡ Done
+      → StoresTarget from s after
+  pub rolled : (name : List ℕ) → IsChangeCommand (rolled_back name) words → result ≡ Done
+      → StoresPoint name s after

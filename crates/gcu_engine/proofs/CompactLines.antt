@@ -7,7 +7,7 @@ use Rattle.json.specs.Print.{escape, escape_byte, escape_letter, quoted}
 use Rattle.serde_json.specs.Written.{comma_if, items_text, members_text}
 use Rattle.conf_doc.specs.Document.{Document, text, list, object, Items, no_items, item, Members, no_members, member}
 use Rattle.conf_doc.specs.Texts.{compact, item_values, member_values}
-use Rattle.command_runs.proofs.Lines.{IsOneLine, one_line-append}
+use Rattle.gcu_engine.proofs.Lines.{IsOneLine, one_line-append}
 
 letter_is_no_end : (x : ℕ) → escape_letter x ≢ 10
 letter_is_no_end x e = grind (arith, nat_tests)
