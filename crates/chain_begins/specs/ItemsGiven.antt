@@ -52,7 +52,8 @@ pub record IsItemOfField (t k : List ℕ) (old : Entry) (f : List ℕ) (v : Valu
   pub is : IsOfLists (t ∷ k ∷ f ∷ []) before v g
 
 -- of cur's entry at the place of goal's
-pub record IsOfItemsOfEntry (cur : Config) (t k : List ℕ) (new : Entry) (g : Generated) : Type 0 where
+pub record IsOfItemsOfEntry (cur : Config) (t k : List ℕ) (new : Entry) (g : Generated)
+    : Type 0 where
   pub old : Entry
   pub there : part_at cur (t ∷ k ∷ []) ≡ Some (part.Entry old)
   pub is : IsOfSome (IsItemOfField t k old) new g

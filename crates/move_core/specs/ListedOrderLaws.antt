@@ -155,7 +155,8 @@ part_same (part.Value v) (part.Table t) e = absurd cc
 part_same (part.Value v) (part.Entry f) e = absurd cc
 part_same (part.Value v) (part.Value w) e = ap part.Value (value_same v w e)
 
-option_same : {A : Type 0} {R : A → A → Ordering} → IsAntisymmetric R → IsAntisymmetric (option_cmp R)
+option_same :
+    {A : Type 0} {R : A → A → Ordering} → IsAntisymmetric R → IsAntisymmetric (option_cmp R)
 option_same same None None e = refl
 option_same same None (Some p) e = absurd cc
 option_same same (Some p) None e = absurd cc

@@ -31,7 +31,8 @@ abbrev pub removal_of : Config → WantAt → Move
 removal_of c at = removal_at c (place_of at) at.item
 
 -- the removal of what has such a want is put at the end, unless it is the last
-abbrev pub AddsRemoval : ModelSet → Config → Config → List ℕ → WantAt → List Move → List Move → Type 0
+abbrev pub AddsRemoval :
+    ModelSet → Config → Config → List ℕ → WantAt → List Move → List Move → Type 0
 AddsRemoval models cur next t at old new =
     (IsBroken models next t (want_of at.want) × AddsUnlessLast (removal_of cur at) old new)
     ⊎ ((¬ IsBroken models next t (want_of at.want)) × (new ≡ old))
