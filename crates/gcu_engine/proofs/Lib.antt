@@ -13,6 +13,7 @@ mod Elapsing
 mod FaultTexts
 mod Headlines
 mod Listing
+mod MigrationEnding
 mod Naming
 mod PlanCheckSaying
 mod PlanSaying

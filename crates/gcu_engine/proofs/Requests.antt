@@ -5,6 +5,7 @@ use Rattle.host_core.specs.Answers.{map_ok}
 use Rattle.host_core.specs.State.{State, printed}
 use Rattle.conf_doc.specs.declared.configuration.Config.{Config}
 use Rattle.conf_store.specs.Stored.{stored}
+use Rattle.checkpoints.specs.Migrations.{migration}
 use Rattle.checkpoints.specs.Names.{is_good_name}
 use Rattle.checkpoints.specs.Numbers.{is_full, numbered_points}
 use Rattle.checkpoints.specs.Points.{Held, points}
@@ -63,6 +64,7 @@ IsRequestOf (Some (forms.preview path)) s r = (c : Config) × (request.preview c
 IsRequestOf (Some (forms.check_plan patch plan)) s r = (count : ℕ) × (request.accept_plan count ≡ r)
 IsRequestOf (Some forms.check) s r = request.check ≡ r
 IsRequestOf (Some forms.list_checkpoints) s r = (all : List (List ℕ × Option ℕ)) × (request.list_checkpoints all ≡ r)
+IsRequestOf (Some forms.migrate_checkpoints) s r = request.migrate_checkpoints (migration s.files) ≡ r
 IsRequestOf None s r = ⊥
 
 request_is : (q r : Request) (x : Result Request Outcome) → x ≡ Ok q → x ≡ Ok r → q ≡ r
@@ -142,4 +144,6 @@ requested (Some (forms.preview path)) s r given = preview_given path s r given
 requested (Some (forms.check_plan patch plan)) s r given = accept_given patch plan s r given
 requested (Some forms.check) s r given = check_given s r given
 requested (Some forms.list_checkpoints) s r e = (numbered_points s.files, request_is (request.list_checkpoints (numbered_points s.files)) r _ refl e)
+requested (Some forms.migrate_checkpoints) s r (inl never) = absurd never
+requested (Some forms.migrate_checkpoints) s r (inr (u, settles, e)) = request_is (request.migrate_checkpoints (migration s.files)) r _ refl e
 requested None s r e = absurd cc

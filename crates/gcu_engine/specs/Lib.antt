@@ -4,6 +4,7 @@ pub mod Changing
 pub mod Contents
 pub mod Crashes
 pub mod Headline
+pub mod Migrating
 pub mod Plannings
 pub mod PointLines
 pub mod Summary
@@ -11,4 +12,5 @@ pub mod Summary
 pub mod Commands
 pub mod Doing
 pub mod FaultLines
+pub mod MigrationEnds
 pub mod PlanCommands

@@ -251,6 +251,7 @@ module _ (one : (files : List (List Declaration)) (a b : ModelSet) → AreModels
   form_one (Some (forms.preview path)) s = preview_one path s
   form_one (Some forms.check) s = check_one s
   form_one (Some forms.list_checkpoints) s = asks_one _ _
+  form_one (Some forms.migrate_checkpoints) s = chain_one settles_first _ settles_one (λ u. asks_one _ _)
   form_one (Some (forms.save_checkpoint name)) s = save_one name s
   form_one (Some (forms.delete_checkpoint name)) s = delete_one name s
   form_one (Some (forms.plan goal budget)) s = dry_run_one goal budget s
