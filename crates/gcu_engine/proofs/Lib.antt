@@ -14,6 +14,7 @@ mod FaultTexts
 mod Headlines
 mod Listing
 mod MigrationEnding
+mod MigrationReady
 mod Naming
 mod PlanCheckSaying
 mod PlanSaying
