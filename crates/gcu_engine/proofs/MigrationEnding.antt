@@ -15,9 +15,10 @@ use Rattle.gcu_output.specs.declared.outcomes.Outcome.{Outcome}
 use Rattle.gcu_output.specs.declared.outcomes.Outcome.TheVariants.{Done, DiskFault, PrintFault}
 use Rattle.gcu_engine.specs.Answers.{HasCause}
 use Rattle.gcu_engine.specs.Doing.{IsEnded}
-use Rattle.gcu_engine.specs.FaultLines.{disk_lines, line_at}
+use Rattle.gcu_engine.specs.FaultLines.{line_at}
 use Rattle.gcu_engine.specs.Migrating.{LeftMigrating}
-use Rattle.gcu_engine.specs.MigrationEnds.{EndsMigration, IsLastOf, told_before}
+use Rattle.gcu_engine.specs.MigrationEnds.{EndsMigration, HasLines, IsLastOf, told_before}
+use Rattle.gcu_engine.specs.declared.migrate_checkpoints.ReadyMigration.{ReadyMigration}
 use Rattle.gcu_engine.proofs.FaultTexts.{disk_there}
 
 -- what is there before the last line, of a host that may not tell its state
@@ -33,12 +34,12 @@ all_last news None told h = h
 all_last news (Some began) told h = (_, h.1, ((h.0, refl, h.2), refl))
 
 -- a fault of the disk stopped it
-pub stopped_last : (news : List NewFile) (lines : List (List ℕ)) → lines ≡ disk_lines (suc (length news)) → (o told : Option State) (k : ℕ) → Stops news (Disk k) o told
-    → IsLastIn news o told (DiskFault k) (line_at lines k)
-stopped_last news lines are None told k h = h
-stopped_last news lines are (Some began) told k h =
-    let within : k < length news = slice_get_within news k h.2.next h.2.is in
-    (h.0, h.1, (h.2, ap (λ (ls : List (List ℕ)). line_at ls k) are ∙ disk_there (suc (length news)) k (omega (arith, within))))
+pub stopped_last : (ready : ReadyMigration) → HasLines ready → (o told : Option State) (k : ℕ) → Stops ready.migration (Disk k) o told
+    → IsLastIn ready.migration o told (DiskFault k) (line_at ready.faults k)
+stopped_last ready lines None told k h = h
+stopped_last ready lines (Some began) told k h =
+    let within : k < length ready.migration = slice_get_within ready.migration k h.2.next h.2.is in
+    (h.0, h.1, (h.2, ap (λ (ls : List (List ℕ)). line_at ls k) lines.faults ∙ disk_there (suc (length ready.migration)) k (omega (arith, within))))
 
 -- ---- its end
 
@@ -72,11 +73,11 @@ some_is : (s t : State) → Some s ≡ Some t → s ≡ t
 some_is s t e = let same : s ≡ t = cc in same
 
 -- those that are told before the last line
-abbrev told_ones : List NewFile → Outcome → List NewFile
+abbrev pub told_ones : List NewFile → Outcome → List NewFile
 told_ones news (DiskFault k) = take k news
 told_ones news other = news
 
-ones_output : (news : List NewFile) (began now : State) (answer : Outcome) (text : List ℕ) → IsLastOf news began now answer text
+pub ones_output : (news : List NewFile) (began now : State) (answer : Outcome) (text : List ℕ) → IsLastOf news began now answer text
     → now.output ≡ began.output ++ lines_text (told_ones news answer)
 ones_output news began now Done text h = ap (λ (t : State). t.output) (some_is now _ h.0.1)
 ones_output news began now (DiskFault k) text h = h.0.leads.output

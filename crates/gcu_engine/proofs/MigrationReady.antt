@@ -1,35 +1,99 @@
 -- A migration that is ready, and what is left of the command that does it.
-use Rattle.std.proofs.Common.{◌≡◌, ◌⊎◌, inl, inr, ℕ, List, [], ◌++◌, All, length, take, slice_get, ◌<◌, ◌≤◌, arith, append-nil, refl, sym, ap, ◌∙◌, subst, Option, Some, None, Ok, Err, IfSome, option_map}
+use Rattle.std.proofs.Common.{◌≡◌, inl, inr, ℕ, List, [], ◌++◌, All, length, take, ◌<◌, ◌≤◌, arith, append-nil, refl, sym, ap, ◌∙◌, subst, Option, Some, None, Result, Ok, Err, IfErr, IfOk, IfSome, option_map}
 use Rattle.std.proofs.lemmas.List.{length-take-le}
 use Rattle.std.proofs.lemmas.Option.{slice_get_within}
 use Rattle.host_core.specs.Counts.{Counts, NoneFell}
 use Rattle.host_core.specs.Crashes.{Left, LeavesOnly}
 use Rattle.host_core.specs.State.{State, printed, settled, with_pending}
 use Rattle.host_core.proofs.Runs as runs
-use Rattle.conf_store.specs.Changes.{IsSettled}
-use Rattle.checkpoints.specs.Migrations.{IsDue, NewFile, migration}
-use Rattle.checkpoint_migration.specs.Lines.{lines_text}
-use Rattle.gcu_output.specs.Lines.{last_line}
+use Rattle.checkpoints.specs.Migrations.{IsDue, NewFile}
 use Rattle.gcu_output.specs.declared.outcomes.Outcome.{Outcome}
-use Rattle.gcu_output.specs.declared.outcomes.Outcome.TheVariants.{Done, DiskFault, PrintFault}
+use Rattle.gcu_output.specs.declared.outcomes.Outcome.TheVariants.{Done, Usage, InputFault, DiskFault, PrintFault, ServiceFault, Unorderable, Budget}
 use Rattle.gcu_requests.specs.Asked.{migrate_asked, old_asked}
-use Rattle.gcu_requests.specs.Preparing.{Finds}
+use Rattle.gcu_requests.specs.Asking.{settles_first}
+use Rattle.gcu_requests.specs.Preparing.{Finds, Found, Refuses}
 use Rattle.gcu_requests.specs.Request.{Request, migrate_checkpoints}
-use Rattle.gcu_engine.specs.Answers.{HasCause, Leaves, Prints, Says}
-use Rattle.gcu_engine.specs.Commands.{AnswersTo, LeftTo, LeftToMigration}
+use Rattle.gcu_requests.proofs.Finding.{then_found}
+use Rattle.gcu_engine.specs.Answers.{Leaves, Prints, Says}
+use Rattle.gcu_engine.specs.Commands.{AnswersTo, IsReady, LeftTo, LeftToMigration}
 use Rattle.gcu_engine.specs.Migrating.{AreTold, LeftMigrating}
 use Rattle.gcu_engine.specs.MigrationEnds.{EndsMigration, IsCutLast, IsCutLine, IsLastOf, IsSaidLast, told_before}
+use Rattle.gcu_engine.specs.declared.migrate_checkpoints.ReadyMigration.{ReadyMigration}
 use Rattle.gcu_engine.proofs.Answering.{says_prints}
+use Rattle.gcu_engine.proofs.Causes.{rose_from}
 use Rattle.gcu_engine.proofs.Changes.{cause_from}
 use Rattle.gcu_engine.proofs.MigrationEnding.{ones_output, told_ones}
+use Rattle.gcu_engine.proofs.Writing.{FindsUnit, ready_before, ready_settled}
+
+-- ---- what is made ready
+
+-- the migration of a command that is ready
+abbrev pub of_ready : ReadyMigration → Request
+of_ready r = migrate_checkpoints r.migration
+
+-- what is found of the checkpoints, with the lines
+pub found_ready : (o : Option State) (m : List NewFile) (r : ReadyMigration) → r.migration ≡ m
+    → Finds {X = List NewFile} o migrate_checkpoints (Ok m) old_asked → Finds o of_ready (Ok r) old_asked
+found_ready None m r is found = tt
+found_ready (Some s) m r is found = record { gives = subst (λ n. (old_asked s).Gives (Ok (migrate_checkpoints n))) (sym is) found.gives; stands = tt }
+
+-- what is refused of them
+pub refused_ready : (o : Option State) (e : Outcome) → Finds {X = List NewFile} o migrate_checkpoints (Err e) old_asked
+    → Finds {X = ReadyMigration} o of_ready (Err e) old_asked
+refused_ready None e found = tt
+refused_ready (Some s) e found = record { gives = found.gives; stands = found.stands }
+
+-- ---- once all is settled
 
 -- what is pending tells nothing of the checkpoints
-pub given_of : (o mid : Option State) (news : List NewFile) → mid ≡ option_map (with_pending settled) o → Finds {X = List NewFile} mid migrate_checkpoints (Ok news) old_asked
-    → IfSome o (λ s. (migrate_asked s).Gives (Ok (migrate_checkpoints news)))
-given_of None mid news is found = tt
-given_of (Some s) mid news is found =
-    let there = subst (λ (m : Option State). Finds {X = List NewFile} m migrate_checkpoints (Ok news) old_asked) is found in
-    inr (tt, refl, there.gives)
+settled_found : (s : State) (r : Result ReadyMigration Outcome) → Found of_ready r (old_asked (with_pending settled s)) → Found of_ready r (migrate_asked s)
+settled_found s r there = then_found (λ u. u) of_ready tt r settles_first (λ _. old_asked s) (record { gives = refl; stands = tt }) there
+
+pub gives_ready : (o mid : Option State) (r : Result ReadyMigration Outcome) → mid ≡ option_map (with_pending settled) o → Finds mid of_ready r old_asked
+    → IfOk r (λ x. IfSome o (λ s. (migrate_asked s).Gives (Ok (of_ready x))))
+gives_ready None mid (Ok x) is found = tt
+gives_ready (Some s) mid (Ok x) is found = (settled_found s (Ok x) (subst (λ m. Finds m of_ready (Ok x) old_asked) is found)).gives
+gives_ready o mid (Err e) is found = tt
+
+-- each may be put afterwards
+pub due_ready : (mid new : Option State) (r : Result ReadyMigration Outcome) → new ≡ mid
+    → IfOk r (λ x. IfSome mid (λ s. All (λ n. IsDue n s.files) x.migration)) → IfOk r (λ x. IfSome new (λ s. All (λ n. IsDue n s.files) x.migration))
+due_ready mid new r same due = subst (λ t. IfOk r (λ x. IfSome t (λ s. All (λ n. IsDue n s.files) x.migration))) (sym same) due
+
+-- or a refusal is left to be told
+pub left_ready : (o mid new : Option State) (r : Result ReadyMigration Outcome) (c d : Counts) → mid ≡ option_map (with_pending settled) o → new ≡ mid
+    → Finds mid of_ready r old_asked → IfErr r (Refuses c d) → IfErr r (IsReady migrate_asked o new)
+left_ready o mid new (Ok x) c d is same found refuses = tt
+left_ready None mid new (Err e) c d is same found refuses = same ∙ is
+left_ready (Some s) mid new (Err e) c d is same found refuses =
+    let there = settled_found s (Err e) (subst (λ m. Finds m of_ready (Err e) old_asked) is found) in
+    ready_settled migrate_asked (Some s) new e c d (migrate_checkpoints []) (same ∙ is) refuses (inl (inl refl)) (record { gives = there.gives; stands = there.stands })
+
+-- nothing could be settled
+pub unsettled_ready : (o new : Option State) (c d : Counts) → new ≡ o → Refuses c d (DiskFault 0) → IsReady migrate_asked o new (DiskFault 0)
+unsettled_ready o new c d same refuses = ready_before migrate_asked o new (DiskFault 0) c d (migrate_checkpoints []) same refuses (fault_found o)
+  where
+    fault_found : (o : Option State) → FindsUnit o (migrate_checkpoints []) (Err (DiskFault 0)) migrate_asked
+    fault_found None = tt
+    fault_found (Some s) = record { gives = tt; stands = inl (inr refl) }
+
+-- the cause of a refusal is one since before
+refuses_since : (old mid new : Counts) (e : Outcome) → NoneFell old mid → Refuses mid new e → Refuses old new e
+refuses_since old mid new Done fell never = absurd never
+refuses_since old mid new Usage fell never = absurd never
+refuses_since old mid new (PrintFault step) fell never = absurd never
+refuses_since old mid new (ServiceFault step service) fell never = absurd never
+refuses_since old mid new Unorderable fell never = absurd never
+refuses_since old mid new (Budget n) fell never = absurd never
+refuses_since old mid new InputFault fell h = rose_from old.input mid.input new.input fell.input h
+refuses_since old mid new (DiskFault step) fell h = (h.0, rose_from old.disk mid.disk new.disk fell.disk h.1)
+refuses_since old mid new other fell h = h
+
+pub refused_since : {X : Type 0} (old mid new : Counts) (r : Result X Outcome) → NoneFell old mid → IfErr r (Refuses mid new) → IfErr r (Refuses old new)
+refused_since old mid new (Ok x) fell h = tt
+refused_since old mid new (Err e) fell h = refuses_since old mid new e fell h
+
+-- ---- how it ends
 
 module _ (s : State) (news : List NewFile) (given : (migrate_asked s).Gives (Ok (migrate_checkpoints news))) where
   abbrev began : State
@@ -86,7 +150,8 @@ migration_answers (Some s) told after news old mid new result given is ends fell
     ends_leaves s news given old new after result
     (ends_since news (Some (with_pending settled s)) after old mid new result fell (subst (λ t. EndsMigration news t after mid new result) is ends))
 
--- what a crash leaves of it
+-- ---- what a crash leaves of it
+
 module _ {H : Type 0} (moment : H → ℕ) (left_since : H → ℕ → Left → Type 0) where
   early : (o : Option State) (left : Left) → LeftTo migrate_asked o left → LeftToMigration migrate_asked o left
   early None left h = tt

@@ -1,14 +1,22 @@
 -- What the part of `migrate-checkpoints` that writes answers and leaves.
-use Rattle.std.specs.Prelude.{◌≡◌, ◌⊎◌, ℕ, List, ◌++◌, length, Option, Some, None}
+use Rattle.std.specs.Prelude.{◌≡◌, ◌⊎◌, ℕ, suc, List, ◌++◌, length, Option, Some, None}
 use Rattle.host_core.specs.Counts.{Counts}
 use Rattle.host_core.specs.State.{State, printed}
 use Rattle.checkpoints.specs.Migrations.{NewFile}
 use Rattle.checkpoint_migration.specs.Ends.{Finishes, IsStoppedBy}
+use Rattle.checkpoint_migration.specs.Lines.{lines_of}
 use Rattle.checkpoint_migration.specs.declared.errors.MigrateFault.TheVariants.{Disk, Print}
 use Rattle.gcu_output.specs.Lines.{last_line}
 use Rattle.gcu_output.specs.declared.outcomes.Outcome.{Outcome}
 use Rattle.gcu_output.specs.declared.outcomes.Outcome.TheVariants.{Done, DiskFault, PrintFault}
 use Rattle.gcu_engine.specs.Answers.{HasCause}
+use Rattle.gcu_engine.specs.FaultLines.{disk_lines}
+use Rattle.gcu_engine.specs.declared.migrate_checkpoints.ReadyMigration.{ReadyMigration}
+
+-- the lines of its checkpoints are there, and those of a fault of the disk behind each number of them
+pub record HasLines (ready : ReadyMigration) : Type 0 where
+  pub told : ready.told ≡ lines_of ready.migration
+  pub faults : ready.faults ≡ disk_lines (suc (length ready.migration))
 
 -- that text is the last line of the answer, in the state that the migration then left
 abbrev pub IsLastOf : List NewFile → State → State → Outcome → List ℕ → Type 0
