@@ -222,6 +222,6 @@ module _ (s now : State) (asking : Asking Request) (query : (r : Request) → as
   prints_told old new (PrintFault step) text (inl (acked, (answer, rest, cause, says))) =
       let h = says_told answer (text ++ rest) says in (told_front text rest h.0, h.1)
   prints_told old new (PrintFault step) text (inr (inl (p, given, cut))) = absurd (no_change s p (request.change p) refl (query (request.change p) given))
-  prints_told old new (PrintFault step) text (inr (inr (news, given, cut))) =
+  prints_told old new (PrintFault step) text (inr (inr (news, given, cut, none))) =
       absurd (no_migration s news (request.migrate_checkpoints news) refl (query (request.migrate_checkpoints news) given))
   prints_told old new other text says = whole_told other text says

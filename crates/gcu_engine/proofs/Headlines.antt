@@ -156,7 +156,7 @@ module _ (from : Target) (budget : ℕ) (s now : State) (after : Option State) (
   plan_cut step (inl (acked, (other, rest, cause, says))) = prints_text from s now after output rest is (plan_text_is from s now budget other (output ++ rest) says)
   plan_cut step (inr (inl (p, given, h))) =
       let g = plan_given from budget s (request.change p) given in let apart : request.plan g.0 ≡ request.change p = g.2 in absurd cc
-  plan_cut step (inr (inr (news, given, h))) =
+  plan_cut step (inr (inr (news, given, h, none))) =
       let g = plan_given from budget s (request.migrate_checkpoints news) given in let apart : request.plan g.0 ≡ request.migrate_checkpoints news = g.2 in absurd cc
 
   -- what a plan that is only printed prints
@@ -166,7 +166,7 @@ module _ (from : Target) (budget : ℕ) (s now : State) (after : Option State) (
 
   change_cut : (step : ℕ) → Prints (change_asked from budget s) s now old new (PrintFault step) output → PrintsPlan from s after
   change_cut step (inl (acked, (other, rest, cause, says))) = prints_text from s now after output rest is (change_text_is from s now budget other (output ++ rest) says)
-  change_cut step (inr (inr (news, given, h))) =
+  change_cut step (inr (inr (news, given, h, none))) =
       let g = change_given from budget s (request.migrate_checkpoints news) given in let apart : request.change g.0 ≡ request.migrate_checkpoints news = g.2 in absurd cc
   change_cut step (inr (inl (p, given, inl (first, (c, rest, fits, text, same))))) =
       let g = change_given from budget s (request.change p) given in
