@@ -4,6 +4,7 @@ use Rattle.std.proofs.lemmas.List.{append_cancel_left}
 use Rattle.host_core.specs.Counts.{Counts}
 use Rattle.host_core.specs.State.{State, settled, with_pending}
 use Rattle.checkpoints.specs.Migrations.{NewFile, migration}
+use Rattle.checkpoint_migration.specs.Ends.{worked}
 use Rattle.checkpoint_migration.specs.Lines.{lines_text, migrated_line}
 use Rattle.gcu_output.specs.Lines.{last_line}
 use Rattle.gcu_output.specs.declared.outcomes.Outcome.{Outcome}
@@ -74,8 +75,9 @@ module _ (s now : State) where
   done_printed r part rest same leaves out =
       let done = subst (λ (q : Request). LeavesDone q s now) (sym same) leaves in
       let is = subst (λ (q : Request). IsDoneOutput q (part ++ rest)) (sym same) out in
-      let here : Some now ≡ Some _ = done.1 in
-      let at : now ≡ _ = cc in
+      let ended = worked done.0 (migration s.files) (with_pending settled s) in
+      let here : Some now ≡ Some ended = done.1 in
+      let at : now ≡ ended = cc in
       printed_of (migration s.files) part rest (ap (λ (t : State). t.output) at) (subst Quiet (sym is) (last_line_is_quiet Done))
 
   stopped_printed : (r : Request) (step : ℕ) (part rest : List ℕ) → request.migrate_checkpoints (migration s.files) ≡ r → LeavesStopped r step s now
