@@ -1,5 +1,5 @@
 -- What a migration of checkpoints printed begins with no plan.
-use Rattle.std.proofs.Common.{◌≡◌, inl, inr, ℕ, List, [], ◌∷◌, ◌++◌, take, append-nil, append_assoc, Option, Some, None, Ok, refl, sym, ap, ◌∙◌, subst, arith}
+use Rattle.std.proofs.Common.{◌≡◌, inl, inr, ℕ, List, [], ◌∷◌, ◌++◌, take, append-nil, append_assoc, Some, Ok, sym, ap, ◌∙◌, subst, arith}
 use Rattle.std.proofs.lemmas.List.{append_cancel_left}
 use Rattle.host_core.specs.Counts.{Counts}
 use Rattle.host_core.specs.State.{State, settled, with_pending}
