@@ -8,6 +8,7 @@ pub mod Fitting
 pub mod LastLines
 pub mod Leading
 pub mod Lines
+pub mod MigrationsTold
 pub mod MovesTold
 pub mod NotedFiles
 pub mod PlanLines

@@ -17,6 +17,8 @@ mod FaultTexts
 mod Headlines
 mod Intending
 mod Listing
+mod MigrationEnding
+mod MigrationReady
 mod Naming
 mod PlanCheckSaying
 mod PlanSaying

@@ -21,6 +21,7 @@ use crate::delete_checkpoint::delete_checkpoint;
 use crate::demo::demo;
 use crate::dry_run::dry_run;
 use crate::list_checkpoints::list_checkpoints;
+use crate::migrate_checkpoints::migrate_checkpoints;
 use crate::save_checkpoint::save_checkpoint;
 use crate::status::status;
 use gcu_output::{say, show};
@@ -86,6 +87,7 @@ pub fn run<H: Host>(alloc: Global, words: &[Txt], kit: &mut Kit, host: &mut H) -
         },
         Form::Check => check(alloc, host),
         Form::ListCheckpoints => list_checkpoints(alloc, host),
+        Form::MigrateCheckpoints => migrate_checkpoints(alloc, host),
         Form::SaveCheckpoint { name } => save_checkpoint(alloc, name, host),
         Form::DeleteCheckpoint { name } => delete_checkpoint(alloc, name, host),
         Form::Plan { target, options } => dry_run(alloc, target, options.budget, kit, host),
