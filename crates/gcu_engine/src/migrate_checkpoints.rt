@@ -83,7 +83,8 @@ fn make_ready<H: Host>(alloc: Global, host: &mut H) -> Result<ReadyMigration, Ou
 /// Makes every byte of the migration, with nothing pending, where no change was stopped before its end.
 fn ready_settled<H: Host>(alloc: Global, host: &mut H) -> Result<ReadyMigration, Outcome>
     requires { longest_scoped_name ≤ H.longest_name }
-    ensures answer { Finds (H.told host.old) (λ r. migration_of r.migration) result migration_asked }
+    ensures answer { Finds (H.told host.old) (λ r. migration_of r.migration) result
+        migration_asked }
     ensures due { IfOk result (λ r. IfSome (H.told host.old)
         (λ s. All (λ n. IsDue n s.files) r.migration)) }
     ensures lines { IfOk result HasLines }
