@@ -18,7 +18,7 @@ use Rattle.plan_options.specs.Targets.{Target, patched, replaced, resumed, rolle
 use Rattle.plan_texts.specs.PlanTexts.{most_bytes}
 use Rattle.gcu_output.specs.declared.outcomes.Outcome.{Outcome}
 use Rattle.gcu_output.specs.declared.outcomes.Outcome.TheVariants.{BadModels, CurrentInvalid, TargetInvalid, NoModel, EmptyTable}
-use Rattle.gcu_requests.specs.Asked.{delete_asked, form_asked, list_asked, preview_asked, save_asked, target_asked}
+use Rattle.gcu_requests.specs.Asked.{delete_asked, form_asked, list_asked, migrate_asked, preview_asked, save_asked, target_asked}
 use Rattle.gcu_requests.specs.Asking.{Asking, IsRefused, Source, asks, follows, follows_by, settles_first, ◌>>>◌}
 use Rattle.gcu_requests.specs.ChangeAsked.{change_asked}
 use Rattle.gcu_requests.specs.Checking.{IsJudged, check_asked, judging_asked}
