@@ -1,7 +1,7 @@
 # Completions of gcu for bash: source this file, or put it where bash-completion looks.
 _gcu() {
     local word=${COMP_WORDS[COMP_CWORD]} command=${COMP_WORDS[1]} commands checkpoints
-    commands='check preview apply-patch replace rollback status resume abandon checkpoint list-checkpoints delete-checkpoint check-plan demo'
+    commands='check preview apply-patch replace rollback status resume abandon checkpoint list-checkpoints delete-checkpoint migrate-checkpoints check-plan demo'
     if [ "$COMP_CWORD" = 1 ]; then
         mapfile -t COMPREPLY < <(compgen -W "$commands" -- "$word")
         return

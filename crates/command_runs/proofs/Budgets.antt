@@ -10,7 +10,7 @@ use Rattle.plan_options.specs.Demos.{demo_of, Demo}
 use Rattle.plan_options.specs.Options.{Options, budget_in, budget_word, dry_run_word, most_budget, options, with_budget}
 use Rattle.plan_options.specs.Targets.{Target, resumed, target_of}
 use Rattle.plan_options.specs.Words.{is_positional, is_word}
-use Rattle.gcu_requests.specs.Form.{Form, abandon, change, check, check_plan, delete_checkpoint, demo, form, form_of_check, form_of_demo, form_of_interruption, form_of_plan, form_of_resume, list_checkpoints, plan, planned, preview, save_checkpoint, status}
+use Rattle.gcu_requests.specs.Form.{Form, abandon, change, check, check_plan, delete_checkpoint, demo, form, form_of_check, form_of_demo, form_of_interruption, form_of_plan, form_of_resume, list_checkpoints, migrate_checkpoints, plan, planned, preview, save_checkpoint, status}
 
 -- ---- options
 
@@ -125,6 +125,13 @@ checking a b ws = cond (is_word a (codes "check-plan")) (form_of_check b ws) (fo
 abbrev resuming_more : (a b : List ℕ) → List (List ℕ) → Option Form
 resuming_more a b ws = cond (is_word a (codes "resume")) (form_of_resume (b ∷ ws)) (checking a b ws)
 
+-- the forms of one word that come after the first one
+abbrev migrating : List ℕ → Option Form
+migrating a = cond (is_word a (codes "migrate-checkpoints")) (Some migrate_checkpoints) (form_of_interruption a)
+
+abbrev listing : List ℕ → Option Form
+listing a = cond (is_word a (codes "list-checkpoints")) (Some list_checkpoints) (migrating a)
+
 -- the forms of two words that come after the first one
 abbrev deleting : (a b : List ℕ) → Option Form
 deleting a b = cond (is_word a (codes "delete-checkpoint") && is_positional b) (Some (delete_checkpoint b)) (form_of_plan a b [])
@@ -135,8 +142,9 @@ saving a b = cond (is_word a (codes "checkpoint") && is_positional b) (Some (sav
 pub form_is_budgeted : (ws : List (List ℕ)) → IsBudgeted (form ws)
 form_is_budgeted [] = tt
 form_is_budgeted (a ∷ []) =
-    either_budgeted (is_word a (codes "check")) (Some check) (cond (is_word a (codes "list-checkpoints")) (Some list_checkpoints) (form_of_interruption a)) tt
-    (either_budgeted (is_word a (codes "list-checkpoints")) (Some list_checkpoints) (form_of_interruption a) tt (interruption_budgeted a))
+    either_budgeted (is_word a (codes "check")) (Some check) (listing a) tt
+    (either_budgeted (is_word a (codes "list-checkpoints")) (Some list_checkpoints) (migrating a) tt
+    (either_budgeted (is_word a (codes "migrate-checkpoints")) (Some migrate_checkpoints) (form_of_interruption a) tt (interruption_budgeted a)))
 form_is_budgeted (a ∷ b ∷ []) =
     either_budgeted (is_word a (codes "preview") && is_positional b) (Some (preview b)) (saving a b) tt
     (either_budgeted (is_word a (codes "checkpoint") && is_positional b) (Some (save_checkpoint b)) (deleting a b) tt

@@ -16,13 +16,13 @@ use Rattle.move_core.specs.declared.moves.Move.{Move}
 use Rattle.plan_options.specs.Options.{most_budget}
 use Rattle.plan_options.specs.Targets.{Target}
 use Rattle.gcu_output.specs.declared.outcomes.Outcome.{Outcome}
-use Rattle.gcu_requests.specs.Asked.{form_asked}
+use Rattle.gcu_requests.specs.Asked.{form_asked, migrate_asked}
 use Rattle.gcu_requests.specs.Form as forms
 use Rattle.gcu_requests.specs.Form.{Form, form}
 use Rattle.gcu_requests.specs.Request as request
 use Rattle.gcu_requests.specs.Request.{Request}
 use Rattle.gcu_engine.specs.Answers.{Leaves}
-use Rattle.gcu_engine.specs.Crashes.{LeftByForm, LeftOf, LeftWriting}
+use Rattle.gcu_engine.specs.Crashes.{LeftByForm, LeftOf, LeftOfMigration, LeftWriting}
 use Rattle.gcu_engine.proofs.Closed.{either_stored}
 use Rattle.command_runs.specs.Histories.{AllLead, AllStandFor, IsNext, LeadOn, Leads, StandFor, last_or_next}
 use Rattle.command_runs.specs.Noted.{found}
@@ -32,9 +32,10 @@ use Rattle.command_runs.specs.declared.stops.Ran.{Ran}
 use Rattle.command_runs.specs.declared.stops.Stop.{Stop}
 use Rattle.command_runs.proofs.Budgets.{IsBudgeted, form_is_budgeted}
 use Rattle.command_runs.proofs.ChangesLeft.{StandAtWork, left_at_work}
+use Rattle.command_runs.proofs.MigrationsTold.{migration_has_none}
 use Rattle.command_runs.proofs.MovesTold.{ReadsTokens}
 use Rattle.command_runs.proofs.Queries.{IsNoChange, prints_told, query_given}
-use Rattle.command_runs.proofs.WorksTold.{work_is_one}
+use Rattle.command_runs.proofs.WorksTold.{unplanned, work_is_one}
 
 -- ---- configurations of a list
 
@@ -124,6 +125,7 @@ module _ (before : List Config) (s t : State) (output : List ℕ) (start : Confi
   left_of (Some (forms.preview path)) none left h = h
   left_of (Some forms.check) none left h = h
   left_of (Some forms.list_checkpoints) none left h = h
+  left_of (Some forms.migrate_checkpoints) none left h = absurd none
   left_of (Some (forms.save_checkpoint name)) none left h = h
   left_of (Some (forms.delete_checkpoint name)) none left h = h
   left_of (Some (forms.plan from budget)) none left h = h
@@ -149,6 +151,25 @@ module _ (before : List Config) (s t : State) (output : List ℕ) (start : Confi
             (stand_left o (left_with files) now (left_of o none (left_with files) (left (left_with files) (may_leave files image)))),
       )
 
+  -- ---- a migration of checkpoints
+
+  stand_migrated : (left : Left) → Image s.pending s.files s.files → LeftOfMigration (migrate_asked s) s left → StandFor before left.files
+  stand_migrated left now (inl h) = stand_left (Some forms.migrate_checkpoints) left now h
+  stand_migrated left now (inr (news, given, inl h)) = let found = all s.files now in (found.0, h.same.kept ∙ found.1, found.2)
+  stand_migrated left now (inr (news, given, inr h)) = let found = all s.files now in (found.0, h.is.same.kept ∙ found.1, found.2)
+
+  migrates_lead : Image s.pending s.files s.files → (old new : Counts) (e : Outcome) → Leaves (migrate_asked s) s (Some t) old new e
+      → ((left : Left) → MayLeave t left → LeftOfMigration (migrate_asked s) s left) → IsLed
+  migrates_lead now old new e (ended, text, is, prints) left =
+      let at : t ≡ printed text ended = cc in
+      let whole : s.output ++ output ≡ ended.output ++ text = sym printed_is ∙ ap (λ (u : State). u.output) at in (
+        [],
+        0,
+        unplanned output (migration_has_none s ended output old new e text whole prints),
+        λ files image.
+            stand_before before start [] 0 files refl (stand_migrated (left_with files) now (left (left_with files) (may_leave files image))),
+      )
+
 -- what is there may be left
 abbrev pub ReadsAsIs : Type 0
 ReadsAsIs = (pending : Pending) (now : Files) → Image pending now now
@@ -171,6 +192,8 @@ promised_leads reads now before words s t output start stands all printed_is old
     by (Some (forms.preview path)) few answers left = query (Some (forms.preview path)) tt few answers left
     by (Some forms.check) few answers left = query (Some forms.check) tt few answers left
     by (Some forms.list_checkpoints) few answers left = query (Some forms.list_checkpoints) tt few answers left
+    by (Some forms.migrate_checkpoints) few answers left =
+        migrates_lead before s t output start stands all printed_is (now s.pending s.files) old new e answers left
     by (Some (forms.save_checkpoint name)) few answers left = query (Some (forms.save_checkpoint name)) tt few answers left
     by (Some (forms.delete_checkpoint name)) few answers left = query (Some (forms.delete_checkpoint name)) tt few answers left
     by (Some (forms.plan from budget)) few answers left = query (Some (forms.plan from budget)) tt few answers left

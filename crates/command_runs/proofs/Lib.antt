@@ -6,6 +6,7 @@ pub mod CompactTold
 pub mod Fitting
 pub mod LastLines
 pub mod Leading
+pub mod MigrationsTold
 pub mod MovesTold
 pub mod NotedFiles
 pub mod PlanLines

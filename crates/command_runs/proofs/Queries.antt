@@ -7,6 +7,7 @@ use Rattle.json.specs.Layout.{pretty_from}
 use Rattle.conf_doc.specs.Texts.{file_text}
 use Rattle.conf_doc.specs.declared.configuration.Config.{Config}
 use Rattle.conf_store.specs.Applied.{applied}
+use Rattle.checkpoints.specs.Migrations.{NewFile}
 use Rattle.checkpoints.specs.Numbers.{is_full, numbered_points}
 use Rattle.checkpoints.specs.Points.{Held, points}
 use Rattle.move_core.specs.Operations.{plan_text}
@@ -63,9 +64,10 @@ planning_budget from budget s p (inr (u, gate, inr (ctx, g, inr (start, h, inr (
     let same : record { ctx = ctx; start = start; goal = goal; budget = budget } ≡ p = cc in
     sym (ap (λ (q : Planning). q.budget) same)
 
--- no plan is done
+-- no plan is done, and no checkpoint is put anew
 abbrev pub IsNoChange : Option Form → Type 0
 IsNoChange (Some (forms.change target budget)) = ⊥
+IsNoChange (Some forms.migrate_checkpoints) = ⊥
 IsNoChange other = Unit {0}
 
 saved : (s : State) (name : List ℕ) (c : Config) (r : Request) (full : Bool) (o : Option Held) → absent_answer name c full o ≡ Ok r → Query s r
@@ -106,6 +108,7 @@ query_given (Some (forms.plan target budget)) none few s r (inr (from, g, inr (p
     let same : request.plan p ≡ r = cc in
     subst (Query s) same (plans p (subst (λ (n : ℕ). n ≤ most_budget) (sym (planning_budget from budget s p h)) few))
 query_given (Some (forms.change target budget)) none few s r g = absurd none
+query_given (Some forms.migrate_checkpoints) none few s r g = absurd none
 query_given (Some (forms.demo seed ports)) none few s r (inl never) = absurd never
 query_given (Some (forms.demo seed ports)) none few s r (inr (p, g, e)) =
     let same : request.demo p ports ≡ r = cc in subst (Query s) same (demos p ports)
@@ -203,6 +206,18 @@ no_change s p _ e (accepts count) = cc
 no_change s p _ e (tells intent steps) = cc
 no_change s p _ e gives_up = cc
 
+no_migration : (s : State) (news : List NewFile) (r : Request) → r ≡ request.migrate_checkpoints news → Query s r → ⊥
+no_migration s news _ e (previews c) = cc
+no_migration s news _ e checks = cc
+no_migration s news _ e lists = cc
+no_migration s news _ e (saves name c) = cc
+no_migration s news _ e (deletes name) = cc
+no_migration s news _ e (plans q few) = cc
+no_migration s news _ e (demos q ports) = cc
+no_migration s news _ e (accepts count) = cc
+no_migration s news _ e (tells intent steps) = cc
+no_migration s news _ e gives_up = cc
+
 module _ (s now : State) (asking : Asking Request) (query : (r : Request) → asking.Gives (Ok r) → Query s r) where
   untouched_output : IsUntouched asking s now → now.output ≡ s.output
   untouched_output (inl same) = ap (λ (t : State). t.output) same
@@ -232,5 +247,7 @@ module _ (s now : State) (asking : Asking Request) (query : (r : Request) → as
       → ((ms : List Move) × IsWork text ms 0) × (now.output ≡ s.output)
   prints_told old new (PrintFault step) text (inl (acked, (answer, rest, cause, says))) =
       let h = says_told answer (text ++ rest) says in (told_front text rest h.0, h.1)
-  prints_told old new (PrintFault step) text (inr (p, given, cut)) = absurd (no_change s p (request.change p) refl (query (request.change p) given))
+  prints_told old new (PrintFault step) text (inr (inl (p, given, cut))) = absurd (no_change s p (request.change p) refl (query (request.change p) given))
+  prints_told old new (PrintFault step) text (inr (inr (news, given, cut, none))) =
+      absurd (no_migration s news (request.migrate_checkpoints news) refl (query (request.migrate_checkpoints news) given))
   prints_told old new other text says = whole_told other text says

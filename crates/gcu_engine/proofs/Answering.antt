@@ -65,7 +65,7 @@ printed_leaves asking s now after old mid new r text result (inr part) rises cau
   part.1.0,
   part.1.3,
   subst (λ x. Prints asking s now old new x part.1.0) (sym part.0)
-      (inl (inl (refl, same), (r, part.1.1, cause_stays old mid new r asking s now text rises cause says, subst (λ t. Says asking s now r t) part.1.2 says))),
+      (inl (inl (inl (refl, same)), (r, part.1.1, cause_stays old mid new r asking s now text rises cause says, subst (λ t. Says asking s now r t) part.1.2 says))),
 )
 
 -- a question whose command changes nothing but the output

@@ -172,16 +172,16 @@ module _ (asking : Asking Request) (s : State) (p : Planning) (c : Change) (give
       cut_leaves : IsCutInLast c began after old new result → Leaves asking s after old new result
       cut_leaves h =
           let says = last_says began begins h.0 h.1 (h.2 ++ h.3) h.4 in
-          (h.0, h.2, h.7, subst (λ x. Prints asking s h.0 old new x h.2) (sym h.6) (inl (counted began begins h.0 h.1 (h.2 ++ h.3) h.4, (h.1, h.3, h.5, says))))
+          (h.0, h.2, h.7, subst (λ x. Prints asking s h.0 old new x h.2) (sym h.6) (inl (inl (counted began begins h.0 h.1 (h.2 ++ h.3) h.4), (h.1, h.3, h.5, says))))
 
       step_leaves : IsCutInStep c began after result → Leaves asking s after old new result
       step_leaves h =
           let all : Some h.0 ≡ Some (printed [] h.0) = ap (λ (o : List ℕ). Some (record h.0 { output = o })) (sym (append-nil h.0.output)) in
-          (h.0, [], h.4 ∙ all, subst (λ x. Prints asking s h.0 old new x []) (sym h.3) (inr (p, given, inr ((c, is, began, begins, h.2), refl))))
+          (h.0, [], h.4 ∙ all, subst (λ x. Prints asking s h.0 old new x []) (sym h.3) (inr (inl (p, given, inr ((c, is, began, begins, h.2), refl)))))
 
     plan_leaves : result ≡ PrintFault 0 → PrintsPart (plan_text c.moves) (Some (with_pending settled s)) after → Leaves asking s after old new result
     plan_leaves fault h =
-        (with_pending settled s, h.0, h.3, subst (λ x. Prints asking s (with_pending settled s) old new x h.0) (sym fault) (inr (p, given, inl (refl, (c, h.1, is, h.2, refl)))))
+        (with_pending settled s, h.0, h.3, subst (λ x. Prints asking s (with_pending settled s) old new x h.0) (sym fault) (inr (inl (p, given, inl (refl, (c, h.1, is, h.2, refl))))))
 
     work_leaves : EndsFrom c (Some (begun c s)) after old new result → Leaves asking s after old new result
     work_leaves (began, begins, inl h) = told_leaves began begins h

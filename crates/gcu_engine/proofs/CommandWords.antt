@@ -223,9 +223,10 @@ one_words : (a : List ℕ) → IfSome (form_of_one a) (IsFormOf (a ∷ []))
 one_words a =
     branch (a ∷ []) (is_word a (codes "check")) _ _ (λ is. tt)
     (branch (a ∷ []) (is_word a (codes "list-checkpoints")) _ _ (λ is. tt)
+    (branch (a ∷ []) (is_word a (codes "migrate-checkpoints")) _ _ (λ is. tt)
     (branch (a ∷ []) (is_word a (codes "status")) _ _ (λ is. tt)
     (branch (a ∷ []) (is_word a (codes "resume")) _ _ (λ is. behind a (codes "resume") [] (form_of_resume []) is (resume_words []))
-    (branch (a ∷ []) (is_word a (codes "abandon")) _ _ (λ is. tt) tt))))
+    (branch (a ∷ []) (is_word a (codes "abandon")) _ _ (λ is. tt) tt)))))
 
 two_words : (a b : List ℕ) → IfSome (form_of_two a b) (IsFormOf (a ∷ b ∷ []))
 two_words a b =

@@ -18,6 +18,7 @@ finishes : (r : Request) → Finishes r Done
 finishes (request.preview c) = refl
 finishes (request.list_checkpoints names) = refl
 finishes request.check = refl
+finishes (request.migrate_checkpoints news) = refl
 finishes (request.save_checkpoint name config) = refl
 finishes (request.delete_checkpoint name) = refl
 finishes (request.plan p) = inl refl
@@ -35,6 +36,7 @@ unsolved_finishes (request.demo p ports) e h = inr h
 unsolved_finishes (request.preview c) e never = absurd never
 unsolved_finishes (request.list_checkpoints names) e never = absurd never
 unsolved_finishes request.check e never = absurd never
+unsolved_finishes (request.migrate_checkpoints news) e never = absurd never
 unsolved_finishes (request.save_checkpoint name config) e never = absurd never
 unsolved_finishes (request.delete_checkpoint name) e never = absurd never
 unsolved_finishes (request.status intent steps) e never = absurd never

@@ -8,14 +8,14 @@ use Rattle.gcu_output.specs.Lines.{last_line}
 use Rattle.gcu_output.specs.Printing.{LeftInText, LeftInTold, may_have_written}
 use Rattle.gcu_output.specs.declared.outcomes.Outcome.{Outcome}
 use Rattle.gcu_output.specs.declared.outcomes.Outcome.TheVariants.{Memory}
-use Rattle.gcu_requests.specs.Asked.{asked, form_asked}
+use Rattle.gcu_requests.specs.Asked.{asked, form_asked, migrate_asked}
 use Rattle.gcu_requests.specs.Asking.{Asking}
 use Rattle.gcu_requests.specs.ChangeAsked.{change_asked}
-use Rattle.gcu_requests.specs.Form.{Form, change, form}
+use Rattle.gcu_requests.specs.Form.{Form, change, form, migrate_checkpoints}
 use Rattle.gcu_requests.specs.Request as request
 use Rattle.gcu_requests.specs.Request.{Request}
 use Rattle.gcu_engine.specs.Answers.{Says}
-use Rattle.gcu_engine.specs.Commands.{IsReady, LeftTo}
+use Rattle.gcu_engine.specs.Commands.{IsReady, LeftTo, LeftToMigration}
 use Rattle.gcu_engine.specs.Crashes.{IsOutputFront, LeftBy, LeftByForm, LeftMeanwhile, LeftOf, LeftWriting}
 use Rattle.gcu_engine.specs.Doing.{LeftToChange}
 
@@ -145,6 +145,13 @@ module _ {H : Type 0} (moment : H → ℕ) (left_since : H → ℕ → Left → 
   changes_by words from budget old new before is run =
       weaker moment left_since old new (LeftToChange (change_asked from budget) before) (LeftMeanwhile words before)
       (λ left h. left_by (LeftToChange (change_asked from budget)) words (Some (change from budget)) before left is (λ s changed. changed) h) run
+
+  -- and of a migration
+  pub migrates_by : (words : List (List ℕ)) (old new : H) (before : Option State) → Some migrate_checkpoints ≡ form words
+      → LeavesOnly moment left_since old new (LeftToMigration migrate_asked before) → LeavesOnly moment left_since old new (LeftMeanwhile words before)
+  migrates_by words old new before is run =
+      weaker moment left_since old new (LeftToMigration migrate_asked before) (LeftMeanwhile words before)
+      (λ left h. left_by (LeftToMigration migrate_asked) words (Some migrate_checkpoints) before left is (λ s migrated. migrated) h) run
 
   -- words whose command prints alone
   pub command_leaves : (words : List (List ℕ)) (f : Option Form) (old new : H) (before : Option State) (answer : Outcome) (text : List ℕ) → f ≡ form words

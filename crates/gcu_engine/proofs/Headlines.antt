@@ -8,6 +8,7 @@ use Rattle.conf_doc.specs.declared.configuration.Config.{Config}
 use Rattle.conf_store.specs.Changes.{IsSettled}
 use Rattle.conf_store.specs.Stored.{stored}
 use Rattle.checkpoints.specs.Changes.{with_point, without_point}
+use Rattle.checkpoints.specs.Migrations.{migration}
 use Rattle.checkpoints.specs.Points.{points}
 use Rattle.move_core.specs.Plans.{conf}
 use Rattle.change_apply.specs.Acknowledgements.{acks}
@@ -17,7 +18,7 @@ use Rattle.plan_options.specs.Targets.{Target, rolled_back}
 use Rattle.gcu_output.specs.Lines.{last_line}
 use Rattle.gcu_output.specs.declared.outcomes.Outcome.{Outcome}
 use Rattle.gcu_output.specs.declared.outcomes.Outcome.TheVariants.{Done, Memory, InputFault, DiskFault, PrintFault, ServiceFault, Unorderable, Budget}
-use Rattle.gcu_requests.specs.Asked.{asked, form_asked}
+use Rattle.gcu_requests.specs.Asked.{asked, form_asked, migrate_asked}
 use Rattle.gcu_requests.specs.Asking.{Asking}
 use Rattle.gcu_requests.specs.ChangeAsked.{change_asked}
 use Rattle.gcu_requests.specs.Form.{Form, form}
@@ -27,7 +28,7 @@ use Rattle.gcu_requests.specs.Request as request
 use Rattle.gcu_requests.specs.Request.{Planning, Request}
 use Rattle.gcu_engine.specs.Answers.{Answers, IsDoneOutput, IsRefusal, IsUntouched, Leaves, LeavesDone, Prints, Says}
 use Rattle.gcu_engine.specs.Changing.{IsChangeFor, IsLastLine, acknowledged, begun}
-use Rattle.gcu_engine.specs.Crashes.{LeftByForm, LeftChanged, LeftEarly, LeftMeanwhile, LeftOf, LeftOfChange, LeftWriting}
+use Rattle.gcu_engine.specs.Crashes.{LeftByForm, LeftChanged, LeftEarly, LeftMeanwhile, LeftOf, LeftOfChange, LeftOfMigration, LeftWriting}
 use Rattle.gcu_engine.specs.Doing.{LeftToEarly}
 use Rattle.gcu_engine.specs.Headline.{HasNoOrder, IsBefore, IsForeseen, IsHeadline, IsLastOrNext, IsQuiet, PrintsPlan, StoresPoint, StoresTarget}
 use Rattle.gcu_engine.specs.Plannings.{IsUnsolved}
@@ -55,6 +56,7 @@ plans_print None from s after old new result is h = absurd cc
 plans_print (Some (forms.preview path)) from s after old new result is h = absurd cc
 plans_print (Some forms.check) from s after old new result is h = absurd cc
 plans_print (Some forms.list_checkpoints) from s after old new result is h = absurd cc
+plans_print (Some forms.migrate_checkpoints) from s after old new result is h = absurd cc
 plans_print (Some (forms.save_checkpoint name)) from s after old new result is h = absurd cc
 plans_print (Some (forms.delete_checkpoint name)) from s after old new result is h = absurd cc
 plans_print (Some forms.status) from s after old new result is h = absurd cc
@@ -100,6 +102,7 @@ none_of (Some forms.abandon) s r same h = absurd (unsolved request.abandon r sam
 none_of (Some (forms.check_plan patch plan)) s r (count, same) h = absurd (unsolved (request.accept_plan count) r same h)
 none_of (Some forms.check) s r same h = absurd (unsolved request.check r same h)
 none_of (Some forms.list_checkpoints) s r (names, same) h = absurd (unsolved (request.list_checkpoints names) r same h)
+none_of (Some forms.migrate_checkpoints) s r same h = absurd (unsolved (request.migrate_checkpoints (migration s.files)) r same h)
 none_of None s r never h = absurd never
 
 is_command : (f : Option Form) (s : State) (r : Request) → IsRequestOf f s r → f ≢ None
@@ -306,6 +309,7 @@ one_change (Some forms.status) s now r left files (intent, count, same) h = absu
 one_change (Some (forms.check_plan patch plan)) s now r left files (count, same) h = absurd (subst (λ (q : Request). LeftWriting q now left) (sym same) h)
 one_change (Some forms.check) s now r left files same h = absurd (subst (λ (q : Request). LeftWriting q now left) (sym same) h)
 one_change (Some forms.list_checkpoints) s now r left files (names, same) h = absurd (subst (λ (q : Request). LeftWriting q now left) (sym same) h)
+one_change (Some forms.migrate_checkpoints) s now r left files same h = absurd (subst (λ (q : Request). LeftWriting q now left) (sym same) h)
 one_change None s now r left files never h = absurd never
 
 other_points : (f : Option Form) (s : State) (left : Left) → IsSettled s → LeftOf (form_asked f s) s left
@@ -313,13 +317,27 @@ other_points : (f : Option Form) (s : State) (left : Left) → IsSettled s → L
 other_points f s left clean (part, front, inl may) = inl (ap points (settled_files s part left clean may))
 other_points f s left clean (part, front, inr (r, given, h)) = one_change f s (printed part s) r left refl (requested f s r given) h
 
+-- a migration leaves the folder standing for the same, and all checkpoints
+migration_stands : (asking : Asking Request) (s : State) (left : Left) → IsSettled s → LeftOfMigration asking s left → stored left.files ≡ stored s.files
+migration_stands asking s left clean (inl h) = other_stands asking s left clean h
+migration_stands asking s left clean (inr (news, given, inl h)) = h.same.kept
+migration_stands asking s left clean (inr (news, given, inr h)) = h.is.same.kept
+
+migration_points : (s : State) (left : Left) → IsSettled s → LeftOfMigration (migrate_asked s) s left
+    → (points left.files ≡ points s.files) ⊎ IsOneChange (Some forms.migrate_checkpoints) s left.files
+migration_points s left clean (inl h) = other_points (Some forms.migrate_checkpoints) s left clean h
+migration_points s left clean (inr (news, given, inl h)) = inl h.same.points
+migration_points s left clean (inr (news, given, inr h)) = inl h.is.same.points
+
 -- what the command that words are leaves
 form_stands : (f : Option Form) (s : State) (left : Left) → IsSettled s → LeftByForm f s left → StandsAfter f s left
 form_stands (Some (forms.change from budget)) s left clean h = change_stands from budget s left clean h
+form_stands (Some forms.migrate_checkpoints) s left clean h = migration_stands (migrate_asked s) s left clean h
 form_stands other s left clean h = other_stands (form_asked other s) s left clean h
 
 form_points : (f : Option Form) (s : State) (left : Left) → IsSettled s → LeftByForm f s left → PointsAfter f s left.files
 form_points (Some (forms.change from budget)) s left clean h = inl (change_points (change_asked from budget s) s left clean h)
+form_points (Some forms.migrate_checkpoints) s left clean h = migration_points s left clean h
 form_points other s left clean h = other_points other s left clean h
 
 -- what is refused and asked for is not one thing
@@ -337,9 +355,15 @@ other_refused : (asking : Asking Request) → HasOneAnswer asking → (s : State
 other_refused asking one s left e refused clean (part, front, inl may) = settled_files s part left clean may
 other_refused asking one s left e refused clean (part, front, inr (r, given, h)) = absurd (not_both asking one r e given refused)
 
+migration_refused : (asking : Asking Request) → HasOneAnswer asking → (s : State) (left : Left) (e : Outcome) → asking.Gives (Err e) → IsSettled s → LeftOfMigration asking s left
+    → left.files ≡ s.files
+migration_refused asking one s left e refused clean (inl h) = other_refused asking one s left e refused clean h
+migration_refused asking one s left e refused clean (inr (news, given, h)) = absurd (not_both asking one (request.migrate_checkpoints news) e given refused)
+
 form_refused : (f : Option Form) (s : State) (left : Left) (e : Outcome) → HasOneAnswer (form_asked f s) → (form_asked f s).Gives (Err e) → IsSettled s → LeftByForm f s left
     → left.files ≡ s.files
 form_refused (Some (forms.change from budget)) s left e one refused clean h = change_refused (change_asked from budget s) one s left e refused clean h
+form_refused (Some forms.migrate_checkpoints) s left e one refused clean h = migration_refused (migrate_asked s) one s left e refused clean h
 form_refused other s left e one refused clean h = other_refused (form_asked other s) one s left e refused clean h
 
 -- ---- a crash in a command that refuses
@@ -355,6 +379,7 @@ IsNoChange other = Unit {0}
 
 form_keeps : (f : Option Form) (s : State) (left : Left) → IsNoChange f → IsSettled s → LeftByForm f s left → stored left.files ≡ stored s.files
 form_keeps (Some (forms.change from budget)) s left never clean h = absurd never
+form_keeps (Some forms.migrate_checkpoints) s left none clean h = migration_stands (migrate_asked s) s left clean h
 form_keeps other s left none clean h = other_stands (form_asked other s) s left clean h
 
 words_keep : (words : List (List ℕ)) (f : Option Form) (o : Option State) (left : Left) → f ≡ form words → IsNoChange f → LeftMeanwhile words o left → KeepsStored o left

@@ -22,6 +22,8 @@ mod Intending
 pub mod LastLines
 pub mod Lines
 mod Listing
+mod MigrationEnding
+mod MigrationReady
 mod Naming
 mod PlanCheckSaying
 mod PlanPrints

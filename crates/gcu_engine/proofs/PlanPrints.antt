@@ -135,8 +135,10 @@ whole_text from s now after output is h =
 module _ (from : Target) (budget : ℕ) (s now : State) (after : Option State) (old new : Counts) (output : List ℕ) (is : after ≡ Some (printed output now)) where
   plan_cut : (step : ℕ) → Prints (dry_run_asked from budget s) s now old new (PrintFault step) output → PrintsPlan from s after
   plan_cut step (inl (acked, (other, rest, cause, says))) = prints_text from s now after output rest is (plan_text_is from s now budget other (output ++ rest) says)
-  plan_cut step (inr (p, given, h)) =
+  plan_cut step (inr (inl (p, given, h))) =
       let g = plan_given from budget s (request.change p) given in let apart : request.plan g.0 ≡ request.change p = g.2 in absurd cc
+  plan_cut step (inr (inr (news, given, h, none))) =
+      let g = plan_given from budget s (request.migrate_checkpoints news) given in let apart : request.plan g.0 ≡ request.migrate_checkpoints news = g.2 in absurd cc
 
   -- what a plan that is only printed prints
   pub plan_prints : (result : Outcome) → Prints (dry_run_asked from budget s) s now old new result output → PrintsPlan from s after
@@ -145,13 +147,15 @@ module _ (from : Target) (budget : ℕ) (s now : State) (after : Option State) (
 
   change_cut : (step : ℕ) → Prints (change_asked from budget s) s now old new (PrintFault step) output → PrintsPlan from s after
   change_cut step (inl (acked, (other, rest, cause, says))) = prints_text from s now after output rest is (change_text_is from s now budget other (output ++ rest) says)
-  change_cut step (inr (p, given, inl (first, (c, rest, fits, text, same)))) =
+  change_cut step (inr (inr (news, given, h, none))) =
+      let g = change_given from budget s (request.migrate_checkpoints news) given in let apart : request.change g.0 ≡ request.migrate_checkpoints news = g.2 in absurd cc
+  change_cut step (inr (inl (p, given, inl (first, (c, rest, fits, text, same))))) =
       let g = change_given from budget s (request.change p) given in
       let asks = subst (IsAsked from s) (same_change g.0 p g.2) g.1 in
       prints_text from s now after output rest is
       (alone from s now (output ++ rest) (ap (λ (t : State). t.output) same)
       (inr (c.moves, [], right_plan from s p c.moves asks fits.plan, sym text ∙ sym (append-nil (plan_text c.moves)))))
-  change_cut step (inr (p, given, inr ((c, fits, began, begins, stopped), none))) =
+  change_cut step (inr (inl (p, given, inr ((c, fits, began, begins, stopped), none)))) =
       let g = change_given from budget s (request.change p) given in
       let asks = subst (IsAsked from s) (same_change g.0 p g.2) g.1 in
       whole_text from s now after output is (stopped_text from s now budget p c asks fits began begins step stopped.part _ stopped.stopped output)
@@ -185,7 +189,8 @@ unknown_cut : (from : Target) (s now : State) (after : Option State) (old new : 
     → (step : ℕ) → Prints (form_asked None s) s now old new (PrintFault step) output → PrintsPlan from s after
 unknown_cut from s now after old new output is step (inl (acked, (other, rest, cause, says))) =
     prints_text from s now after output rest is (unknown_text from s now other (output ++ rest) says)
-unknown_cut from s now after old new output is step (inr (p, given, h)) = absurd (no_request s (request.change p) given)
+unknown_cut from s now after old new output is step (inr (inl (p, given, h))) = absurd (no_request s (request.change p) given)
+unknown_cut from s now after old new output is step (inr (inr (news, given, h, none))) = absurd (no_request s (request.migrate_checkpoints news) given)
 
 pub unknown_prints : (from : Target) (s now : State) (after : Option State) (old new : Counts) (output : List ℕ) → after ≡ Some (printed output now)
     → (result : Outcome) → Prints (form_asked None s) s now old new result output → PrintsPlan from s after

@@ -6,6 +6,7 @@ use Rattle.host_core.specs.State.{State, printed}
 use Rattle.conf_doc.specs.declared.configuration.Config.{Config}
 use Rattle.conf_store.specs.Applied.{applied}
 use Rattle.conf_store.specs.Stored.{stored}
+use Rattle.checkpoints.specs.Migrations.{migration}
 use Rattle.checkpoints.specs.Names.{is_good_name}
 use Rattle.checkpoints.specs.Numbers.{is_full, numbered_points}
 use Rattle.checkpoints.specs.Points.{Held, points}
@@ -16,7 +17,7 @@ use Rattle.plan_options.specs.Targets.{Target}
 use Rattle.gcu_output.specs.declared.outcomes.Outcome.{Outcome}
 use Rattle.gcu_output.specs.declared.outcomes.Outcome.TheVariants.{BadName}
 use Rattle.gcu_output.specs.declared.statuses.Intent.{Intent}
-use Rattle.gcu_requests.specs.Asked.{absent_answer, delete_asked, form_asked, list_asked, preview_asked, save_asked, there_answer}
+use Rattle.gcu_requests.specs.Asked.{absent_answer, delete_asked, form_asked, list_asked, migrate_asked, preview_asked, save_asked, there_answer}
 use Rattle.gcu_requests.specs.ChangeAsked.{change_asked}
 use Rattle.gcu_requests.specs.Checking.{check_asked}
 use Rattle.gcu_requests.specs.DemoAsked.{demo_asked, generated_asked}
@@ -68,6 +69,7 @@ IsRequestOf (Some forms.status) s r = (intent : Intent) × (steps : ℕ) × (req
 IsRequestOf (Some forms.abandon) s r = request.abandon ≡ r
 IsRequestOf (Some forms.check) s r = request.check ≡ r
 IsRequestOf (Some forms.list_checkpoints) s r = (all : List (List ℕ × Option ℕ)) × (request.list_checkpoints all ≡ r)
+IsRequestOf (Some forms.migrate_checkpoints) s r = request.migrate_checkpoints (migration s.files) ≡ r
 IsRequestOf None s r = ⊥
 
 request_is : (q r : Request) (x : Result Request Outcome) → x ≡ Ok q → x ≡ Ok r → q ≡ r
@@ -143,6 +145,11 @@ list_given : (s : State) (r : Request) → (list_asked s).Gives (Ok r) → IsReq
 list_given s r (inl never) = absurd never
 list_given s r (inr (u, gate, e)) = (numbered_points s.files, request_is (request.list_checkpoints (numbered_points s.files)) r _ refl e)
 
+migrate_given : (s : State) (r : Request) → (migrate_asked s).Gives (Ok r) → request.migrate_checkpoints (migration s.files) ≡ r
+migrate_given s r (inl never) = absurd never
+migrate_given s r (inr (u, settles, inl never)) = absurd never
+migrate_given s r (inr (u, settles, inr (v, gate, e))) = request_is (request.migrate_checkpoints (migration s.files)) r _ refl e
+
 status_given : (s : State) (r : Request) → (status_asked s).Gives (Ok r) → IsRequestOf (Some forms.status) s r
 status_given s r (inl never) = absurd never
 status_given s r (inr (c, there, inl never)) = absurd never
@@ -165,6 +172,7 @@ requested (Some (forms.preview path)) s r given = preview_given path s r given
 requested (Some (forms.check_plan patch plan)) s r given = accept_given patch plan s r given
 requested (Some forms.check) s r given = check_given s r given
 requested (Some forms.list_checkpoints) s r given = list_given s r given
+requested (Some forms.migrate_checkpoints) s r given = migrate_given s r given
 requested (Some forms.status) s r given = status_given s r given
 requested (Some forms.abandon) s r given = abandon_given s r given
 requested None s r e = absurd cc

@@ -1,11 +1,13 @@
 -- Which answers a command may give to what is asked, what it then leaves and has printed, and what a fault
 -- needs.
-use Rattle.std.specs.Prelude.{◌≡◌, ◌⊎◌, ℕ, List, ◌++◌, length, Option, Some, None, Ok, Err, ⊤}
+use Rattle.std.specs.Prelude.{◌≡◌, ◌⊎◌, ℕ, List, [], ◌++◌, length, Option, Some, None, Ok, Err, ⊤}
 use Rattle.host_core.specs.Counts.{Counts, Rose}
 use Rattle.host_core.specs.State.{Files, State, printed, settled, with_pending}
 use Rattle.conf_doc.specs.Texts.{file_text}
 use Rattle.conf_store.specs.Changes.{Leads}
 use Rattle.checkpoints.specs.Changes.{IsDeleted, IsDeletedOrNot, IsSaved, IsSavedOrNot}
+use Rattle.checkpoints.specs.Migrations.{NewFile}
+use Rattle.checkpoint_migration.specs.declared.errors.MigrateFault.TheVariants as migration_fault
 use Rattle.move_core.specs.Operations.{plan_text}
 use Rattle.move_core.specs.declared.moves.Move.{Move}
 use Rattle.change_apply.specs.Change.{name_at}
@@ -17,8 +19,9 @@ use Rattle.gcu_output.specs.declared.outcomes.Outcome.{Outcome}
 use Rattle.gcu_output.specs.declared.outcomes.Outcome.TheVariants.{Done, Memory, Usage, InputFault, DiskFault, PrintFault, ServiceFault, Unorderable, Budget}
 use Rattle.gcu_requests.specs.Asked.{asked}
 use Rattle.gcu_requests.specs.Asking.{Asking, an_input, a_file, a_settling}
-use Rattle.gcu_requests.specs.Request.{Planning, Request, abandon, accept_plan, change, check, delete_checkpoint, demo, list_checkpoints, plan, preview, save_checkpoint, status}
+use Rattle.gcu_requests.specs.Request.{Planning, Request, abandon, accept_plan, change, check, delete_checkpoint, demo, list_checkpoints, migrate_checkpoints, plan, preview, save_checkpoint, status}
 use Rattle.gcu_engine.specs.Changing.{AreAcknowledged, IsChanged, IsCutShort, IsHalted, closed}
+use Rattle.gcu_engine.specs.Migrating.{AreTold, IsMigrated, IsMigrationStopped}
 use Rattle.gcu_engine.specs.Plannings.{IsPlanFor, IsUnsolved}
 use Rattle.gcu_engine.specs.PointLines.{point_lines}
 use Rattle.gcu_engine.specs.Summary.{summary, yes_line}
@@ -46,6 +49,7 @@ LeavesDone (delete_checkpoint name) before now =
 LeavesDone (save_checkpoint name config) before now =
     (files : Files) × (now ≡ record before { files = files; pending = settled })
     × IsSaved name config before.files files
+LeavesDone (migrate_checkpoints news) before now = IsMigrated news before now
 LeavesDone (change p) before now = IsChanged p before now
 LeavesDone abandon before now = now ≡ closed before
 LeavesDone other before now = now ≡ before
@@ -57,6 +61,8 @@ LeavesStopped (delete_checkpoint name) step before now =
     (step ≡ 0) × Leads (IsDeletedOrNot name) (with_pending settled before) now
 LeavesStopped (save_checkpoint name config) step before now =
     (step ≡ 0) × Leads (IsSavedOrNot name config) (with_pending settled before) now
+LeavesStopped (migrate_checkpoints news) step before now =
+    IsMigrationStopped news (migration_fault.Disk step) before now
 LeavesStopped (change p) step before now = IsHalted p (Disk step) before now
 LeavesStopped abandon step before now =
     (step ≡ 0) × Leads IsClosedOrNot (with_pending settled before) now
@@ -76,6 +82,7 @@ abbrev pub done_output : Request → List ℕ
 done_output (preview c) = file_text c ++ last_line Done
 done_output (list_checkpoints all) = point_lines all ++ last_line Done
 done_output check = last_line Done
+done_output (migrate_checkpoints news) = last_line Done
 done_output (save_checkpoint name config) = last_line Done
 done_output (delete_checkpoint name) = last_line Done
 done_output (plan p) = last_line Done
@@ -130,8 +137,11 @@ SaysPart asking before now old new output =
 abbrev pub Prints : Asking Request
     → State → State → Counts → Counts → Outcome → List ℕ → Type 0
 Prints asking before now old new (PrintFault step) output =
-    (AreAcknowledged step before now × SaysPart asking before now old new output)
-    ⊎ ((p : Planning) × asking.Gives (Ok (change p)) × IsCutShort p step before now output)
+    ((AreAcknowledged step before now ⊎ AreTold step before now)
+    × SaysPart asking before now old new output)
+    ⊎ (((p : Planning) × asking.Gives (Ok (change p)) × IsCutShort p step before now output)
+    ⊎ ((news : List NewFile) × asking.Gives (Ok (migrate_checkpoints news))
+    × IsMigrationStopped news (migration_fault.Print step) before now × (output ≡ [])))
 Prints asking before now old new other output = Says asking before now other output
 
 -- what is left with that answer: what is there before the output, and the output
@@ -171,6 +181,7 @@ abbrev pub Finishes : Request → Outcome → Type 0
 Finishes (preview c) result = result ≡ Done
 Finishes (list_checkpoints all) result = result ≡ Done
 Finishes check result = result ≡ Done
+Finishes (migrate_checkpoints news) result = result ≡ Done
 Finishes (save_checkpoint name config) result = result ≡ Done
 Finishes (delete_checkpoint name) result = result ≡ Done
 Finishes (plan p) result = (result ≡ Done) ⊎ IsUnsolved (plan p) result

@@ -10,7 +10,7 @@ use Rattle.gcu_output.specs.declared.outcomes.Outcome.TheVariants.{DiskFault}
 use Rattle.gcu_requests.specs.Asking.{Asking}
 use Rattle.gcu_requests.specs.Request.{Request}
 use Rattle.gcu_engine.specs.Answers.{Complete, Leaves, Says}
-use Rattle.gcu_engine.specs.Crashes.{LeftOf}
+use Rattle.gcu_engine.specs.Crashes.{LeftOf, LeftOfMigration}
 
 -- what is left, with that answer
 abbrev pub AnswersTo : (State → Asking Request)
@@ -23,6 +23,11 @@ AnswersTo asking (Some before) after old new result =
 abbrev pub LeftTo : (State → Asking Request) → Option State → Left → Type 0
 LeftTo asking None left = ⊤
 LeftTo asking (Some before) left = LeftOf (asking before) before left
+
+-- what a crash leaves meanwhile of a migration
+abbrev pub LeftToMigration : (State → Asking Request) → Option State → Left → Type 0
+LeftToMigration asking None left = ⊤
+LeftToMigration asking (Some before) left = LeftOfMigration (asking before) before left
 
 -- the answer where nothing failed
 abbrev pub CompleteTo : (State → Asking Request)

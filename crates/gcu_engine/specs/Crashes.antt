@@ -1,9 +1,10 @@
 -- What a crash leaves at a moment of a command: whole files, and a front of what the command prints.
 use Rattle.std.specs.Prelude.{◌≡◌, ◌⊎◌, ℕ, List, ◌++◌, Option, Some, None, Ok, ⊤}
 use Rattle.host_core.specs.Crashes.{Left, MayLeave}
-use Rattle.host_core.specs.State.{State, printed}
+use Rattle.host_core.specs.State.{State, printed, settled, with_pending}
 use Rattle.conf_store.specs.Changes.{AreLeft}
 use Rattle.checkpoints.specs.Changes.{IsDeletedOrNot, IsSavedOrNot}
+use Rattle.checkpoints.specs.Migrations.{NewFile}
 use Rattle.checkpoints.specs.Points.{points}
 use Rattle.move_core.specs.Operations.{plan_text}
 use Rattle.change_apply.specs.Acknowledgements.{acks}
@@ -11,14 +12,15 @@ use Rattle.change_apply.specs.Change.{Change}
 use Rattle.change_apply.specs.Crashes.{IsLeft}
 use Rattle.change_apply.specs.Intents.{IsClosedOrNot}
 use Rattle.gcu_output.specs.declared.outcomes.Outcome.{Outcome}
-use Rattle.gcu_requests.specs.Asked.{form_asked}
+use Rattle.gcu_requests.specs.Asked.{form_asked, migrate_asked}
 use Rattle.gcu_requests.specs.Asking.{Asking}
 use Rattle.gcu_requests.specs.ChangeAsked.{change_asked}
 use Rattle.gcu_requests.specs.Form as forms
 use Rattle.gcu_requests.specs.Form.{Form, form}
-use Rattle.gcu_requests.specs.Request.{Planning, Request, abandon, change, delete_checkpoint, save_checkpoint}
+use Rattle.gcu_requests.specs.Request.{Planning, Request, abandon, change, delete_checkpoint, migrate_checkpoints, save_checkpoint}
 use Rattle.gcu_engine.specs.Answers.{Says}
 use Rattle.gcu_engine.specs.Changing.{IsBegun, IsChangeFor, IsLast, acknowledged, begun}
+use Rattle.gcu_engine.specs.Migrating.{LeftMigrating}
 
 -- ---- the output
 
@@ -92,12 +94,23 @@ LeftOfChange asking before left =
     ⊎ ((p : Planning) × (c : Change) × asking.Gives (Ok (change p)) × IsChangeFor p before c
     × LeftChanged c (begun c before) left × (points left.files ≡ points before.files))
 
+-- ---- a migration of checkpoints
+
+-- what was there, with a front of what is printed where nothing is written, or what the migration leaves
+abbrev pub LeftOfMigration : Asking Request → State → Left → Type 0
+LeftOfMigration asking before left =
+    LeftOf asking before left
+    ⊎ ((news : List NewFile) × asking.Gives (Ok (migrate_checkpoints news))
+    × LeftMigrating news (with_pending settled before) left)
+
 -- ---- of words
 
 -- what a crash leaves of the command that words are
 abbrev pub LeftByForm : Option Form → State → Left → Type 0
 LeftByForm (Some (forms.change target budget)) before left =
     LeftOfChange (change_asked target budget before) before left
+LeftByForm (Some forms.migrate_checkpoints) before left =
+    LeftOfMigration (migrate_asked before) before left
 LeftByForm other before left = LeftOf (form_asked other before) before left
 
 -- What a crash leaves at a moment of a command, of a host that tells its state.

@@ -5,6 +5,7 @@ pub mod Contents
 pub mod Crashes
 pub mod Headline
 pub mod Intending
+pub mod Migrating
 pub mod Plannings
 pub mod PointLines
 pub mod Resuming
@@ -13,4 +14,5 @@ pub mod Summary
 pub mod Commands
 pub mod Doing
 pub mod FaultLines
+pub mod MigrationEnds
 pub mod PlanCommands

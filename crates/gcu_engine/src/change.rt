@@ -368,7 +368,7 @@ fn do_steps<H: Host>(change: &ReadyChange, host: &mut H) -> Outcome
 }
 
 /// Prints the last line of an outcome behind so many acknowledgements.
-fn end<H: Host>(outcome: Outcome, line: &[u8], step: usize, host: &mut H) -> Outcome
+pub(crate) fn end<H: Host>(outcome: Outcome, line: &[u8], step: usize, host: &mut H) -> Outcome
     ensures ended { IsEnded outcome line.now step
         (H.told host.old) (H.told host.new) (H.counts host.old) (H.counts host.new) result }
     ensures counts { PrintMayRise (H.counts host.old) (H.counts host.new) }

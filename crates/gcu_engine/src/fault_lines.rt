@@ -84,7 +84,7 @@ pub(crate) fn fault_lines(
 }
 
 /// The lines of disk faults behind at most so many acknowledgements.
-fn disk_lines(alloc: Global, steps: usize) -> Result<Names, Memory>
+pub(crate) fn disk_lines(alloc: Global, steps: usize) -> Result<Names, Memory>
     ensures { IfOk result (λ lines. lines ≡ lines_of_disk (suc steps)) }
 {
     let mut lines = Names::new(alloc);

@@ -11,6 +11,7 @@ mod dry_run;
 mod fault_lines;
 mod kit_lists;
 mod list_checkpoints;
+mod migrate_checkpoints;
 mod run_command;
 mod save_checkpoint;
 mod solving;

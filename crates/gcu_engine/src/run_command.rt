@@ -21,6 +21,7 @@ use crate::delete_checkpoint::delete_checkpoint;
 use crate::demo::demo;
 use crate::dry_run::dry_run;
 use crate::list_checkpoints::list_checkpoints;
+use crate::migrate_checkpoints::migrate_checkpoints;
 use crate::save_checkpoint::save_checkpoint;
 use crate::status::status;
 use gcu_output::{say, show};
@@ -34,24 +35,25 @@ use std::alloc::Global;
 /// plan for the patch and does it, `replace FILE` one for the configuration in a file and `rollback NAME` one
 /// for that of a checkpoint, and each of the three with `--dry-run` only prints it. `status` says whether a
 /// change was stopped, `resume` finishes it, and `abandon` gives it up. `checkpoint NAME` saves the
-/// stored configuration under a name, `list-checkpoints` prints the names of all checkpoints, and
-/// `delete-checkpoint NAME` deletes one. `demo SEED N` plans between two generated configurations with `N`
-/// ports, and counts the steps. `check-plan PATCH PLAN` says whether the moves in an input are a plan for the
-/// patch, and where they aren't.
+/// stored configuration under a name, `list-checkpoints` prints the names of all checkpoints,
+/// `delete-checkpoint NAME` deletes one, and `migrate-checkpoints` puts those of the old format anew. `demo
+/// SEED N` plans between two generated configurations with `N` ports, and counts the steps. `check-plan PATCH
+/// PLAN` says whether the moves in an input are a plan for the patch, and where they aren't.
 pub fn run<H: Host>(alloc: Global, words: &[Txt], kit: &mut Kit, host: &mut H) -> Outcome
     requires longest { longest_scoped_name ≤ H.longest_name }
     requires kinds { ⟦<Kit as Boxes>⟧.HasKinds kit.old }
     ensures kinds { ⟦<Kit as Boxes>⟧.HasKinds kit.new }
     // The answer is the first refusal, or what the command asks for, and nothing changes but the output, a
-    // checkpoint that is saved or deleted, `intent` that is given up, and the work of a plan that is done.
+    // checkpoint that is saved or deleted, those that are put anew, `intent` that is given up, and the work of
+    // a plan that is done.
     ensures answers { Answers words.now
         (H.told host.old) (H.told host.new) (H.counts host.old) (H.counts host.new) result }
     // A fault is answered only where its count rose.
     ensures cause { HasCause (H.counts host.old) (H.counts host.new) result }
     ensures counts { NoneFell (H.counts host.old) (H.counts host.new) }
     // A crash at a moment of it leaves the folder as it was, or with the checkpoint that is saved, without the
-    // one that is deleted or without `intent`, with a front of some output. Of a plan that is done it leaves
-    // the last acknowledged configuration or the next one.
+    // one that is deleted or without `intent`, with a front of some output. Of a migration it leaves all
+    // checkpoints and numbers, and of a plan that is done the last acknowledged configuration or the next one.
     ensures crash { LeavesOnly H.moment H.left_since host.old host.new
         (LeftMeanwhile words.now (H.told host.old)) }
     // What is printed of a plan is right, a crash leaves what is acknowledged or the next and whole
@@ -86,6 +88,7 @@ pub fn run<H: Host>(alloc: Global, words: &[Txt], kit: &mut Kit, host: &mut H) -
         },
         Form::Check => check(alloc, host),
         Form::ListCheckpoints => list_checkpoints(alloc, host),
+        Form::MigrateCheckpoints => migrate_checkpoints(alloc, host),
         Form::SaveCheckpoint { name } => save_checkpoint(alloc, name, host),
         Form::DeleteCheckpoint { name } => delete_checkpoint(alloc, name, host),
         Form::Plan { target, options } => dry_run(alloc, target, options.budget, kit, host),

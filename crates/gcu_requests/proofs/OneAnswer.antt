@@ -18,7 +18,7 @@ use Rattle.plan_options.specs.Targets.{Target, patched, replaced, resumed, rolle
 use Rattle.plan_texts.specs.PlanTexts.{most_bytes}
 use Rattle.gcu_output.specs.declared.outcomes.Outcome.{Outcome}
 use Rattle.gcu_output.specs.declared.outcomes.Outcome.TheVariants.{BadModels, CurrentInvalid, TargetInvalid, NoModel, EmptyTable}
-use Rattle.gcu_requests.specs.Asked.{delete_asked, form_asked, list_asked, preview_asked, save_asked, target_asked}
+use Rattle.gcu_requests.specs.Asked.{delete_asked, form_asked, list_asked, migrate_asked, preview_asked, save_asked, target_asked}
 use Rattle.gcu_requests.specs.Asking.{Asking, IsRefused, Source, asks, follows, follows_by, settles_first, ◌>>>◌}
 use Rattle.gcu_requests.specs.ChangeAsked.{change_asked}
 use Rattle.gcu_requests.specs.Checking.{IsJudged, check_asked, judging_asked}
@@ -157,6 +157,9 @@ abandon_one s = chain_one settles_first _ settles_one (λ u. chain_one (interrup
 list_one : (s : State) → HasOneAnswer (list_asked s)
 list_one s = chain_one (uninterrupted s) _ (uninterrupted_one s) (λ u. asks_one _ _)
 
+migrate_one : (s : State) → HasOneAnswer (migrate_asked s)
+migrate_one s = chain_one settles_first _ settles_one (λ u. chain_one (uninterrupted s) _ (uninterrupted_one s) (λ v. asks_one _ _))
+
 name_one : (word : List ℕ) → HasOneAnswer (follows (name_answer word))
 name_one word = follows_one (name_answer word)
 
@@ -281,6 +284,7 @@ module _ (one : (files : List (List Declaration)) (a b : ModelSet) → AreModels
   form_one (Some (forms.preview path)) s = preview_one path s
   form_one (Some forms.check) s = check_one s
   form_one (Some forms.list_checkpoints) s = list_one s
+  form_one (Some forms.migrate_checkpoints) s = migrate_one s
   form_one (Some (forms.save_checkpoint name)) s = save_one name s
   form_one (Some (forms.delete_checkpoint name)) s = delete_one name s
   form_one (Some (forms.plan goal budget)) s = dry_run_one goal budget s

@@ -4,6 +4,7 @@ use Rattle.std.specs.FinMap.{get}
 use Rattle.host_core.specs.Answers.{map_ok}
 use Rattle.host_core.specs.State.{State}
 use Rattle.conf_doc.specs.declared.configuration.Config.{Config}
+use Rattle.checkpoints.specs.Migrations.{migration}
 use Rattle.checkpoints.specs.Numbers.{is_full, numbered_points}
 use Rattle.checkpoints.specs.Points.{Held, points}
 use Rattle.gcu_output.specs.declared.outcomes.Outcome.{Outcome}
@@ -13,7 +14,7 @@ use Rattle.gcu_requests.specs.Asking.{Asking, a_file, asks, follows, settles_fir
 use Rattle.gcu_requests.specs.ChangeAsked.{change_asked}
 use Rattle.gcu_requests.specs.Checking.{check_asked}
 use Rattle.gcu_requests.specs.DemoAsked.{demo_asked}
-use Rattle.gcu_requests.specs.Form.{Form, abandon, change, check, check_plan, delete_checkpoint, demo, form, list_checkpoints, plan, preview, save_checkpoint, status}
+use Rattle.gcu_requests.specs.Form.{Form, abandon, change, check, check_plan, delete_checkpoint, demo, form, list_checkpoints, migrate_checkpoints, plan, preview, save_checkpoint, status}
 use Rattle.gcu_requests.specs.IntentAsked.{abandon_asked, status_asked, uninterrupted}
 use Rattle.gcu_requests.specs.PatchAsked.{patch_asked, target}
 use Rattle.gcu_requests.specs.PlanAsked.{dry_run_asked}
@@ -71,6 +72,18 @@ numbers_asked s = asks a_file (Ok (request.list_checkpoints (numbered_points s.f
 abbrev pub list_asked : State → Asking Request
 list_asked s = uninterrupted s >>> λ _. numbers_asked s
 
+-- the checkpoints of the old format are to be put anew
+abbrev pub old_asked : State → Asking Request
+old_asked s = asks a_file (Ok (request.migrate_checkpoints (migration s.files)))
+
+-- the same, where no change is under way
+abbrev pub migration_asked : State → Asking Request
+migration_asked s = uninterrupted s >>> λ _. old_asked s
+
+-- `migrate-checkpoints`: what is pending is settled first
+abbrev pub migrate_asked : State → Asking Request
+migrate_asked s = settles_first >>> λ _. migration_asked s
+
 -- `checkpoint NAME`: the name is looked at before the folder, and the stored configuration is to be valid
 abbrev pub save_asked : List ℕ → State → Asking Request
 save_asked word s =
@@ -94,6 +107,7 @@ form_asked None s = follows (Err Usage)
 form_asked (Some (preview path)) s = preview_asked path s
 form_asked (Some check) s = check_asked s
 form_asked (Some list_checkpoints) s = list_asked s
+form_asked (Some migrate_checkpoints) s = migrate_asked s
 form_asked (Some (save_checkpoint name)) s = save_asked name s
 form_asked (Some (delete_checkpoint name)) s = delete_asked name s
 form_asked (Some (plan goal budget)) s = dry_run_asked goal budget s

@@ -11,6 +11,7 @@ pub data Form : Type 0 where
   preview : List ℕ → Form
   check : Form
   list_checkpoints : Form
+  migrate_checkpoints : Form
   -- with the name of the checkpoint
   save_checkpoint : List ℕ → Form
   -- with the name of the checkpoint
@@ -46,6 +47,7 @@ abbrev pub form_of_one : List ℕ → Option Form
 form_of_one command =
     if is_word command (codes "check") then Some check
     else if is_word command (codes "list-checkpoints") then Some list_checkpoints
+    else if is_word command (codes "migrate-checkpoints") then Some migrate_checkpoints
     else form_of_interruption command
 
 -- a plan is only printed, or done

@@ -3,7 +3,7 @@ use Rattle.std.specs.Prelude.{Option, Some, None}
 use Rattle.plan_options.specs.Views.{target_view}
 use Rattle.gcu_requests.specs.Form as words
 use Rattle.gcu_requests.specs.declared.form.Form.{Form}
-use Rattle.gcu_requests.specs.declared.form.Form.TheVariants.{Unknown, Preview, Check, ListCheckpoints, SaveCheckpoint, DeleteCheckpoint, Plan, Change, Status, Abandon, Demo, CheckPlan}
+use Rattle.gcu_requests.specs.declared.form.Form.TheVariants.{Unknown, Preview, Check, ListCheckpoints, MigrateCheckpoints, SaveCheckpoint, DeleteCheckpoint, Plan, Change, Status, Abandon, Demo, CheckPlan}
 
 -- the command that it is, or None for words that are no command
 abbrev pub form_view : Form → Option words.Form
@@ -11,6 +11,7 @@ form_view Unknown = None
 form_view (Preview patch) = Some (words.preview patch.now)
 form_view Check = Some words.check
 form_view ListCheckpoints = Some words.list_checkpoints
+form_view MigrateCheckpoints = Some words.migrate_checkpoints
 form_view (SaveCheckpoint name) = Some (words.save_checkpoint name.now)
 form_view (DeleteCheckpoint name) = Some (words.delete_checkpoint name.now)
 form_view (Plan target options) = Some (words.plan (target_view target) options.budget)

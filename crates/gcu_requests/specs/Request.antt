@@ -1,6 +1,7 @@
 -- What a command is to do, once nothing stands against it.
 use Rattle.std.specs.Prelude.{ℕ, List, Option}
 use Rattle.conf_doc.specs.declared.configuration.Config.{Config}
+use Rattle.checkpoints.specs.Migrations.{NewFile}
 use Rattle.move_core.specs.declared.contexts.Ctx.{Ctx}
 use Rattle.gcu_output.specs.declared.statuses.Intent.{Intent}
 
@@ -19,6 +20,8 @@ pub data Request : Type 0 where
   check : Request
   -- print these names of checkpoints, each with its number or that it has none
   list_checkpoints : List (List ℕ × Option ℕ) → Request
+  -- put the files of these checkpoints anew, in this order
+  migrate_checkpoints : List NewFile → Request
   -- save this configuration as the checkpoint of this name
   save_checkpoint : List ℕ → Config → Request
   -- delete the checkpoint of this name

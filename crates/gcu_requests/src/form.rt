@@ -23,6 +23,8 @@ pub enum Form<'a> {
     Check,
     /// Prints the names of all checkpoints.
     ListCheckpoints,
+    /// Puts the files of the old format anew.
+    MigrateCheckpoints,
     /// Saves the stored configuration as the checkpoint of this name.
     SaveCheckpoint {
         name: &'a Txt,
@@ -77,6 +79,9 @@ fn form_of_one(command: &Txt) -> Form<'_>
     }
     if command.as_str() == "list-checkpoints" {
         return Form::ListCheckpoints;
+    }
+    if command.as_str() == "migrate-checkpoints" {
+        return Form::MigrateCheckpoints;
     }
     form_of_interruption(command)
 }

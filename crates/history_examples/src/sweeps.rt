@@ -14,7 +14,7 @@ use std::alloc::Global;
 /// A row has the `inputs` and the `files` of a host, the `words` of a command, how many `calls` it makes, and
 /// the words of the one `then` behind it. `lines` say of each of its calls what comes where it fails alone,
 /// for the pick null, and where it and all later ones fail and a crash with one of the `picks` follows: the
-/// `status`, how many steps are `acked`, the files that the other one `finds`, for which of the
+/// `status`, how many steps or checkpoints are `acked`, the files that the other one `finds`, for which of the
 /// `configurations` the folder `stands`, the number of `restarts`, and the status of the other one, `next`.
 #[derive(Drop)]
 pub struct Sweeps<'a> {
@@ -22,8 +22,10 @@ pub struct Sweeps<'a> {
     pub shared: &'a Value,
 }
 
-/// The head of the line that tells that a step is done, and the line feed before it.
-const ACKNOWLEDGED: &[u8] = b"\napplied ";
+/// The head of the line that tells that a step is done.
+const APPLIED: &[u8] = b"applied ";
+/// The head of the line that tells that a checkpoint is put anew.
+const MIGRATED: &[u8] = b"migrated ";
 
 impl<'a> Table for Sweeps<'a> {
     fn is_as_said(&self, alloc: Global, row: &Value) -> Result<bool, Fail> {
@@ -97,15 +99,22 @@ fn are_ran(alloc: Global, line: &Value, rans: &[Ran]) -> Result<bool, Fail> {
     Ok(same_ends && same_acked && are_found(alloc, finds, &second.before)?)
 }
 
-/// How many lines tell that a step is done.
+/// How many lines tell that a step is done, or a checkpoint put anew.
 fn acked(output: &[u8]) -> u64 {
     let mut count: u64 = 0;
+    let mut begins = true;
     for start in 0..output.len() {
-        if output[start..].starts_with(ACKNOWLEDGED) {
+        if begins && is_acknowledgement(&output[start..]) {
             count = count.saturating_add(1);
         }
+        begins = output[start] == b'\n';
     }
     count
+}
+
+/// Whether a text begins as a line that tells that something is done.
+fn is_acknowledgement(text: &[u8]) -> bool {
+    text.starts_with(APPLIED) || text.starts_with(MIGRATED)
 }
 
 /// Whether the folder stands for what the line says, and as many services are restarted.

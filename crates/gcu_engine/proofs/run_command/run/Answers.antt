@@ -4,10 +4,10 @@ use Rattle.plan_options.specs.Views.{target_view}
 use Rattle.gcu_output.specs.Lines.{last_line}
 use Rattle.gcu_output.specs.Printing.{text_in_lines}
 use Rattle.gcu_output.specs.declared.outcomes.Outcome.TheVariants.{Usage, Done}
-use Rattle.gcu_requests.specs.Form.{abandon, check, list_checkpoints, status}
+use Rattle.gcu_requests.specs.Form.{abandon, check, list_checkpoints, migrate_checkpoints, status}
 use Rattle.gcu_engine.proofs.Completing.{complete_by}
 use Rattle.gcu_engine.proofs.Headlines.{change_headline, headline}
-use Rattle.gcu_engine.proofs.Elapsing.{changes_by, command_leaves, command_leaves_behind, leaves_by}
+use Rattle.gcu_engine.proofs.Elapsing.{changes_by, command_leaves, command_leaves_behind, leaves_by, migrates_by}
 use Rattle.gcu_engine.proofs.Answering.{answers_by, said_answers, done_completes, said_completes, no_form_says, preview_says, preview_refuses, refused_cause}
 use Rattle.gcu_engine.proofs.Intending.{keeps_intent}
 use Rattle.gcu_engine.proofs.Resuming.{never_resumes, resumes}
@@ -108,6 +108,20 @@ pub returns-in-ListCheckpoints-clause-complete : goal.returns-in-ListCheckpoints
 returns-in-ListCheckpoints-clause-complete g c =
     complete_by c.args.words.now (Some list_checkpoints) (g.H.Host.told c.args.host.now) (g.H.Host.counts c.args.host.now) (g.H.Host.counts c.list_checkpoints.new.host) c.list_checkpoints.result
     c.in-ListCheckpoints.ensures c.list_checkpoints.ensures.complete
+
+pub returns-in-MigrateCheckpoints-clause-answers : goal.returns-in-MigrateCheckpoints-clause-answers
+returns-in-MigrateCheckpoints-clause-answers g c =
+    answers_by c.args.words.now (Some migrate_checkpoints) (g.H.Host.told c.args.host.now) (g.H.Host.told c.migrate_checkpoints.new.host) (g.H.Host.counts c.args.host.now) (g.H.Host.counts c.migrate_checkpoints.new.host) c.migrate_checkpoints.result
+    c.in-MigrateCheckpoints.ensures c.migrate_checkpoints.ensures.answers
+
+pub returns-in-MigrateCheckpoints-clause-crash : goal.returns-in-MigrateCheckpoints-clause-crash
+returns-in-MigrateCheckpoints-clause-crash g c =
+    migrates_by g.H.Host.moment g.H.Host.left_since c.args.words.now c.args.host.now c.migrate_checkpoints.new.host (g.H.Host.told c.args.host.now) c.in-MigrateCheckpoints.ensures c.migrate_checkpoints.ensures.crash
+
+pub returns-in-MigrateCheckpoints-clause-complete : goal.returns-in-MigrateCheckpoints-clause-complete
+returns-in-MigrateCheckpoints-clause-complete g c =
+    complete_by c.args.words.now (Some migrate_checkpoints) (g.H.Host.told c.args.host.now) (g.H.Host.counts c.args.host.now) (g.H.Host.counts c.migrate_checkpoints.new.host) c.migrate_checkpoints.result
+    c.in-MigrateCheckpoints.ensures c.migrate_checkpoints.ensures.complete
 
 pub returns-in-SaveCheckpoint-clause-answers : goal.returns-in-SaveCheckpoint-clause-answers
 returns-in-SaveCheckpoint-clause-answers g c =
@@ -248,6 +262,11 @@ returns-in-ListCheckpoints-clause-headline g c =
     headline g.H.Host.moment g.H.Host.left_since c.args.words.now _ (g.H.Host.told c.args.host.now) (g.H.Host.told c.list_checkpoints.new.host) c.args.host.now c.list_checkpoints.new.host
     (g.H.Host.counts c.args.host.now) (g.H.Host.counts c.list_checkpoints.new.host) c.list_checkpoints.result c.in-ListCheckpoints.ensures tt c.asked_has_one_answer.ensures (returns-in-ListCheckpoints-clause-answers g c) (returns-in-ListCheckpoints-clause-crash g c)
 
+pub returns-in-MigrateCheckpoints-clause-headline : goal.returns-in-MigrateCheckpoints-clause-headline
+returns-in-MigrateCheckpoints-clause-headline g c =
+    headline g.H.Host.moment g.H.Host.left_since c.args.words.now _ (g.H.Host.told c.args.host.now) (g.H.Host.told c.migrate_checkpoints.new.host) c.args.host.now c.migrate_checkpoints.new.host
+    (g.H.Host.counts c.args.host.now) (g.H.Host.counts c.migrate_checkpoints.new.host) c.migrate_checkpoints.result c.in-MigrateCheckpoints.ensures tt c.asked_has_one_answer.ensures (returns-in-MigrateCheckpoints-clause-answers g c) (returns-in-MigrateCheckpoints-clause-crash g c)
+
 pub returns-in-SaveCheckpoint-clause-headline : goal.returns-in-SaveCheckpoint-clause-headline
 returns-in-SaveCheckpoint-clause-headline g c =
     headline g.H.Host.moment g.H.Host.left_since c.args.words.now _ (g.H.Host.told c.args.host.now) (g.H.Host.told c.save_checkpoint.new.host) c.args.host.now c.save_checkpoint.new.host
@@ -310,6 +329,10 @@ pub returns-in-ListCheckpoints-clause-intent : goal.returns-in-ListCheckpoints-c
 returns-in-ListCheckpoints-clause-intent g c =
     keeps_intent g.H.Host.moment g.H.Host.left_since c.args.words.now (g.H.Host.told c.args.host.now) c.args.host.now c.list_checkpoints.new.host (returns-in-ListCheckpoints-clause-crash g c)
 
+pub returns-in-MigrateCheckpoints-clause-intent : goal.returns-in-MigrateCheckpoints-clause-intent
+returns-in-MigrateCheckpoints-clause-intent g c =
+    keeps_intent g.H.Host.moment g.H.Host.left_since c.args.words.now (g.H.Host.told c.args.host.now) c.args.host.now c.migrate_checkpoints.new.host (returns-in-MigrateCheckpoints-clause-crash g c)
+
 pub returns-in-SaveCheckpoint-clause-intent : goal.returns-in-SaveCheckpoint-clause-intent
 returns-in-SaveCheckpoint-clause-intent g c =
     keeps_intent g.H.Host.moment g.H.Host.left_since c.args.words.now (g.H.Host.told c.args.host.now) c.args.host.now c.save_checkpoint.new.host (returns-in-SaveCheckpoint-clause-crash g c)
@@ -367,6 +390,11 @@ pub returns-in-ListCheckpoints-clause-resumes : goal.returns-in-ListCheckpoints-
 returns-in-ListCheckpoints-clause-resumes g c =
     resumes c.listed_moves_have_models.ensures c.asked_has_one_answer.ensures c.args.words.now (g.H.Host.told c.args.host.now)
     (g.H.Host.counts c.args.host.now) (g.H.Host.counts c.list_checkpoints.new.host) c.list_checkpoints.result (returns-in-ListCheckpoints-clause-complete g c)
+
+pub returns-in-MigrateCheckpoints-clause-resumes : goal.returns-in-MigrateCheckpoints-clause-resumes
+returns-in-MigrateCheckpoints-clause-resumes g c =
+    resumes c.listed_moves_have_models.ensures c.asked_has_one_answer.ensures c.args.words.now (g.H.Host.told c.args.host.now)
+    (g.H.Host.counts c.args.host.now) (g.H.Host.counts c.migrate_checkpoints.new.host) c.migrate_checkpoints.result (returns-in-MigrateCheckpoints-clause-complete g c)
 
 pub returns-in-SaveCheckpoint-clause-resumes : goal.returns-in-SaveCheckpoint-clause-resumes
 returns-in-SaveCheckpoint-clause-resumes g c =
