@@ -7,6 +7,8 @@ use Rattle.conf_doc.specs.Changes.{Fits, part_at}
 use Rattle.conf_doc.specs.Pairs.{find}
 use Rattle.conf_doc.specs.declared.configuration.Config.{Config}
 use Rattle.conf_doc.specs.declared.configuration.Entry.{Entry}
+use Rattle.conf_doc.specs.declared.configuration.Table.{Table}
+use Rattle.conf_doc.specs.declared.configuration.Value.{Value}
 use Rattle.conf_doc.specs.declared.parts.Part.{Part}
 use Rattle.conf_doc.specs.declared.parts.Part.TheVariants as part
 use Rattle.conf_check.specs.Wants.{Want}
@@ -103,7 +105,7 @@ delete_fits (RemoveItem p i) x fit h = absurd h
 field_few : (fields : Entry) (o : Option ℕ) (f : List (List ℕ)) → field_names fields o ≡ Some f → length f ≤ 1
 field_few fields None f e = let same : [] ≡ f = cc in omega (arith, ap length same)
 field_few fields (Some i) f e =
-    let g = mapped (λ x. x.0 ∷ []) (slice_get fields i) f e in omega (arith, ap length g.1)
+    let g = mapped (λ (x : List ℕ × Value). x.0 ∷ []) (slice_get fields i) f e in omega (arith, ap length g.1)
 
 -- the names of an entry or of a field
 entry_few : (t k : List ℕ) (p : Place) (o : Option (List (List ℕ))) → ((f : List (List ℕ)) → o ≡ Some f → length f ≤ 1) → option_map (λ f. t ∷ k ∷ f) o ≡ Some p → length p ≤ 3
@@ -111,9 +113,9 @@ entry_few t k p None few e = absurd cc
 entry_few t k p (Some f) few e = let same : t ∷ k ∷ f ≡ p = cc in omega (arith, few f refl, ap length same)
 
 names_few : (c : Config) (at : WantPlace) (p : Place) → names_of c at ≡ Some p → length p ≤ 3
-names_few c at p e =
-    let t = chained (λ t. option_and_then (λ e. option_map (λ f. t.0 ∷ e.0 ∷ f) (field_names e.1 at.field)) (slice_get t.1 at.key)) (slice_get c at.table) p e in
-    let k = chained (λ e. option_map (λ f. t.0.0 ∷ e.0 ∷ f) (field_names e.1 at.field)) (slice_get t.0.1 at.key) p t.1 in
+names_few c at p is =
+    let t = chained (λ (t : List ℕ × Table). option_and_then (λ e. option_map (λ f. t.0 ∷ e.0 ∷ f) (field_names e.1 at.field)) (slice_get t.1 at.key)) (slice_get c at.table) p is in
+    let k = chained (λ (e : List ℕ × Entry). option_map (λ f. t.0.0 ∷ e.0 ∷ f) (field_names e.1 at.field)) (slice_get t.0.1 at.key) p t.1 in
     entry_few t.0.0 k.0.0 p (field_names k.0.1 at.field) (field_few k.0.1 at.field) k.1
 
 item_three : (c : Config) (p : Place) (n i : ℕ) (o : Option (List (List ℕ))) → list_at c p ≡ o → option_map (λ _. n) o ≡ Some i → length p ≡ 3
