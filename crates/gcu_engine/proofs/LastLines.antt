@@ -1,5 +1,5 @@
 -- The last line of each answer is one line.
-use Rattle.std.proofs.Common.{◌≡◌, ◌≢◌, inl, inr, ℕ, List, [], ◌∷◌, ◌++◌, Bool, true, false, ◌&&◌, not, refl, sym, ap, subst, append_assoc, arith}
+use Rattle.std.proofs.Common.{◌≡◌, ◌≢◌, inl, inr, ℕ, List, [], ◌∷◌, ◌++◌, Bool, true, false, ◌&&◌, not, refl, sym, subst, arith}
 use Rattle.std.specs.Prelude.{codes, decimal, ◌==◌}
 use Rattle.std.specs.List.{list_all}
 use Rattle.conf_doc.specs.Document.{text}
@@ -49,7 +49,7 @@ behind : (s : List ℕ) → is_plain s ≡ true → (t : List ℕ) → IsOneLine
 behind s plain t h = one_line-append s t (word s plain) h
 
 spaced : (a b : List ℕ) → IsOneLine a → IsOneLine b → IsOneLine (a ++ space ++ b)
-spaced a b ha hb = one_line-append a (space ++ b) ha (omega arith, hb)
+spaced a b ha hb = one_line-append (a ++ space) b (one_line-append a space ha (omega arith, tt)) hb
 
 quoted_is_one_line : (s : List ℕ) → IsOneLine (quoted s)
 quoted_is_one_line s = compact_is_one_line (text s)
@@ -143,7 +143,7 @@ said_is_one_line (NoInput path) = behind (codes "no input ") refl (quoted path) 
 said_is_one_line (TooBig path limit) = behind (codes "too big ") refl (quoted path ++ space ++ decimal limit) (spaced (quoted path) (decimal limit) (quoted_is_one_line path) (decimal_is_one_line limit))
 said_is_one_line (BadJson path) = behind (codes "bad json ") refl (quoted path) (quoted_is_one_line path)
 said_is_one_line (BadConfig path place) = behind (codes "bad config ") refl (quoted path ++ space ++ quoted place) (spaced (quoted path) (quoted place) (quoted_is_one_line path) (quoted_is_one_line place))
-said_is_one_line (BadModels file line why) = behind (codes "bad models ") refl (quoted file ++ space ++ decimal line ++ space ++ model_why why) (spaced (quoted file) (decimal line ++ space ++ model_why why) (quoted_is_one_line file) (spaced (decimal line) (model_why why) (decimal_is_one_line line) (model_why_is why)))
+said_is_one_line (BadModels file line why) = behind (codes "bad models ") refl (quoted file ++ space ++ decimal line ++ space ++ model_why why) (spaced (quoted file ++ space ++ decimal line) (model_why why) (spaced (quoted file) (decimal line) (quoted_is_one_line file) (decimal_is_one_line line)) (model_why_is why))
 said_is_one_line (BadRules why) = behind (codes "bad rules ") refl (rules_why why) (rules_why_is why)
 said_is_one_line (BadPatch index why) = behind (codes "bad patch ") refl (decimal index ++ space ++ patch_why why) (spaced (decimal index) (patch_why why) (decimal_is_one_line index) (patch_why_is why))
 said_is_one_line (PatchFailed index why) = behind (codes "patch failed ") refl (decimal index ++ space ++ fail_why why) (spaced (decimal index) (fail_why why) (decimal_is_one_line index) (fail_why_is why))
@@ -171,12 +171,12 @@ no_feed : (s : List ℕ) → IsOneLine s → (front back : List ℕ) → s ≢ f
 no_feed [] h [] back e = absurd cc
 no_feed [] h (c ∷ front) back e = absurd cc
 no_feed (b ∷ s) h [] back e = let first : b ≡ 10 = cc in h.0 first
-no_feed (b ∷ s) h (c ∷ front) back e = let rest : s ≡ front ++ 10 ∷ back = cc in no_feed s h.1 front back rest
+no_feed (b ∷ s) h (c ∷ front) back e = let rest : s ≡ front ++ documents.line_feed ++ back = cc in no_feed s h.1 front back rest
 
 numbered : (n : ℕ) (rest : List ℕ) → IsOneLine rest → IsRefusalLine (numbered_line n rest)
 numbered n rest h = (
   decimal n ++ space ++ rest,
-  ap (λ (t : List ℕ). codes "refused " ++ t) (sym (append_assoc (decimal n) (space ++ rest) line_feed)),
+  refl,
   no_feed (decimal n ++ space ++ rest) (spaced (decimal n) rest (decimal_is_one_line n) h),
 )
 
@@ -186,25 +186,25 @@ refused_is e = numbered (number e) (said e) (said_is_one_line e)
 -- ---- last lines
 
 -- the last line of a refusal
-pub refusal_line : (e : Outcome) (text : List ℕ) → text ≡ last_line e → IsRefusal e → IsRefusalLine text
-refusal_line Done text is never = absurd never
-refusal_line (DiskFault step) text is never = absurd never
-refusal_line (PrintFault step) text is never = absurd never
-refusal_line (ServiceFault step service) text is never = absurd never
-refusal_line other text is any = subst IsRefusalLine (sym is) (refused_is other)
+pub refusal_line : (e : Outcome) (line : List ℕ) → line ≡ last_line e → IsRefusal e → IsRefusalLine line
+refusal_line Done line is never = absurd never
+refusal_line (DiskFault step) line is never = absurd never
+refusal_line (PrintFault step) line is never = absurd never
+refusal_line (ServiceFault step service) line is never = absurd never
+refusal_line other line is any = subst IsRefusalLine (sym is) (refused_is other)
 
 -- there is one: printing didn't fail
 abbrev pub HasLastLine : Outcome → Type 0
 HasLastLine (PrintFault step) = ⊥
 HasLastLine other = Unit {0}
 
-pub last_line_of : (e : Outcome) (text : List ℕ) → text ≡ last_line e → HasLastLine e → IsLastLine text
-last_line_of Done text is any = inl is
-last_line_of (PrintFault step) text is never = absurd never
-last_line_of other text is any = inr (subst IsRefusalLine (sym is) (refused_is other))
+pub last_line_of : (e : Outcome) (line : List ℕ) → line ≡ last_line e → HasLastLine e → IsLastLine line
+last_line_of Done line is any = inl is
+last_line_of (PrintFault step) line is never = absurd never
+last_line_of other line is any = inr (subst IsRefusalLine (sym is) (refused_is other))
 
-pub service_last_line : (step service : ℕ) (name text : List ℕ) → text ≡ service_line step service name → IsLastLine text
-service_last_line step service name text is =
+pub service_last_line : (step service : ℕ) (name line : List ℕ) → line ≡ service_line step service name → IsLastLine line
+service_last_line step service name line is =
     inr (subst IsRefusalLine (sym is)
     (numbered (number (ServiceFault step service)) (said (ServiceFault step service) ++ space ++ quoted name)
     (spaced (said (ServiceFault step service)) (quoted name) (said_is_one_line (ServiceFault step service)) (quoted_is_one_line name))))

@@ -14,7 +14,7 @@ use Rattle.conf_doc.specs.declared.parts.Part.TheVariants as part
 use Rattle.conf_doc.proofs.Edits.{same_name}
 use Rattle.move_core.specs.Contexts.{AgreeElsewhere, IsModelled, rulebook}
 use Rattle.move_core.specs.Listed.{IsListed}
-use Rattle.move_core.specs.Moves.{new_part, place, step}
+use Rattle.move_core.specs.Moves.{part_after, place, step}
 use Rattle.move_core.specs.Plans.{IsReachable, IsWay, conf}
 use Rattle.move_core.specs.Services.{table_of}
 use Rattle.move_core.specs.declared.contexts.Ctx.{Ctx}
@@ -84,7 +84,7 @@ half_elsewhere law ctx goal c (m ∷ ms) x way agree zero = agree
 half_elsewhere law ctx goal c (m ∷ ms) x way agree (suc k) =
     half_elsewhere law ctx goal (step c m) ms x way.1
     (λ t isnt.
-    part_other c (place m) (new_part m) t (λ e. isnt (subst (IsModelled ctx.models) (sym e) (law ctx c goal m agree way.0.listed)))
+    part_other c (place m) (part_after c m) t (λ e. isnt (subst (IsModelled ctx.models) (sym e) (law ctx c goal m agree way.0.listed)))
     ∙ agree t isnt) k
 
 -- the rest of a way is one
