@@ -1,7 +1,9 @@
+pub mod AfterMove
 pub mod Ended
 pub mod Exact
 pub mod FieldMoves
 pub mod Frames
+pub mod Joined
 pub mod Kept
 pub mod Members
 pub mod OneAnswer
