@@ -36,7 +36,7 @@ AreOrdered index verdicts = AreWithin verdicts (entries_of index.models index.co
 
 -- how many verdicts are kept at most
 abbrev pub most_verdicts : ℕ
-most_verdicts = 65536
+most_verdicts = 4096
 
 -- the greatest number that is counted
 abbrev pub greatest : ℕ

@@ -24,7 +24,7 @@ pub(crate) struct Kept {
     pub(crate) verdicts: Vec<Verdict>,
     pub(crate) ghost sound: { AreKept index verdicts.items } by { Prim.hlevel props },
     pub(crate) ghost ordered: { AreOrdered index verdicts.items } by { Prim.hlevel props },
-    pub(crate) ghost few: { length verdicts.items ≤ 65536 },
+    pub(crate) ghost few: { length verdicts.items ≤ 4096 },
 }
 
 impl Kept {

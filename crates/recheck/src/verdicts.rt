@@ -5,7 +5,7 @@ ghost use Rattle.recheck.specs.Verdicts.{is_elsewhere, is_on};
 use host_core::Txt;
 
 /// How many verdicts are kept at most.
-pub(crate) const MOST_VERDICTS: usize = 65536;
+pub(crate) const MOST_VERDICTS: usize = 4096;
 
 /// The entry at a key of a table breaks no rule.
 #[derive(Drop)]

@@ -14,13 +14,13 @@ pub(crate) struct Walk {
     pub(crate) verdicts: Vec<Verdict>,
     pub(crate) behind: usize,
     pub(crate) ghost within: { behind ≤ length verdicts.items },
-    pub(crate) ghost few: { length verdicts.items ≤ 65536 },
+    pub(crate) ghost few: { length verdicts.items ≤ 4096 },
 }
 
 impl Walk {
     /// The verdicts before the first entry.
     pub(crate) fn new(alloc: Global, verdicts: Vec<Verdict>) -> Walk
-        requires { length verdicts.items ≤ 65536 }
+        requires { length verdicts.items ≤ 4096 }
         ensures verdicts { result.verdicts.items ≡ verdicts.items }
         ensures behind { result.behind ≡ 0 }
     {
@@ -34,7 +34,7 @@ impl Walk {
     /// The verdicts.
     pub(crate) fn into_verdicts(self) -> Vec<Verdict>
         ensures verdicts { result.items ≡ self.verdicts.items }
-        ensures few { length result.items ≤ 65536 }
+        ensures few { length result.items ≤ 4096 }
     {
         let Walk {
             alloc: _,
