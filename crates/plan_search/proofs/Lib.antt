@@ -10,6 +10,7 @@ pub mod OneAnswer
 pub mod Orders
 pub mod Pairs
 pub mod Parts
+pub mod Placed
 pub mod Positions
 pub mod Refused
 pub mod Routes

@@ -8,6 +8,7 @@ ghost use Rattle.plan_search.specs.Searches.{IsSearchAnswer};
 
 use crate::early_refusals::{changes_entry, is_refused};
 use crate::expanding::Expanding;
+use crate::goals::goal_of_start;
 use crate::rules::keep_rules;
 use crate::searching::find_plan;
 use crate::{SearchError, Steps};
@@ -119,9 +120,8 @@ fn is_same(cur: &Config, next: &Config, mv: &Move) -> bool
     next.same(cur)
 }
 
-/// The first plan from start to goal, by the moves and rules of the kit. Fewer than budget configurations
-/// are expanded, each a step.
-pub fn search<L: Ledger>(
+/// The first plan from start to goal, by a kit that begins with the models.
+fn search_by_kit<L: Ledger>(
     alloc: Global,
     ctx: &Ctx,
     kit: &mut Kit,
@@ -149,4 +149,30 @@ pub fn search<L: Ledger>(
         rules: PhantomData,
     };
     find_plan(alloc, &source, kit, budget, steps)
+}
+
+/// The first plan from start to goal, by the moves and rules of the kit. Fewer than budget configurations
+/// are expanded, each a step.
+pub fn search<L: Ledger>(
+    alloc: Global,
+    ctx: &Ctx,
+    kit: &mut Kit,
+    start: &Config,
+    goal: &Config,
+    budget: u32,
+    steps: &mut Steps<L>,
+) -> Result<Plan, SearchError>
+    requires kinds { ⟦<Kit as Boxes>⟧.HasKinds kit.old }
+    requires named { IsNamed ctx.now }
+    requires start { IsValidIn ctx.now start.now }
+    requires goal { IsValidIn ctx.now goal.now }
+    requires budget { 0 < budget }
+    ensures kinds { ⟦<Kit as Boxes>⟧.HasKinds kit.new }
+    ensures answer { IsSearchAnswer (rulebook ctx.now) start.now goal.now budget result }
+    ensures steps { steps.new < steps.old + budget }
+{
+    match goal_of_start(alloc, start, goal) {
+        Ok(shared) => search_by_kit(alloc, ctx, kit, start, &shared, budget, steps),
+        Err(_) => Err(SearchError::Memory),
+    }
 }
