@@ -1,5 +1,5 @@
 //! Configurations with their hashes. That after a move is made of the one before and of the move's entry.
-ghost use Rattle.std.specs.Prelude.{◌≡◌, ℕ, IfOk};
+ghost use Rattle.std.specs.Prelude.{◌≡◌, ◌↔◌, IfOk, IsTrue};
 ghost use Rattle.std.specs.Hash as fed;
 ghost use Rattle.move_core.specs.Moves.{step};
 ghost use Rattle.plan_search.specs.ConfigKeys.{config_eq, configs_alike, configs_equiv, configs_per};
@@ -112,6 +112,16 @@ impl Hashed {
         &self.config
     }
 
+    /// Whether the configurations are the same. Where the hashes differ they aren't looked at.
+    pub(crate) fn same(&self, other: &Hashed) -> bool
+        ensures { IsTrue result ↔ (self.now ≡ other.now) }
+    {
+        if self.hash != other.hash {
+            return false;
+        }
+        self.config.same(&other.config)
+    }
+
     /// The same configuration.
     pub(crate) fn copy(&self, alloc: Global) -> Result<Hashed, Memory>
         ensures { IfOk result (λ h. h ≡ self.now) }
@@ -130,7 +140,7 @@ impl PartialEq for Hashed {
     ghost laws = { configs_per };
 
     fn eq(&self, other: &Hashed) -> bool {
-        self.config.same(&other.config)
+        self.same(other)
     }
 }
 

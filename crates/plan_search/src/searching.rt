@@ -50,10 +50,10 @@ fn try_one<S: Expanding>(
         None => return Ok(None),
         Some(next) => next,
     };
-    if next.same(source.goal()) {
+    let hashed = top.after(next, &mv);
+    if hashed.same(source.goal()) {
         return Ok(Some(Found::Goal(mv)));
     }
-    let hashed = top.after(next, &mv);
     if met.insert(hashed.copy(alloc)?)? {
         Ok(Some(Found::New(mv, hashed)))
     } else {
@@ -269,7 +269,7 @@ pub(crate) fn find_plan<S: Expanding, L: Ledger>(
     ensures answer { IsAnswer (S.problem source.now) budget result }
     ensures steps { steps.new < steps.old + budget }
 {
-    if source.start().same(source.goal()) {
+    if source.start().same(source.goal().config()) {
         return Ok(Sequence::new(alloc));
     }
     if budget == 1 {

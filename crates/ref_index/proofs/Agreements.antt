@@ -157,7 +157,7 @@ module _ (models : ModelSet) (table key : List ℕ) (one names : List EntryName)
         | inr is ↦ inr (subst (λ t. IsNamed names t p.key) (sym is.0) (subst (IsNamed names table) (sym is.1) (stay table key named)))
         | inl same ↦ elim (may_refer models p.table table) as (λ x. may_refer models p.table table ≡ x → HasWant models b w p ⊎ IsNamed names p.table p.key) [
           | true ↦ λ may. referring same may
-          | false ↦ λ no. inl (unreferring same no)
+          | false ↦ λ apart. inl (unreferring same apart)
         ] refl
       ]
     where
@@ -180,14 +180,14 @@ module _ (models : ModelSet) (table key : List ℕ) (one names : List EntryName)
 
       -- it may not: what it wants is of other tables, which are the same
       unreferring : entry_of p.table p.key a ≡ entry_of p.table p.key b → may_refer models p.table table ≡ false → HasWant models b w p
-      unreferring same no =
+      unreferring same apart =
           let at = place same in
           let row = has.wanted.row in
           let shape = has.wanted.shape in
           let field = has.position.field in
           let item = has.position.item in
           let of_row : may_refer models row.table table ≡ false =
-          subst (λ t. may_refer models t table ≡ false) (sym (ap (λ (r : Row). r.table) (row_of_want models a has.position w p has.at has.wanted))) no in
+          subst (λ t. may_refer models t table ≡ false) (sym (ap (λ (r : Row). r.table) (row_of_want models a has.position w p has.at has.wanted))) apart in
           carried_want models a b has.position w p has.at has.wanted at.0 at.1 at.2 (sym at.3)
           (wanted_elsewhere models table a b (typed_text shape row field item) w (refers_nowhere models table row shape of_row has.wanted.shaped field item)
           (elsewhere models a b table key w.text agree) (elsewhere models b a table key w.text (turned a b table key agree)) has.wanted.wanted)

@@ -25,63 +25,63 @@ rest_fails true y e = cc
 rest_fails false y e = e
 
 elsewhere : (to : List ℕ) (r : Target) → bytes_eq r.table to ≡ false → r.table ≢ to
-elsewhere to r no same = true≢false (sym ((bytes_eq-Decides r.table to).1 same) ∙ no)
+elsewhere to r fails same = true≢false (sym ((bytes_eq-Decides r.table to).1 same) ∙ fails)
 
 module _ (models : ModelSet) (to : List ℕ) (s : List ℕ) where
   module _ (a b : Config) (has : SatisfiesElsewhere models to s a b) where
     accepts : (t : DataType) → member_refers to t ≡ false → AcceptsIn models a t s → AcceptsIn models b t s
-    accepts (leafref r t) no h = (h.0, has r (elsewhere to r no) h.1)
-    accepts (union ts) no h = absurd (true≢false no)
-    accepts text no h = h
-    accepts (number n) no h = h
-    accepts (length_within t bs) no h = h
-    accepts (value_within t bs) no h = h
-    accepts (matching t p) no h = h
-    accepts (one_of names) no h = h
-    accepts truth no h = h
-    accepts (builtin n) no h = h
+    accepts (leafref r t) fails h = (h.0, has r (elsewhere to r fails) h.1)
+    accepts (union ts) fails h = absurd (true≢false fails)
+    accepts text fails h = h
+    accepts (number n) fails h = h
+    accepts (length_within t bs) fails h = h
+    accepts (value_within t bs) fails h = h
+    accepts (matching t p) fails h = h
+    accepts (one_of names) fails h = h
+    accepts truth fails h = h
+    accepts (builtin n) fails h = h
 
   module _ (a b : Config) (has : SatisfiesElsewhere models to s a b) (back : SatisfiesElsewhere models to s b a) where
     member_wanted : (t : DataType) (r : Target) → member_refers to t ≡ false → IsWanted models a t s r → IsWanted models b t s r
-    member_wanted (leafref q t) r no w = (w.0, accepts a b has (leafref q t) no w.1)
-    member_wanted (union ts) r no w = absurd (true≢false no)
-    member_wanted text r no w = absurd w
-    member_wanted (number n) r no w = absurd w
-    member_wanted (length_within t bs) r no w = absurd w
-    member_wanted (value_within t bs) r no w = absurd w
-    member_wanted (matching t p) r no w = absurd w
-    member_wanted (one_of names) r no w = absurd w
-    member_wanted truth r no w = absurd w
-    member_wanted (builtin n) r no w = absurd w
+    member_wanted (leafref q t) r fails w = (w.0, accepts a b has (leafref q t) fails w.1)
+    member_wanted (union ts) r fails w = absurd (true≢false fails)
+    member_wanted text r fails w = absurd w
+    member_wanted (number n) r fails w = absurd w
+    member_wanted (length_within t bs) r fails w = absurd w
+    member_wanted (value_within t bs) r fails w = absurd w
+    member_wanted (matching t p) r fails w = absurd w
+    member_wanted (one_of names) r fails w = absurd w
+    member_wanted truth r fails w = absurd w
+    member_wanted (builtin n) r fails w = absurd w
 
     first_wanted : (ts : DataTypes) (r : Target) → list_any (member_refers to) (plain_types ts) ≡ false → IsFirstWanted models a ts s r → IsFirstWanted models b ts s r
-    first_wanted no_types r no w = absurd w
-    first_wanted (type_and t ts) r no (inl w) =
-        inl (member_wanted t r (either_fails (member_refers to t) (list_any (member_refers to) (plain_types ts)) no) w)
-    first_wanted (type_and t ts) r no (inr w) = inr (
-      λ h. w.0 (accepts b a back t (either_fails (member_refers to t) (list_any (member_refers to) (plain_types ts)) no) h),
-      first_wanted ts r (rest_fails (member_refers to t) (list_any (member_refers to) (plain_types ts)) no) w.1,
+    first_wanted no_types r fails w = absurd w
+    first_wanted (type_and t ts) r fails (inl w) =
+        inl (member_wanted t r (either_fails (member_refers to t) (list_any (member_refers to) (plain_types ts)) fails) w)
+    first_wanted (type_and t ts) r fails (inr w) = inr (
+      λ h. w.0 (accepts b a back t (either_fails (member_refers to t) (list_any (member_refers to) (plain_types ts)) fails) h),
+      first_wanted ts r (rest_fails (member_refers to t) (list_any (member_refers to) (plain_types ts)) fails) w.1,
     )
 
     type_wanted : (t : DataType) (r : Target) → type_refers to t ≡ false → IsWanted models a t s r → IsWanted models b t s r
-    type_wanted (union ts) r no w = first_wanted ts r no w
-    type_wanted (leafref q t) r no w = member_wanted (leafref q t) r no w
-    type_wanted text r no w = absurd w
-    type_wanted (number n) r no w = absurd w
-    type_wanted (length_within t bs) r no w = absurd w
-    type_wanted (value_within t bs) r no w = absurd w
-    type_wanted (matching t p) r no w = absurd w
-    type_wanted (one_of names) r no w = absurd w
-    type_wanted truth r no w = absurd w
-    type_wanted (builtin n) r no w = absurd w
+    type_wanted (union ts) r fails w = first_wanted ts r fails w
+    type_wanted (leafref q t) r fails w = member_wanted (leafref q t) r fails w
+    type_wanted text r fails w = absurd w
+    type_wanted (number n) r fails w = absurd w
+    type_wanted (length_within t bs) r fails w = absurd w
+    type_wanted (value_within t bs) r fails w = absurd w
+    type_wanted (matching t p) r fails w = absurd w
+    type_wanted (one_of names) r fails w = absurd w
+    type_wanted truth r fails w = absurd w
+    type_wanted (builtin n) r fails w = absurd w
 
 -- a want of a text of which no type refers to the table
 pub wanted_elsewhere : (models : ModelSet) (to : List ℕ) (a b : Config) (o : Option (DataType × List ℕ)) (w : Want)
     → ((t : DataType × List ℕ) → o ≡ Some t → type_refers to t.0 ≡ false)
     → SatisfiesElsewhere models to w.text a b → SatisfiesElsewhere models to w.text b a → IsWantedText models a o w → IsWantedText models b o w
-wanted_elsewhere models to a b None w no has back h = h
-wanted_elsewhere models to a b (Some t) w no has back h = (
+wanted_elsewhere models to a b None w fails has back h = h
+wanted_elsewhere models to a b (Some t) w fails has back h = (
   h.0,
   subst (λ s. IsWanted models b t.0 s w.target) (sym h.0)
-      (type_wanted models to w.text a b has back t.0 w.target (no t refl) (subst (λ s. IsWanted models a t.0 s w.target) h.0 h.1)),
+      (type_wanted models to w.text a b has back t.0 w.target (fails t refl) (subst (λ s. IsWanted models a t.0 s w.target) h.0 h.1)),
 )

@@ -24,7 +24,7 @@ returns-then-same-clause-found g c =
       refl,
       leads_to_goal _ c.args.met.now _ _ c.args.mv c.hashed_top-top.result.now c.requires.trying c.hashed_top-top.ensures
           (subst (λ d. p.IsAllowed d c.args.mv) c.config.ensures h.0)
-          (sym c.goal.ensures ∙ sym (c.same.ensures.0 c.if-same.true) ∙ h.1 ∙ ap (λ d. step d c.args.mv) c.config.ensures),
+          (sym c.goal.ensures ∙ sym (c.same.ensures.0 c.if-same.true) ∙ c.after-hashed.ensures ∙ h.1 ∙ ap (λ d. step d c.args.mv) c.config.ensures),
     )
 
 pub returns-then-branch-clause-found : goal.returns-then-branch-clause-found
@@ -38,7 +38,7 @@ returns-then-branch-clause-found g c =
           (g.met.S.Expanding.lawful c.args.source.now) c.requires.trying c.hashed_top-top.ensures
           (subst (λ d. p.IsAllowed d c.args.mv) c.config.ensures h.0)
           (c.after-hashed.ensures ∙ h.1 ∙ ap (λ d. step d c.args.mv) c.config.ensures)
-          (λ e. true≢false (sym (c.same.ensures.1 (sym c.after-hashed.ensures ∙ e ∙ sym c.goal.ensures)) ∙ c.if-same.false))
+          (λ e. true≢false (sym (c.same.ensures.1 (e ∙ sym c.goal.ensures)) ∙ c.if-same.false))
           (λ there. new.0 (subst (Contains c.args.met.now) (sym copy) there)),
     )
 
