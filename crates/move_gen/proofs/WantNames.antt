@@ -91,8 +91,8 @@ module _ (c : Config) (t k f : List ℕ) (p : WantPlace) (at : WantAt) (named : 
 
 -- where no field is given it isn't that one
 pub unnamed : (f : List ℕ) (o : Option (Bor (List ℕ))) (b : Bool) → b ≡ is_some o → b ≡ false → IsTrue b ↔ (option_map (λ s. s.now) o ≡ Some f)
-unnamed f None b is no = (λ t. absurd (true≢false (sym t ∙ no)), λ e. absurd cc)
-unnamed f (Some s) b is no = absurd (true≢false (sym is ∙ no))
+unnamed f None b is fails = (λ t. absurd (true≢false (sym t ∙ fails)), λ e. absurd cc)
+unnamed f (Some s) b is fails = absurd (true≢false (sym is ∙ fails))
 
 -- ---- the walk
 

@@ -1,4 +1,4 @@
-use Rattle.std.proofs.Common.{inr, sym, subst, absurd}
+use Rattle.std.proofs.Common.{inr, sym, subst}
 use Rattle.std.proofs.lemmas.Bool.{false≢true}
 use Rattle.move_gen.specs.FieldWants.{AreElsewhere}
 use Rattle.move_gen.proofs.WantNames.{none_left, passes, unnamed}
