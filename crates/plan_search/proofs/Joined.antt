@@ -1,5 +1,5 @@
 -- Hashes of pairs joined by xor: what they become where one pair is put, changed or left out.
-use Rattle.std.proofs.Common.{◌≡◌, ◌×◌, ℕ, Bool, true, false, cond, not, ◌&&◌, List, [], ◌∷◌, Option, Some, None, Ordering, Less, Equal, Greater, is_lt, is_eq, zero, suc, ◌+◌, ◌≤◌, add-one, drop, length, map, slice_get, refl, sym, ap, ◌∙◌, subst}
+use Rattle.std.proofs.Common.{◌≡◌, ℕ, Bool, true, false, cond, not, ◌&&◌, List, [], ◌∷◌, Option, Some, None, Ordering, Less, Equal, Greater, is_lt, is_eq, zero, suc, ◌+◌, ◌≤◌, add-one, drop, length, map, slice_get, refl, sym, ap, ◌∙◌, subst}
 use Rattle.std.specs.Prelude.{bit_xor}
 use Rattle.std.specs.FinMap.Entries.{by_order, below_all, find-put, find-where_key}
 use Rattle.std.specs.Int.Bits.{xor_assoc, xor_self, xor_zero_l, xor_zero_r}

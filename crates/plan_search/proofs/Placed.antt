@@ -30,7 +30,7 @@ table_there c t o found some = by o found some
   where
     by : (o : Option Table) → o ≡ find t c → is_some o ≡ true → IsSome (option_map part.Table (find t c))
     by None found some = absurd cc
-    by (Some table) found some = subst (λ (x : Option Table). IsSome (option_map part.Table x)) found tt
+    by (Some table) found some = subst (λ (x : Option Table). IsSome (option_map part.Table x)) found refl
 
 -- an entry that is found has its place, and so has its table
 pub entry_there : (c : Config) (t k : List ℕ) (o : Option Entry) → o ≡ entry_at c t k → is_some o ≡ true → HasPlace c (t ∷ []) × HasPlace c (t ∷ k ∷ [])
@@ -38,12 +38,12 @@ entry_there c t k o found some = by (find t c) (subst (λ x. is_some x ≡ true)
   where
     in_table : (table : Table) (e : Option Entry) → is_some e ≡ true → IsSome (option_map part.Entry e)
     in_table table None some = absurd cc
-    in_table table (Some e) some = tt
+    in_table table (Some e) some = refl
 
     by : (x : Option Table) → is_some (option_and_then (find k) x) ≡ true
         → IsSome (option_map part.Table x) × IsSome (option_and_then (λ table. option_map part.Entry (find k table)) x)
     by None some = absurd cc
-    by (Some table) some = (tt, in_table table (find k table) some)
+    by (Some table) some = (refl, in_table table (find k table) some)
 
 -- what isn't told to be lacking is there
 pub some_told : {A : Type 0} (o : Option (Bor A)) (r : Bool) → is_some o ≡ not r → r ≡ false → is_some (option_map (λ v. v.now) o) ≡ true
@@ -56,4 +56,4 @@ pub table_path : (t : List ℕ) → 0 < length t → IsPath (t ∷ [])
 table_path t letters = record { some = omega arith; few = omega arith; named = (letters, tt) }
 
 pub entry_path : (t k : List ℕ) → 0 < length t → 0 < length k → IsPath (t ∷ k ∷ [])
-entry_path t k table key = record { some = omega arith; few = omega arith; named = (table, key, tt) }
+entry_path t k table key = record { some = omega arith; few = omega arith; named = (table, (key, tt)) }

@@ -12,7 +12,7 @@ loop-i-init c = xor_zero_l (joined (table_hash (fields.ghosts).hash_input) c.arg
 pub loop-i-preserved : goal.loop-i-preserved
 loop-i-preserved c =
     let of = table_hash (fields.ghosts).hash_input in
-    ap (λ x. bit_xor (bit_xor c.loop-i.hash x) (joined of (drop (c.loop-i.i + 1) c.args.config.now))) c.hash_table.ensures
+    ap (λ x. bit_xor (bit_xor c.loop-i.hash x) (joined of (drop (c.loop-i.i + 1) c.args.config.now))) c.hash_table-hash.ensures
     ∙ joined_more of c.args.config.now c.loop-i.i c.name_at.result.now c.part_at.result.now c.loop-i.hash (joined of c.args.config.now)
     c.name_at.ensures c.part_at.ensures.part c.loop-i.invariant
 

@@ -12,7 +12,7 @@ loop-i-init c = xor_zero_l (joined (entry_hash (fields.ghosts).hash_input c.args
 pub loop-i-preserved : goal.loop-i-preserved
 loop-i-preserved c =
     let of = entry_hash (fields.ghosts).hash_input c.args.name.now in
-    ap (λ x. bit_xor (bit_xor c.loop-i.hash x) (joined of (drop (c.loop-i.i + 1) c.args.table.now))) c.hash_entry.ensures
+    ap (λ x. bit_xor (bit_xor c.loop-i.hash x) (joined of (drop (c.loop-i.i + 1) c.args.table.now))) c.hash_entry-hash.ensures
     ∙ joined_more of c.args.table.now c.loop-i.i c.name_at.result.now c.part_at.result.now c.loop-i.hash (joined of c.args.table.now)
     c.name_at.ensures c.part_at.ensures.part c.loop-i.invariant
 

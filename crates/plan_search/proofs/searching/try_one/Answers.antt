@@ -12,8 +12,8 @@ returns-in-None-clause-found g c =
           (λ allowed. absurd (refused (subst (λ d. (g.S.Expanding.problem c.args.source.now).IsAllowed d c.args.mv) (sym c.config.ensures) allowed))),
     )
 
-pub after-requires : goal.after-requires
-after-requires g c =
+pub after-hashed-requires : goal.after-hashed-requires
+after-hashed-requires g c =
     let h = rw c.in-Some.is at c.in_ok-try_move.ensures.next in
     h.1 ∙ ap (λ d. step d c.args.mv) c.config.ensures
 

@@ -1,10 +1,5 @@
-use Rattle.std.proofs.Common.{true≢false, sym, ap, ◌∙◌}
-use Rattle.conf_doc.specs.contracts.configuration.EntryHash.TheImpl as fields
-use Rattle.plan_search.specs.Hashes.{config_hash}
+use Rattle.std.proofs.Common.{sym, ◌∙◌}
 use Rattle.plan_search.proofs.hashed.Hashed.same.Goals as goal
-
-pub returns-then-hash : goal.returns-then-hash
-returns-then-hash c = ?
 
 pub returns : goal.returns
 returns c = (
