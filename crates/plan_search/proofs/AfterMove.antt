@@ -1,5 +1,5 @@
 -- The hash of the configuration after a move, from the one before and those of the move's entry.
-use Rattle.std.proofs.Common.{◌≡◌, ℕ, zero, suc, Bool, true, false, cond, List, [], ◌∷◌, slice_get, Option, Some, None, option_and_then, refl, sym, ap, ◌∙◌, subst}
+use Rattle.std.proofs.Common.{◌≡◌, ℕ, Bool, true, false, cond, List, [], ◌∷◌, slice_get, Option, Some, None, option_and_then, refl, sym, ap, ◌∙◌, subst}
 use Rattle.std.specs.Prelude.{bit_xor}
 use Rattle.std.specs.Option.{option_map_or}
 use Rattle.std.specs.Ordering.{eq_by_cmp}
@@ -13,7 +13,7 @@ use Rattle.conf_doc.specs.declared.parts.Part.{Part}
 use Rattle.conf_doc.specs.declared.parts.Part.TheVariants as part
 use Rattle.conf_doc.proofs.Edits.{same_Some}
 use Rattle.move_core.specs.Moves.{Place}
-use Rattle.plan_search.specs.Hashes.{Fed, config_hash, entry_hash, entry_hash_at, hash_at, joined}
+use Rattle.plan_search.specs.Hashes.{Fed, config_hash, entry_hash, entry_hash_at, hash_at}
 use Rattle.plan_search.proofs.Joined.{ChangesBy, change_changes, found_put, joined_twice, put_changes, within_changes, without_changes}
 
 -- what holds of each part holds of the one that a name names

@@ -1,9 +1,9 @@
 -- Places of names that are there, and paths of names with letters.
-use Rattle.std.proofs.Common.{◌≡◌, ◌<◌, ◌≤◌, ℕ, zero, suc, Bool, true, false, not, List, [], ◌∷◌, length, map, slice_get, Option, Some, None, is_some, option_map, option_and_then, IsSome, refl, sym, ap, true≢false, ◌∙◌, subst, arith}
+use Rattle.std.proofs.Common.{◌≡◌, ◌<◌, ℕ, zero, suc, Bool, true, false, not, List, [], ◌∷◌, length, map, slice_get, Option, Some, None, is_some, option_map, option_and_then, IsSome, refl, sym, ap, true≢false, ◌∙◌, subst, arith}
 use Rattle.std.specs.Prelude.{◌==◌}
 use denote.Ref.{Bor}
 use Rattle.std.proofs.lemmas.Bool.{and_parts}
-use Rattle.conf_doc.specs.Changes.{HasParent, HasPlace, entry_at}
+use Rattle.conf_doc.specs.Changes.{HasPlace, entry_at}
 use Rattle.conf_doc.specs.Pairs.{AreNamed, find}
 use Rattle.conf_doc.specs.Paths.{IsPath}
 use Rattle.conf_doc.specs.declared.configuration.Config.{Config}

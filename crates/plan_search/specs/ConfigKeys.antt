@@ -1,5 +1,5 @@
 -- Configurations as keys of a set: keys are equal where the configurations are the same, and are hashed alike then.
-use Rattle.std.proofs.Common.{◌≡◌, ℕ, Bool, true, false, List, refl, sym, ap, ◌∙◌, true≢false}
+use Rattle.std.proofs.Common.{◌≡◌, ℕ, Bool, true, false, List, refl, sym, ap, true≢false}
 use Rattle.std.specs.Bool.{Decides}
 use Rattle.std.specs.Cmp.{IsEquivalence, IsPartialEquivalence, partial_equiv_from_equiv}
 use Rattle.std.specs.Cmp.Lexicographic.{pointwise, pointwise_decides, bytes_decides}
@@ -31,8 +31,11 @@ pairs_decide {A = A} E decides = pointwise_decides pair
   where
     pair : (p q : List ℕ × A) → Decides (pair_eq E p q) (p ≡ q)
     pair p q =
-        let both = Decides-and (bytes_eq p.0 q.0) (E p.1 q.1) (bytes_decides p.0 q.0) (decides p.1 q.1) in
-        (λ h. let e = both.0 h in (λ i. (e.0 i, e.1 i)), λ e. both.1 (ap (λ r. r.0) e, ap (λ r. r.1) e))
+        let names = bytes_decides p.0 q.0 in
+        let both = Decides-and (bytes_eq p.0 q.0) (E p.1 q.1) names (decides p.1 q.1) in (
+          λ h. let e = both.0 h in (λ i. (e.0 i, e.1 i)),
+          λ e. both.1 (ap (λ r. r.0) e, ap (λ r. r.1) e),
+        )
 
 same_text : (s t : List ℕ) → Text s ≡ Text t → s ≡ t
 same_text s t e = cc
@@ -49,6 +52,7 @@ value_decides (Texts s) (Texts t) =
     let d = pointwise_decides bytes_decides s t in
     (λ h. ap Texts (d.0 h), λ e. d.1 (same_list s t e))
 
+-- so configurations are told apart
 pub configs_decide : (c d : Config) → Decides (config_eq c d) (c ≡ d)
 configs_decide =
     pairs_decide (pairs_eq (pairs_eq value_eq))

@@ -1,4 +1,4 @@
-use Rattle.std.proofs.Common.{[], ◌∷◌, sym, subst, refl, ap}
+use Rattle.std.proofs.Common.{sym, subst}
 use Rattle.conf_doc.specs.Changes.{HasParent, HasPlace}
 use Rattle.plan_search.proofs.Placed.{entry_there, some_told}
 use Rattle.plan_search.proofs.goals.take_entry.Goals as goal

@@ -1,5 +1,5 @@
-use Rattle.std.proofs.Common.{[], ◌∷◌, sym, subst, refl, ap}
-use Rattle.conf_doc.specs.Changes.{HasParent, HasPlace}
+use Rattle.std.proofs.Common.{sym, subst}
+use Rattle.conf_doc.specs.Changes.{HasPlace}
 use Rattle.plan_search.proofs.Placed.{some_told, table_there}
 use Rattle.plan_search.proofs.goals.take_table.Goals as goal
 

@@ -1,5 +1,4 @@
 use Rattle.std.proofs.Common.{slice_get, sym, ap, ◌∙◌}
-use Rattle.conf_doc.specs.Changes.{with_part}
 use Rattle.conf_doc.specs.contracts.configuration.EntryHash.TheImpl as fields
 use Rattle.move_core.specs.Moves.{part_after, place, step}
 use Rattle.plan_search.proofs.AfterMove.{hash_after}
