@@ -5,6 +5,7 @@ mod DemoFinding
 mod FirstBreaches
 pub mod IntentFinding
 mod ModelTexts
+mod NamedScopes
 mod OneAnswer
 mod OnePlanAnswer
 mod PlanCheckFinding
