@@ -5,7 +5,6 @@ mod DemoFinding
 mod FirstBreaches
 pub mod IntentFinding
 mod ModelTexts
-mod NamedScopes
 mod OneAnswer
 mod OnePlanAnswer
 mod PlanCheckFinding
