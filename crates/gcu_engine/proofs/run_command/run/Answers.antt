@@ -1,4 +1,6 @@
-use Rattle.std.proofs.Common.{inl, inr, sym, ◌∙◌, IsSome, subst}
+use Rattle.std.proofs.Common.{inl, inr, sym, ◌∙◌}
+use Rattle.gcu_requests.specs.Form.{form}
+use Rattle.gcu_engine.proofs.Scoping.{some_or_none}
 use Rattle.gcu_engine.proofs.run_command.run.Goals as goal
 
 -- ---- words that name a scope
@@ -23,7 +25,7 @@ returns-in-Some-clause-resumes g c none = absurd (none _ c.in-Some.ensures.0 c.i
 
 pub returns-in-Some-clause-usage : goal.returns-in-Some-clause-usage
 returns-in-Some-clause-usage g c said =
-    absurd (subst IsSome (c.in-Some.ensures.2 ∙ c.run_scoped.ensures.usage said) c.in-Some.ensures.1.command)
+    absurd (some_or_none (form c.in-Some.ensures.0) c.in-Some.ensures.1.command (c.in-Some.ensures.2 ∙ c.run_scoped.ensures.usage said))
 
 pub returns-in-Some-clause-only_usage : goal.returns-in-Some-clause-only_usage
 returns-in-Some-clause-only_usage g c none = absurd (none.0 _ c.in-Some.ensures.0 c.in-Some.ensures.1)

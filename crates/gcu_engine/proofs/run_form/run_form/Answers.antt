@@ -1,4 +1,4 @@
-use Rattle.std.proofs.Common.{◌≡◌, ℕ, List, None, Some, IsSome, ap, sym, subst, ◌∙◌, ◌++◌}
+use Rattle.std.proofs.Common.{◌≡◌, ℕ, List, None, Some, IsSome, refl, ap, sym, ◌∙◌, ◌++◌}
 use Rattle.conf_doc.specs.Trees.{document}
 use Rattle.plan_options.specs.Views.{target_view}
 use Rattle.gcu_output.specs.Lines.{last_line}
@@ -23,7 +23,7 @@ of words e f is at = sym (is ∙ ap form_view at)
 
 -- a command isn't told that it is none
 told_usage : (e f : Form) (r : Outcome) → e ≡ f → IsSome (form_view f) → form_view e ≡ None → TellsUsage r
-told_usage e f r at some none = absurd (subst IsSome (sym (ap form_view at) ∙ none) some)
+told_usage e f r at some none = let gone : form_view f ≡ None = sym (ap form_view at) ∙ none in absurd cc
 
 -- the words are no command
 pub returns-in-Unknown-clause-answers : goal.returns-in-Unknown-clause-answers
@@ -454,40 +454,40 @@ pub returns-in-Unknown-clause-usage : goal.returns-in-Unknown-clause-usage
 returns-in-Unknown-clause-usage g c said = ap form_view c.in-Unknown.is
 
 pub returns-in-Ok-clause-only_usage : goal.returns-in-Ok-clause-only_usage
-returns-in-Ok-clause-only_usage g c none = told_usage c.args.command _ c.show.result c.in-Preview.is tt none
+returns-in-Ok-clause-only_usage g c none = told_usage c.args.command _ c.show.result c.in-Preview.is refl none
 
 pub returns-in-Err-clause-only_usage : goal.returns-in-Err-clause-only_usage
-returns-in-Err-clause-only_usage g c none = told_usage c.args.command _ c.say-in-Err.result c.in-Preview.is tt none
+returns-in-Err-clause-only_usage g c none = told_usage c.args.command _ c.say-in-Err.result c.in-Preview.is refl none
 
 pub returns-in-Check-clause-only_usage : goal.returns-in-Check-clause-only_usage
-returns-in-Check-clause-only_usage g c none = told_usage c.args.command _ c.check.result c.in-Check.is tt none
+returns-in-Check-clause-only_usage g c none = told_usage c.args.command _ c.check.result c.in-Check.is refl none
 
 pub returns-in-ListCheckpoints-clause-only_usage : goal.returns-in-ListCheckpoints-clause-only_usage
-returns-in-ListCheckpoints-clause-only_usage g c none = told_usage c.args.command _ c.list_checkpoints.result c.in-ListCheckpoints.is tt none
+returns-in-ListCheckpoints-clause-only_usage g c none = told_usage c.args.command _ c.list_checkpoints.result c.in-ListCheckpoints.is refl none
 
 pub returns-in-MigrateCheckpoints-clause-only_usage : goal.returns-in-MigrateCheckpoints-clause-only_usage
-returns-in-MigrateCheckpoints-clause-only_usage g c none = told_usage c.args.command _ c.migrate_checkpoints.result c.in-MigrateCheckpoints.is tt none
+returns-in-MigrateCheckpoints-clause-only_usage g c none = told_usage c.args.command _ c.migrate_checkpoints.result c.in-MigrateCheckpoints.is refl none
 
 pub returns-in-SaveCheckpoint-clause-only_usage : goal.returns-in-SaveCheckpoint-clause-only_usage
-returns-in-SaveCheckpoint-clause-only_usage g c none = told_usage c.args.command _ c.save_checkpoint.result c.in-SaveCheckpoint.is tt none
+returns-in-SaveCheckpoint-clause-only_usage g c none = told_usage c.args.command _ c.save_checkpoint.result c.in-SaveCheckpoint.is refl none
 
 pub returns-in-DeleteCheckpoint-clause-only_usage : goal.returns-in-DeleteCheckpoint-clause-only_usage
-returns-in-DeleteCheckpoint-clause-only_usage g c none = told_usage c.args.command _ c.delete_checkpoint.result c.in-DeleteCheckpoint.is tt none
+returns-in-DeleteCheckpoint-clause-only_usage g c none = told_usage c.args.command _ c.delete_checkpoint.result c.in-DeleteCheckpoint.is refl none
 
 pub returns-in-Plan-clause-only_usage : goal.returns-in-Plan-clause-only_usage
-returns-in-Plan-clause-only_usage g c none = told_usage c.args.command _ c.dry_run.result c.in-Plan.is tt none
+returns-in-Plan-clause-only_usage g c none = told_usage c.args.command _ c.dry_run.result c.in-Plan.is refl none
 
 pub returns-in-Change-clause-only_usage : goal.returns-in-Change-clause-only_usage
-returns-in-Change-clause-only_usage g c none = told_usage c.args.command _ c.change.result c.in-Change.is tt none
+returns-in-Change-clause-only_usage g c none = told_usage c.args.command _ c.change.result c.in-Change.is refl none
 
 pub returns-in-Status-clause-only_usage : goal.returns-in-Status-clause-only_usage
-returns-in-Status-clause-only_usage g c none = told_usage c.args.command _ c.status.result c.in-Status.is tt none
+returns-in-Status-clause-only_usage g c none = told_usage c.args.command _ c.status.result c.in-Status.is refl none
 
 pub returns-in-Abandon-clause-only_usage : goal.returns-in-Abandon-clause-only_usage
-returns-in-Abandon-clause-only_usage g c none = told_usage c.args.command _ c.abandon.result c.in-Abandon.is tt none
+returns-in-Abandon-clause-only_usage g c none = told_usage c.args.command _ c.abandon.result c.in-Abandon.is refl none
 
 pub returns-in-Demo-clause-only_usage : goal.returns-in-Demo-clause-only_usage
-returns-in-Demo-clause-only_usage g c none = told_usage c.args.command _ c.demo.result c.in-Demo.is tt none
+returns-in-Demo-clause-only_usage g c none = told_usage c.args.command _ c.demo.result c.in-Demo.is refl none
 
 pub returns-in-CheckPlan-clause-only_usage : goal.returns-in-CheckPlan-clause-only_usage
-returns-in-CheckPlan-clause-only_usage g c none = told_usage c.args.command _ c.check_plan.result c.in-CheckPlan.is tt none
+returns-in-CheckPlan-clause-only_usage g c none = told_usage c.args.command _ c.check_plan.result c.in-CheckPlan.is refl none
