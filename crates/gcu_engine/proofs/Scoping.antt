@@ -1,5 +1,5 @@
 -- What is done over the files of a scope, as the folder has it.
-use Rattle.std.proofs.Common.{◌≡◌, ◌≤◌, ◌⊎◌, ⊎_elim, inl, inr, ℕ, List, refl, sym, ap, subst, arith, Option, Some, None, IfSome, IsSome, option_map}
+use Rattle.std.proofs.Common.{◌≡◌, ◌≤◌, ◌⊎◌, ⊎_elim, inl, ℕ, List, refl, sym, ap, subst, arith, Option, Some, None, IfSome, IsSome, option_map}
 use Rattle.std.specs.FinMap.{get}
 use Rattle.host_core.specs.Counts.{Counts, NoneFell, NoneRose}
 use Rattle.host_core.specs.Crashes.{Image, Left, LeavesOnly, MayLeaveNow}

@@ -1,4 +1,4 @@
-use Rattle.std.proofs.Common.{◌≡◌, inl, inr, ℕ, refl, sym, ap, subst}
+use Rattle.std.proofs.Common.{inl, inr, ℕ, refl, sym, ap, subst}
 use Rattle.host_core.specs.Counts.{Counts, Rose}
 use Rattle.host_core.specs.Crashes.{Elapses, MayLeaveNow}
 use Rattle.gcu_output.specs.Lines.{last_line}

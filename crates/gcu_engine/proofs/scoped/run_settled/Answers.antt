@@ -1,4 +1,4 @@
-use Rattle.std.proofs.Common.{◌≡◌, sym, ◌∙◌}
+use Rattle.std.proofs.Common.{sym, ◌∙◌}
 use Rattle.host_core.specs.Counts.{NoneFell}
 use Rattle.gcu_engine.specs.Answers.{HasCause}
 use Rattle.gcu_engine.proofs.Scoping.{at_ends, runs_viewed}
