@@ -1,5 +1,5 @@
 -- What is promised of a command on a host in memory, by what running it ensures.
-use Rattle.std.proofs.Common.{◌≡◌, inl, ℕ, List, Some, None, subst}
+use Rattle.std.proofs.Common.{◌≡◌, inl, ℕ, List, Some, subst}
 use Rattle.host_core.specs.Counts.{NoneRose}
 use Rattle.host_core.specs.Crashes.{LeavesOnly}
 use Rattle.host_core.specs.MemoryHost.{GoesOn, MemoryHost, faulty_by, left_of, moment_of}
