@@ -35,9 +35,9 @@ pub fn run<H: Host>(alloc: Global, words: &[Txt], kit: &mut Kit, host: &mut H) -
     requires longest { longest_scoped_name ≤ H.longest_name }
     requires kinds { ⟦<Kit as Boxes>⟧.HasKinds kit.old }
     ensures kinds { ⟦<Kit as Boxes>⟧.HasKinds kit.new }
-    // The answer is the first refusal, or what the command asks for, and nothing changes but the output, a
-    // checkpoint that is saved or deleted, those that are put anew, `intent` that is given up, and the work of
-    // a plan that is done.
+    // Of words that name no scope the answer is the first refusal, or what the command asks for, and nothing
+    // changes but the output, a checkpoint that is saved or deleted, those that are put anew, `intent` that is
+    // given up, and the work of a plan that is done.
     ensures answers { IsUnscoped words.now → Answers words.now
         (H.told host.old) (H.told host.new) (H.counts host.old) (H.counts host.new) result }
     // A fault is answered only where its count rose.
