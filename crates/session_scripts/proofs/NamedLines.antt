@@ -5,7 +5,7 @@ use Rattle.checkpoints.specs.Names.{is_good_name}
 use Rattle.plan_options.specs.Words.{is_word}
 use Rattle.host_core.specs.Answers.{Gives}
 use Rattle.session_scripts.specs.ScriptFaults.{script_fault}
-use Rattle.session_scripts.specs.Scripts.{AreNamed, before, last_of, line_at, line_of, line_of_three, line_of_two, line_of_words, lines_from, most_lines, name_of, pieces_of, script, words_of}
+use Rattle.session_scripts.specs.Scripts.{AreNamed, before, line_at, line_of_three, line_of_two, line_of_words, lines_from, most_lines, name_of, pieces_of, script, words_of}
 use Rattle.session_scripts.specs.declared.errors.ScriptError.{ScriptError}
 use Rattle.session_scripts.specs.declared.script_lines.ScriptLine.{ScriptLine}
 use Rattle.session_scripts.specs.declared.script_lines.ScriptLine.TheVariants.{Begin, Step, Retarget, End}

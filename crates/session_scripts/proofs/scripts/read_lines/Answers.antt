@@ -1,4 +1,4 @@
-use Rattle.std.proofs.Common.{◌≡◌, ◌∷◌, [], ◌++◌, length, suc, sym, ap, ◌∙◌, arith, length-append, subst}
+use Rattle.std.proofs.Common.{◌≡◌, ◌∷◌, [], length, suc, sym, ap, ◌∙◌, arith, length-append, subst}
 use Rattle.std.proofs.lemmas.Bool.{eqb-false}
 use Rattle.session_scripts.proofs.ScriptLemmas.{behind, next_lines, next_number, no_feed_behind, no_form, one_more, one_too_many}
 use Rattle.session_scripts.specs.Scripts.{lines_from, pieces_of, script}
