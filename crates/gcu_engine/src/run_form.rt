@@ -1,8 +1,10 @@
 //! One command over a folder, its answer and its output.
 ghost use Rattle.std.specs.Prelude.{◌≡◌, ◌≤◌, ℕ, List, IfSome, None};
-ghost use Rattle.host_core.specs.Counts.{NoneFell, NoneRose};
-ghost use Rattle.host_core.specs.Crashes.{LeavesOnly};
+ghost use Rattle.host_core.specs.Counts.{NoneFell, NoneRose, PrintMayRise};
+ghost use Rattle.host_core.specs.Crashes.{Elapses, LeavesOnly};
 ghost use Rattle.host_core.specs.Names.{longest_plain_name};
+ghost use Rattle.gcu_output.specs.Lines.{last_line};
+ghost use Rattle.gcu_output.specs.Printing.{IsSaid, LeftInText};
 ghost use Rattle.gcu_output.specs.declared.outcomes.Outcome.TheVariants.{Usage as usage};
 ghost use Rattle.gcu_requests.specs.Asked.{asked};
 ghost use Rattle.gcu_requests.specs.Form.{form};
@@ -72,7 +74,7 @@ pub(crate) fn run_form<H: Host>(
     asked_has_one_answer();
     listed_moves_have_models();
     match command {
-        Form::Unknown => say(alloc, Outcome::Usage, host),
+        Form::Unknown => refuse_words(alloc, host),
         Form::Preview { patch } => match preview(alloc, patch, host) {
             Ok(tree) => show(alloc, &tree, host),
             Err(outcome) => say(alloc, outcome, host),
@@ -89,4 +91,16 @@ pub(crate) fn run_form<H: Host>(
         Form::Demo { size } => demo(alloc, size, kit, host),
         Form::CheckPlan { patch, plan } => check_plan(alloc, patch, plan, host),
     }
+}
+
+/// Refuses words that are no command.
+fn refuse_words<H: Host>(alloc: Global, host: &mut H) -> Outcome
+    ensures said { IsSaid usage (last_line usage)
+        (H.told host.old) (H.told host.new) (H.counts host.old) (H.counts host.new) result }
+    ensures counts { PrintMayRise (H.counts host.old) (H.counts host.new) }
+    ensures time { Elapses H.moment H.left_since host.old host.new
+        (LeftInText (last_line usage) (H.told host.old)) }
+    ensures goes { H.goes_on host.old host.new }
+{
+    say(alloc, Outcome::Usage, host)
 }

@@ -28,8 +28,8 @@ told_usage e f r at some none = let gone : form_view f ≡ None = sym (ap form_v
 -- the words are no command
 pub returns-in-Unknown-clause-answers : goal.returns-in-Unknown-clause-answers
 returns-in-Unknown-clause-answers g c words is =
-    said_answers words (g.H.Host.told c.args.host.now) (g.H.Host.told c.say.new.host) (g.H.Host.counts c.args.host.now) (g.H.Host.counts c.args.host.now) (g.H.Host.counts c.say.new.host)
-    Usage (last_line Usage) c.say.result c.say.ensures.said c.say.ensures.counts tt
+    said_answers words (g.H.Host.told c.args.host.now) (g.H.Host.told c.refuse_words.new.host) (g.H.Host.counts c.args.host.now) (g.H.Host.counts c.args.host.now) (g.H.Host.counts c.refuse_words.new.host)
+    Usage (last_line Usage) c.refuse_words.result c.refuse_words.ensures.said c.refuse_words.ensures.counts tt
     (no_form_says words (g.H.Host.told c.args.host.now) (sym (of words c.args.command _ is c.in-Unknown.is)))
 
 -- a preview
@@ -42,8 +42,8 @@ returns-in-Ok-clause-answers g c words is =
 -- a refused preview
 pub returns-in-Err-clause-answers : goal.returns-in-Err-clause-answers
 returns-in-Err-clause-answers g c words is =
-    said_answers words (g.H.Host.told c.args.host.now) (g.H.Host.told c.say-in-Err.new.host) (g.H.Host.counts c.args.host.now) (g.H.Host.counts c.preview.new.host) (g.H.Host.counts c.say-in-Err.new.host)
-    c.in-Err.outcome (last_line c.in-Err.outcome) c.say-in-Err.result (rw c.in-Err.ensures.told at c.say-in-Err.ensures.said) c.say-in-Err.ensures.counts
+    said_answers words (g.H.Host.told c.args.host.now) (g.H.Host.told c.say.new.host) (g.H.Host.counts c.args.host.now) (g.H.Host.counts c.preview.new.host) (g.H.Host.counts c.say.new.host)
+    c.in-Err.outcome (last_line c.in-Err.outcome) c.say.result (rw c.in-Err.ensures.told at c.say.ensures.said) c.say.ensures.counts
     (refused_cause (g.H.Host.counts c.args.host.now) (g.H.Host.counts c.preview.new.host) c.in-Err.outcome c.in-Err.ensures.cause)
     (preview_refuses words _ (g.H.Host.told c.args.host.now) c.in-Err.outcome (g.H.Host.counts c.args.host.now) (g.H.Host.counts c.preview.new.host) (sym (of words c.args.command _ is c.in-Preview.is)) c.in-Err.ensures.cause c.in-Err.ensures.answer)
 
@@ -51,8 +51,8 @@ returns-in-Err-clause-answers g c words is =
 
 pub returns-in-Unknown-clause-crash : goal.returns-in-Unknown-clause-crash
 returns-in-Unknown-clause-crash g c words is =
-    command_leaves g.H.Host.moment g.H.Host.left_since words None c.args.host.now c.say.new.host (g.H.Host.told c.args.host.now) Usage (last_line Usage) (of words c.args.command _ is c.in-Unknown.is) (λ s left h. h)
-    (no_form_says words (g.H.Host.told c.args.host.now) (sym (of words c.args.command _ is c.in-Unknown.is))) (λ left since. g.met.H.Host.only_now c.args.host.now left since) c.say.ensures.time
+    command_leaves g.H.Host.moment g.H.Host.left_since words None c.args.host.now c.refuse_words.new.host (g.H.Host.told c.args.host.now) Usage (last_line Usage) (of words c.args.command _ is c.in-Unknown.is) (λ s left h. h)
+    (no_form_says words (g.H.Host.told c.args.host.now) (sym (of words c.args.command _ is c.in-Unknown.is))) (λ left since. g.met.H.Host.only_now c.args.host.now left since) c.refuse_words.ensures.time
 
 pub returns-in-Ok-clause-crash : goal.returns-in-Ok-clause-crash
 returns-in-Ok-clause-crash g c words is =
@@ -63,10 +63,10 @@ returns-in-Ok-clause-crash g c words is =
 
 pub returns-in-Err-clause-crash : goal.returns-in-Err-clause-crash
 returns-in-Err-clause-crash g c words is =
-    command_leaves_behind g.H.Host.moment g.H.Host.left_since words _ c.args.host.now c.preview.new.host c.say-in-Err.new.host
+    command_leaves_behind g.H.Host.moment g.H.Host.left_since words _ c.args.host.now c.preview.new.host c.say.new.host
     (g.H.Host.told c.args.host.now) (g.H.Host.told c.preview.new.host) c.in-Err.outcome (last_line c.in-Err.outcome) (of words c.args.command _ is c.in-Preview.is) (λ s left h. h)
     (preview_refuses words _ (g.H.Host.told c.args.host.now) c.in-Err.outcome (g.H.Host.counts c.args.host.now) (g.H.Host.counts c.preview.new.host) (sym (of words c.args.command _ is c.in-Preview.is)) c.in-Err.ensures.cause c.in-Err.ensures.answer) c.preview.ensures.told
-    (λ left since. g.met.H.Host.only_now c.args.host.now left since) c.preview.ensures.time c.say-in-Err.ensures.time
+    (λ left since. g.met.H.Host.only_now c.args.host.now left since) c.preview.ensures.time c.say.ensures.time
 
 pub returns-in-Ok-clause-goes : goal.returns-in-Ok-clause-goes
 returns-in-Ok-clause-goes g c =
@@ -74,15 +74,15 @@ returns-in-Ok-clause-goes g c =
 
 pub returns-in-Err-clause-goes : goal.returns-in-Err-clause-goes
 returns-in-Err-clause-goes g c =
-    g.met.H.Host.continues c.args.host.now c.preview.new.host c.say-in-Err.new.host c.preview.ensures.goes c.say-in-Err.ensures.goes
+    g.met.H.Host.continues c.args.host.now c.preview.new.host c.say.new.host c.preview.ensures.goes c.say.ensures.goes
 
 -- ---- where nothing failed
 
 pub returns-in-Err-clause-complete : goal.returns-in-Err-clause-complete
 returns-in-Err-clause-complete g c words is =
-    said_completes words _ (g.H.Host.told c.args.host.now) (g.H.Host.told c.say-in-Err.new.host) (g.H.Host.told c.preview.new.host)
-    (g.H.Host.counts c.args.host.now) (g.H.Host.counts c.preview.new.host) (g.H.Host.counts c.say-in-Err.new.host)
-    c.in-Err.outcome c.say-in-Err.result (sym (of words c.args.command _ is c.in-Preview.is)) c.say-in-Err.ensures.said c.say-in-Err.ensures.counts
+    said_completes words _ (g.H.Host.told c.args.host.now) (g.H.Host.told c.say.new.host) (g.H.Host.told c.preview.new.host)
+    (g.H.Host.counts c.args.host.now) (g.H.Host.counts c.preview.new.host) (g.H.Host.counts c.say.new.host)
+    c.in-Err.outcome c.say.result (sym (of words c.args.command _ is c.in-Preview.is)) c.say.ensures.said c.say.ensures.counts
     c.in-Err.ensures.counts c.in-Err.ensures.cause c.in-Err.ensures.answer
 
 pub returns-in-Ok-clause-complete : goal.returns-in-Ok-clause-complete
@@ -251,8 +251,8 @@ returns-in-CheckPlan-clause-complete g c words is =
 
 pub returns-in-Unknown-clause-headline : goal.returns-in-Unknown-clause-headline
 returns-in-Unknown-clause-headline g c words is =
-    headline g.H.Host.moment g.H.Host.left_since words _ (g.H.Host.told c.args.host.now) (g.H.Host.told c.say.new.host) c.args.host.now c.say.new.host
-    (g.H.Host.counts c.args.host.now) (g.H.Host.counts c.say.new.host) c.say.result (of words c.args.command _ is c.in-Unknown.is) tt c.asked_has_one_answer.ensures (returns-in-Unknown-clause-answers g c words is) (returns-in-Unknown-clause-crash g c words is)
+    headline g.H.Host.moment g.H.Host.left_since words _ (g.H.Host.told c.args.host.now) (g.H.Host.told c.refuse_words.new.host) c.args.host.now c.refuse_words.new.host
+    (g.H.Host.counts c.args.host.now) (g.H.Host.counts c.refuse_words.new.host) c.refuse_words.result (of words c.args.command _ is c.in-Unknown.is) tt c.asked_has_one_answer.ensures (returns-in-Unknown-clause-answers g c words is) (returns-in-Unknown-clause-crash g c words is)
 
 pub returns-in-Ok-clause-headline : goal.returns-in-Ok-clause-headline
 returns-in-Ok-clause-headline g c words is =
@@ -261,8 +261,8 @@ returns-in-Ok-clause-headline g c words is =
 
 pub returns-in-Err-clause-headline : goal.returns-in-Err-clause-headline
 returns-in-Err-clause-headline g c words is =
-    headline g.H.Host.moment g.H.Host.left_since words _ (g.H.Host.told c.args.host.now) (g.H.Host.told c.say-in-Err.new.host) c.args.host.now c.say-in-Err.new.host
-    (g.H.Host.counts c.args.host.now) (g.H.Host.counts c.say-in-Err.new.host) c.say-in-Err.result (of words c.args.command _ is c.in-Preview.is) tt c.asked_has_one_answer.ensures (returns-in-Err-clause-answers g c words is) (returns-in-Err-clause-crash g c words is)
+    headline g.H.Host.moment g.H.Host.left_since words _ (g.H.Host.told c.args.host.now) (g.H.Host.told c.say.new.host) c.args.host.now c.say.new.host
+    (g.H.Host.counts c.args.host.now) (g.H.Host.counts c.say.new.host) c.say.result (of words c.args.command _ is c.in-Preview.is) tt c.asked_has_one_answer.ensures (returns-in-Err-clause-answers g c words is) (returns-in-Err-clause-crash g c words is)
 
 pub returns-in-Check-clause-headline : goal.returns-in-Check-clause-headline
 returns-in-Check-clause-headline g c words is =
@@ -323,7 +323,7 @@ returns-in-CheckPlan-clause-headline g c words is =
 
 pub returns-in-Unknown-clause-intent : goal.returns-in-Unknown-clause-intent
 returns-in-Unknown-clause-intent g c words is =
-    keeps_intent g.H.Host.moment g.H.Host.left_since words (g.H.Host.told c.args.host.now) c.args.host.now c.say.new.host (returns-in-Unknown-clause-crash g c words is)
+    keeps_intent g.H.Host.moment g.H.Host.left_since words (g.H.Host.told c.args.host.now) c.args.host.now c.refuse_words.new.host (returns-in-Unknown-clause-crash g c words is)
 
 pub returns-in-Ok-clause-intent : goal.returns-in-Ok-clause-intent
 returns-in-Ok-clause-intent g c words is =
@@ -331,7 +331,7 @@ returns-in-Ok-clause-intent g c words is =
 
 pub returns-in-Err-clause-intent : goal.returns-in-Err-clause-intent
 returns-in-Err-clause-intent g c words is =
-    keeps_intent g.H.Host.moment g.H.Host.left_since words (g.H.Host.told c.args.host.now) c.args.host.now c.say-in-Err.new.host (returns-in-Err-clause-crash g c words is)
+    keeps_intent g.H.Host.moment g.H.Host.left_since words (g.H.Host.told c.args.host.now) c.args.host.now c.say.new.host (returns-in-Err-clause-crash g c words is)
 
 pub returns-in-Check-clause-intent : goal.returns-in-Check-clause-intent
 returns-in-Check-clause-intent g c words is =
@@ -381,7 +381,7 @@ returns-in-CheckPlan-clause-intent g c words is =
 
 pub returns-in-Unknown-clause-resumes : goal.returns-in-Unknown-clause-resumes
 returns-in-Unknown-clause-resumes g c words is =
-    never_resumes words (g.H.Host.told c.args.host.now) (g.H.Host.counts c.args.host.now) (g.H.Host.counts c.say.new.host) c.say.result (of words c.args.command _ is c.in-Unknown.is)
+    never_resumes words (g.H.Host.told c.args.host.now) (g.H.Host.counts c.args.host.now) (g.H.Host.counts c.refuse_words.new.host) c.refuse_words.result (of words c.args.command _ is c.in-Unknown.is)
 
 pub returns-in-Ok-clause-resumes : goal.returns-in-Ok-clause-resumes
 returns-in-Ok-clause-resumes g c words is =
@@ -391,7 +391,7 @@ returns-in-Ok-clause-resumes g c words is =
 pub returns-in-Err-clause-resumes : goal.returns-in-Err-clause-resumes
 returns-in-Err-clause-resumes g c words is =
     resumes c.listed_moves_have_models.ensures c.asked_has_one_answer.ensures words (g.H.Host.told c.args.host.now)
-    (g.H.Host.counts c.args.host.now) (g.H.Host.counts c.say-in-Err.new.host) c.say-in-Err.result (returns-in-Err-clause-complete g c words is)
+    (g.H.Host.counts c.args.host.now) (g.H.Host.counts c.say.new.host) c.say.result (returns-in-Err-clause-complete g c words is)
 
 pub returns-in-Check-clause-resumes : goal.returns-in-Check-clause-resumes
 returns-in-Check-clause-resumes g c words is =
@@ -457,7 +457,7 @@ pub returns-in-Ok-clause-only_usage : goal.returns-in-Ok-clause-only_usage
 returns-in-Ok-clause-only_usage g c none = told_usage c.args.command _ c.show.result c.in-Preview.is refl none
 
 pub returns-in-Err-clause-only_usage : goal.returns-in-Err-clause-only_usage
-returns-in-Err-clause-only_usage g c none = told_usage c.args.command _ c.say-in-Err.result c.in-Preview.is refl none
+returns-in-Err-clause-only_usage g c none = told_usage c.args.command _ c.say.result c.in-Preview.is refl none
 
 pub returns-in-Check-clause-only_usage : goal.returns-in-Check-clause-only_usage
 returns-in-Check-clause-only_usage g c none = told_usage c.args.command _ c.check.result c.in-Check.is refl none
