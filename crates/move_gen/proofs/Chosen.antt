@@ -14,6 +14,7 @@ use Rattle.move_core.specs.Generated.{HasNoWant, IsSeed}
 use Rattle.move_core.specs.Rulebook.{Rulebook}
 use Rattle.move_gen.specs.Adding.{IsAs}
 use Rattle.move_gen.specs.Choosing.{IsPair, IsSeedOfFirst}
+use Rattle.move_gen.specs.FieldWants.{AreFree}
 use Rattle.move_gen.specs.declared.adding.Fields.{Fields}
 use Rattle.move_gen.specs.declared.adding.Fields.TheVariants.{All, Seed}
 use Rattle.move_gen.specs.Giving.{IsOfFirst, IsOfSome}
@@ -85,6 +86,10 @@ seed_ends book goal t k e rising i end seed h = record { rising = h.rising; fiel
 
     of_field : (f : List ℕ) (v : Value) → find f e ≡ Some v → IsOfSome IsPair e (f, v)
     of_field f v is = record { name = f; part = v; there = is; is = refl }
+
+-- where no field has a want the entry is its seed
+pub whole_seed : (book : Rulebook) (goal : Config) (t k : List ℕ) (e : Entry) → IsRising e → AreFree book goal t k → IsSeed book goal t k e e
+whole_seed book goal t k e rising free = record { rising = rising; fields = λ f v. (λ is. (is, free f), λ both. both.0) }
 
 -- two seeds of an entry are one
 pub same_seed : (book : Rulebook) (goal : Config) (t k : List ℕ) (e x y : Entry) → IsSeed book goal t k e x → IsSeed book goal t k e y → x ≡ y

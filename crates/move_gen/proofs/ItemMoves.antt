@@ -19,7 +19,7 @@ use Rattle.std.proofs.lemmas.Option.{slice_get-get_or, slice_get_within}
 use Rattle.move_core.specs.Generated.{IsItemAdded}
 use Rattle.move_gen.specs.Given.{IsOfTable, own_move}
 use Rattle.move_gen.specs.Giving.{IsOfSome}
-use Rattle.move_gen.specs.ItemsGiven.{HasNewItem, IsAddedItem, IsItemAt, IsItemOfField, IsOfItems, IsOfItemsOfEntry, IsOfLists, IsRemovedItem}
+use Rattle.move_gen.specs.ItemsGiven.{HasNewItem, HasNoItems, IsAddedItem, IsItemAt, IsItemOfField, IsOfItems, IsOfItemsOfEntry, IsOfLists, IsRemovedItem}
 use Rattle.move_gen.proofs.Owned.{of_its_place, owned}
 use Rattle.move_gen.proofs.Parted.{IsEntryAt, IsValueAt, entry_there, there_entry, there_value, value_there}
 
@@ -154,20 +154,15 @@ of_first old new p i first g = (
 pub same_list : (old new : List (List ℕ)) (p : Place) → old ≡ new → (g : Generated) → ¬ IsOfItems old new p g
 same_list old new p same g h = h.first.differs (ap (λ xs. slice_get xs h.index) same)
 
-same_value : (u v : Value) (p : Place) → u ≡ v → (g : Generated) → ¬ IsOfLists p u v g
-same_value u v p same g is = alike v (subst (λ w. IsOfLists p w v g) same is)
-  where
-    alike : (w : Value) → ¬ IsOfLists p w w g
-    alike (Text s) h = h
-    alike (Listed ss) h = same_list ss ss p refl g h
-
 -- ---- one entry
 
--- an entry that stays the same has none
-pub same_entry : (t k : List ℕ) (old new : Entry) → old ≡ new → (g : Generated) → ¬ IsOfSome (IsItemOfField t k old) new g
-same_entry t k old new same g h =
-    same_value h.is.before h.part (t ∷ k ∷ h.name ∷ [])
-    (same_Some h.is.before h.part (sym h.is.there ∙ ap (find h.name) same ∙ h.there)) g h.is.is
+-- a text has none
+pub no_items : (v : Value) (s : List ℕ) → v ≡ Text s → HasNoItems v
+no_items v s is p before g h = of_text before (subst (λ u. IsOfLists p before u g) is h)
+  where
+    of_text : (u : Value) → IsOfLists p u (Text s) g → ⊥
+    of_text (Text t) h = h
+    of_text (Listed ts) h = h
 
 -- the value is the one that the field has
 pub of_before : (t k f : List ℕ) (old : Entry) (u v : Value) → Some u ≡ find f old → (g : Generated) → IsOfLists (t ∷ k ∷ f ∷ []) u v g ↔ IsItemOfField t k old f v g

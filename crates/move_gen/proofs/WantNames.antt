@@ -1,6 +1,7 @@
 -- Positions of a want and their names.
 use Rattle.std.proofs.Common.{◌≡◌, ◌≢◌, ◌↔◌, ◌⊎◌, IsTrue, ℕ, Bool, true, false, List, [], ◌∷◌, slice_get, inl, inr, refl, sym, ap, ◌∙◌, subst, true≢false}
-use Rattle.std.specs.Prelude.{Option, Some, None, option_map, option_and_then}
+use Rattle.std.specs.Prelude.{Option, Some, None, is_some, option_map, option_and_then}
+use denote.Ref.{Bor}
 use Rattle.conf_doc.specs.declared.configuration.Config.{Config}
 use Rattle.conf_doc.specs.declared.configuration.Entry.{Entry}
 use Rattle.conf_doc.specs.declared.configuration.Table.{Table}
@@ -87,6 +88,11 @@ module _ (c : Config) (t k f : List ℕ) (p : WantPlace) (at : WantAt) (named : 
   misses is =
       let there = names_at c t k f p is in
       same_Some _ _ (sym named.field ∙ ap (λ e. field_name e p.field) (same_fields c at.table.now at.key.now t k p.table p.key named.entry there.0) ∙ there.1)
+
+-- where no field is given it isn't that one
+pub unnamed : (f : List ℕ) (o : Option (Bor (List ℕ))) (b : Bool) → b ≡ is_some o → b ≡ false → IsTrue b ↔ (option_map (λ s. s.now) o ≡ Some f)
+unnamed f None b is fails = (λ t. absurd (true≢false (sym t ∙ fails)), λ e. absurd cc)
+unnamed f (Some s) b is fails = absurd (true≢false (sym is ∙ fails))
 
 -- ---- the walk
 

@@ -7,6 +7,8 @@ use Rattle.conf_check.specs.Wants.{Want, IsWantAt}
 use Rattle.conf_check.specs.declared.want_iter.WantIter.{WantIter}
 use Rattle.conf_check.specs.declared.want_iter.WantPlace.{WantPlace}
 use Rattle.move_core.specs.Contexts.{names_of}
+use Rattle.move_core.specs.Generated.{HasNoWant}
+use Rattle.move_core.specs.Rulebook.{Rulebook}
 use Rattle.yang_model.specs.ModelSets.{ModelSet}
 
 -- each want of the entry is ahead or isn't at the field, and no others are ahead
@@ -18,3 +20,7 @@ pub record AreElsewhere
       (p : WantPlace) (w : Want) → IsEntryAt c t k p.table p.key → IsWantAt asked c p w
       → (names_of c p ≢ Some (t ∷ k ∷ f ∷ [])) ⊎ IsWantAhead s p w
   pub within : (p : WantPlace) (w : Want) → IsWantAhead s p w → IsEntryAt c t k p.table p.key
+
+-- no field of the entry has a want
+abbrev pub AreFree : Rulebook → Config → List ℕ → List ℕ → Type 0
+AreFree book goal t k = (f : List ℕ) → HasNoWant book goal (t ∷ k ∷ f ∷ [])

@@ -44,6 +44,10 @@ IsOfLists p (Text s) v g = ⊥
 IsOfLists p (Listed old) (Text s) g = ⊥
 IsOfLists p (Listed old) (Listed new) g = IsOfItems old new p g
 
+-- none are of that value in goal's entry
+abbrev pub HasNoItems : Value → Type 0
+HasNoItems v = (p : Place) (before : Value) (g : Generated) → ¬ IsOfLists p before v g
+
 -- of the value of a field in cur's entry and in goal's
 pub record IsItemOfField (t k : List ℕ) (old : Entry) (f : List ℕ) (v : Value) (g : Generated)
     : Type 0 where

@@ -1,5 +1,5 @@
 //! The adds of entries that cur lacks.
-ghost use Rattle.std.specs.Prelude.{◌≡◌, ◌<◌, length, IfOk};
+ghost use Rattle.std.specs.Prelude.{◌≡◌, ◌<◌, [], ◌∷◌, length, IfOk};
 ghost use Rattle.move_core.specs.Generated.{added_entry};
 ghost use Rattle.move_gen.specs.Adding.{IsAs, class_of};
 ghost use Rattle.move_gen.specs.EntryLaws.{added_for};
@@ -77,28 +77,30 @@ impl<'a> EntryMoves for AddedEntries<'a> {
             return Ok(());
         }
         let new = self.fields.choose(alloc, table, key, entry)?;
-        let mv = added_entry(alloc, self.cur, table, key, new)?;
         let place = Path::new(alloc, &[table, key])?;
+        let mv = added_entry(alloc, self.cur, &place, table, key, new)?;
         give(mv, place, self.fields.class(), out)
     }
 
     ghost for_entries = { λ s. added_for (IsAs s.fields) (class_of s.fields) s.cur.now };
 }
 
-/// The add of an entry to its table, or where that isn't there, of the table that holds it alone.
+/// The add of an entry at its place, or where its table isn't there, of the table that holds it alone.
 fn added_entry(
     alloc: Global,
     cur: &Config,
+    place: &Path,
     table: &str,
     key: &str,
     entry: Entry,
 ) -> Result<Move, Memory>
     requires table { 0 < length table.now }
     requires key { 0 < length key.now }
+    requires place { place.now ≡ table.now ∷ key.now ∷ [] }
     ensures { IfOk result (λ m. m ≡ added_entry cur.now table.now key.now entry) }
 {
     if cur.table(table).is_some() {
-        let path = Path::new(alloc, &[table, key])?;
+        let path = place.copy(alloc)?;
         return Ok(Move::Add(path, Part::Entry(entry)));
     }
     let path = Path::new(alloc, &[table])?;

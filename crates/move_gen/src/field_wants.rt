@@ -2,6 +2,7 @@
 ghost use Rattle.std.specs.Prelude.{◌≡◌, ◌↔◌, [], ◌∷◌, option_map, Some, IsTrue};
 ghost use Rattle.move_core.specs.Contexts.{rulebook};
 ghost use Rattle.move_core.specs.Generated.{HasNoWant};
+ghost use Rattle.move_gen.specs.FieldWants.{AreFree};
 
 use conf_check::{WantAt, entry_wants};
 use conf_doc::Config;
@@ -24,6 +25,18 @@ pub(crate) fn has_no_want(ctx: &Ctx, goal: &Config, table: &str, key: &str, fiel
 {
     for at in entry_wants(&ctx.models, goal, table, key) {
         if is_at_field(&at, field) {
+            return false;
+        }
+    }
+    true
+}
+
+/// Whether no item of any field has a want.
+pub(crate) fn has_free_fields(ctx: &Ctx, goal: &Config, table: &str, key: &str) -> bool
+    ensures { IsTrue result → AreFree (rulebook ctx.now) goal.now table.now key.now }
+{
+    for at in entry_wants(&ctx.models, goal, table, key) {
+        if at.field.is_some() {
             return false;
         }
     }

@@ -4,7 +4,7 @@ ghost use Rattle.std.specs.List.{Contains};
 ghost use Rattle.move_core.specs.Generated.{IsFirstDifference, IsFromItems, IsItemAdded, IsItemRemoved};
 ghost use Rattle.move_gen.specs.EntryLaws.{lists_for};
 ghost use Rattle.move_gen.specs.Giving.{Gives, IsOfSome};
-ghost use Rattle.move_gen.specs.ItemsGiven.{HasNewItem, IsAddedItem, IsItemAt, IsItemOfField, IsOfItems, IsOfItemsOfEntry, IsOfLists, IsRemovedItem};
+ghost use Rattle.move_gen.specs.ItemsGiven.{HasNewItem, HasNoItems, IsAddedItem, IsItemAt, IsItemOfField, IsOfItems, IsOfItemsOfEntry, IsOfLists, IsRemovedItem};
 
 use crate::beside::field_near;
 use crate::entries::{EntryMoves, give_entries};
@@ -76,7 +76,7 @@ impl<'a> EntryMoves for ChangedLists<'a> {
         out: &mut Vec<Generated>,
     ) -> Result<(), Memory> {
         match there {
-            Some(old) => give_of_entry(alloc, table, key, old, entry, out),
+            Some(old) => give_of_fields(alloc, table, key, old, entry, out),
             None => Ok(()),
         }
     }
@@ -252,7 +252,18 @@ fn give_of_values(
     }
 }
 
-/// Puts those of a field of goal's entry, where cur's entry has it. There it is looked for first at an index.
+/// Whether a value is a text. Then it has no items.
+fn is_text(value: &Value) -> bool
+    ensures { IsTrue result → HasNoItems value.now }
+{
+    match value {
+        Value::Text(_) => true,
+        Value::List(_) => false,
+    }
+}
+
+/// Puts those of a field of goal's entry, where cur's entry has it. There it is looked for first at an index, and
+/// only where goal's value is a list.
 fn give_of_field(
     alloc: Global,
     table: &str,
@@ -269,6 +280,9 @@ fn give_of_field(
     ensures { let Is = IsItemOfField table.now key.now old.now field.now value.now in
         Gives Is result out.old.items out.new.items }
 {
+    if is_text(value) {
+        return Ok(());
+    }
     match field_near(old, field, near) {
         Some(before) => give_of_values(alloc, table, key, field, before, value, out),
         None => Ok(()),
@@ -302,26 +316,6 @@ fn give_of_fields(
         )?;
     }
     Ok(())
-}
-
-/// Puts those of an entry; for one that stays the same there are none.
-fn give_of_entry(
-    alloc: Global,
-    table: &str,
-    key: &str,
-    old: &Entry,
-    new: &Entry,
-    out: &mut Vec<Generated>,
-) -> Result<(), Memory>
-    requires table { 0 < length table.now }
-    requires key { 0 < length key.now }
-    ensures { let Is = IsOfSome (IsItemOfField table.now key.now old.now) new.now in
-        Gives Is result out.old.items out.new.items }
-{
-    if old.same(new) {
-        return Ok(());
-    }
-    give_of_fields(alloc, table, key, old, new, out)
 }
 
 /// Puts those of all entries.

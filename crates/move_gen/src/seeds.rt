@@ -6,7 +6,7 @@ ghost use Rattle.move_gen.specs.Giving.{Gives};
 
 use crate::adding::{AddedEntries, Fields};
 use crate::entries::give_entries;
-use crate::field_wants::has_no_want;
+use crate::field_wants::{has_free_fields, has_no_want};
 use conf_doc::{Config, Entry};
 use host_core::Memory;
 use move_core::{Ctx, Generated, MoveGen};
@@ -63,7 +63,7 @@ fn give_seeds(
     give_entries(alloc, goal, &added, out)
 }
 
-/// The fields of an entry of goal that have no want there.
+/// The fields of an entry of goal that have no want there: all, where no field has one.
 pub(crate) fn seed_of(
     alloc: Global,
     ctx: &Ctx,
@@ -74,6 +74,10 @@ pub(crate) fn seed_of(
 ) -> Result<Entry, Memory>
     ensures { IfOk result (IsSeed (rulebook ctx.now) goal.now table.now key.now entry.now) }
 {
+    if has_free_fields(ctx, goal, table, key) {
+        let whole = entry.copy(alloc)?;
+        return Ok(whole);
+    }
     let mut seed = Entry::new(alloc);
     for i in 0..entry.len() {
         let field = entry.name_at(i);

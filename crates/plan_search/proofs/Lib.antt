@@ -1,13 +1,16 @@
+pub mod AfterMove
 pub mod Ended
 pub mod Exact
 pub mod FieldMoves
 pub mod Frames
+pub mod Joined
 pub mod Kept
 pub mod Members
 pub mod OneAnswer
 pub mod Orders
 pub mod Pairs
 pub mod Parts
+pub mod Placed
 pub mod Positions
 pub mod Refused
 pub mod Routes

@@ -6,6 +6,8 @@ pub mod FirstWays
 pub mod Searches
 -- what only private clauses cite
 pub mod Answers
+pub mod ConfigKeys
+pub mod Hashes
 pub mod Kits
 pub mod Problems
 pub mod Refusals

@@ -5,6 +5,7 @@ ghost use Rattle.move_core.specs.Moves.{step};
 ghost use Rattle.move_lists.specs.declared.firsts.First.{First};
 ghost use Rattle.plan_search.specs.Problems.{Problem, IsLawful, IsPart, part_count};
 
+use crate::hashed::Hashed;
 use conf_doc::Config;
 use host_core::Memory;
 use move_core::Move;
@@ -33,7 +34,7 @@ pub(crate) trait Expanding {
         ensures { result.now ≡ (problem self.now).start };
 
     /// Where it is to end.
-    fn goal(&self) -> &Config
+    fn goal(&self) -> &Hashed
         ensures { result.now ≡ (problem self.now).goal };
 
     /// What the parts of the list at a configuration are made from.

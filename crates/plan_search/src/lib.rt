@@ -4,6 +4,8 @@
 mod early_refusals;
 mod errors;
 mod expanding;
+mod goals;
+mod hashed;
 mod laws;
 mod met_set;
 mod planning;

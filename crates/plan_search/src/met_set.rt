@@ -2,7 +2,7 @@
 ghost use Rattle.std.specs.Prelude.{◌≡◌, [], ◌∷◌, ◌++◌, length, IfOk, MatchBool};
 ghost use Rattle.std.specs.List.{Contains};
 
-use conf_doc::Config;
+use crate::hashed::Hashed;
 use host_core::Memory;
 use indexmap::IndexSet;
 use std::alloc::Global;
@@ -11,7 +11,7 @@ use std::marker::Model;
 /// Configurations, each once. Contracts see the list of them.
 #[derive(Drop)]
 pub(crate) struct Met {
-    configs: IndexSet<Config>,
+    configs: IndexSet<Hashed>,
 }
 
 impl Model for Met {
@@ -41,7 +41,7 @@ impl Met {
     }
 
     /// Adds one at the end where it is new, and says whether it was; else nothing changes.
-    pub(crate) fn insert(&mut self, config: Config) -> Result<bool, Memory>
+    pub(crate) fn insert(&mut self, config: Hashed) -> Result<bool, Memory>
         ensures { IfOk result (λ new. MatchBool new
             (¬ Contains self.old config × (self.new ≡ self.old ++ config ∷ []))
             (Contains self.old config × (self.new ≡ self.old))) }

@@ -8,6 +8,8 @@ ghost use Rattle.plan_search.specs.Searches.{IsSearchAnswer};
 
 use crate::early_refusals::{changes_entry, is_refused};
 use crate::expanding::Expanding;
+use crate::goals::goal_of_start;
+use crate::hashed::Hashed;
 use crate::rules::keep_rules;
 use crate::searching::find_plan;
 use crate::{SearchError, Steps};
@@ -26,7 +28,7 @@ use std::sync::ledger::Ledger;
 struct KitMoves<'a> {
     ctx: &'a Ctx,
     start: &'a Config,
-    goal: &'a Config,
+    goal: &'a Hashed,
     gens: PhantomData<Vec<Box<dyn MoveGen>>>,
     exts: PhantomData<Vec<Box<dyn MoveExt>>>,
     rules: PhantomData<Vec<Box<dyn MoveRule>>>,
@@ -56,14 +58,14 @@ impl<'a> Expanding for KitMoves<'a> {
         self.start
     }
 
-    fn goal(&self) -> &Config
+    fn goal(&self) -> &Hashed
         ensures { result.now ≡ self.now.goal.now }
     {
         self.goal
     }
 
     fn firsts(&self, alloc: Global, kit: &mut Kit, cur: &Config) -> Result<Firsts, Memory> {
-        first_moves(alloc, self.ctx, kit, self.start, cur, self.goal)
+        first_moves(alloc, self.ctx, kit, self.start, cur, self.goal.config())
     }
 
     fn list(
@@ -80,7 +82,7 @@ impl<'a> Expanding for KitMoves<'a> {
             kit,
             self.start,
             cur,
-            self.goal,
+            self.goal.config(),
             firsts,
             part + 1,
         )
@@ -99,7 +101,8 @@ impl<'a> Expanding for KitMoves<'a> {
             return Ok(None);
         }
         let next = step(alloc, cur, mv)?;
-        if !keep_rules(self.ctx, kit, cur, &next, self.goal, mv) || is_same(cur, &next, mv) {
+        let goal = self.goal.config();
+        if !keep_rules(self.ctx, kit, cur, &next, goal, mv) || is_same(cur, &next, mv) {
             Ok(None)
         } else {
             Ok(Some(next))
@@ -119,14 +122,13 @@ fn is_same(cur: &Config, next: &Config, mv: &Move) -> bool
     next.same(cur)
 }
 
-/// The first plan from start to goal, by the moves and rules of the kit. Fewer than budget configurations
-/// are expanded, each a step.
-pub fn search<L: Ledger>(
+/// The first plan from start to goal, by a kit that begins with the models.
+fn search_by_kit<L: Ledger>(
     alloc: Global,
     ctx: &Ctx,
     kit: &mut Kit,
     start: &Config,
-    goal: &Config,
+    goal: &Hashed,
     budget: u32,
     steps: &mut Steps<L>,
 ) -> Result<Plan, SearchError>
@@ -149,4 +151,33 @@ pub fn search<L: Ledger>(
         rules: PhantomData,
     };
     find_plan(alloc, &source, kit, budget, steps)
+}
+
+/// The first plan from start to goal, by the moves and rules of the kit. Fewer than budget configurations
+/// are expanded, each a step.
+pub fn search<L: Ledger>(
+    alloc: Global,
+    ctx: &Ctx,
+    kit: &mut Kit,
+    start: &Config,
+    goal: &Config,
+    budget: u32,
+    steps: &mut Steps<L>,
+) -> Result<Plan, SearchError>
+    requires kinds { ⟦<Kit as Boxes>⟧.HasKinds kit.old }
+    requires named { IsNamed ctx.now }
+    requires start { IsValidIn ctx.now start.now }
+    requires goal { IsValidIn ctx.now goal.now }
+    requires budget { 0 < budget }
+    ensures kinds { ⟦<Kit as Boxes>⟧.HasKinds kit.new }
+    ensures answer { IsSearchAnswer (rulebook ctx.now) start.now goal.now budget result }
+    ensures steps { steps.new < steps.old + budget }
+{
+    match goal_of_start(alloc, start, goal) {
+        Ok(shared) => {
+            let goal = Hashed::new(shared);
+            search_by_kit(alloc, ctx, kit, start, &goal, budget, steps)
+        }
+        Err(_) => Err(SearchError::Memory),
+    }
 }

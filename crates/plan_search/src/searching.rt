@@ -6,10 +6,10 @@ ghost use Rattle.plan_search.specs.Searching.{AreAsked, AreMet, IsFound, IsPasse
 ghost use Rattle.plan_search.specs.Stacks.{AtTop, IsSpent, configs_of, new_spot, spots, taken};
 
 use crate::expanding::{Expanding, PART_COUNT};
+use crate::hashed::Hashed;
 use crate::met_set::Met;
 use crate::stacks::Stack;
 use crate::{SearchError, Steps};
-use conf_doc::Config;
 use host_core::{Memory, Sequence};
 use move_core::{Move, Plan};
 use move_lists::Firsts;
@@ -22,7 +22,7 @@ enum Found {
     /// A move leads to goal.
     Goal(Move),
     /// A move leads to a configuration that wasn't met.
-    New(Move, Config),
+    New(Move, Hashed),
     /// No move is left.
     Nothing,
 }
@@ -45,15 +45,17 @@ fn try_one<S: Expanding>(
         (IsStillUnderWay (S.problem source.now) met.old met.new (spots stack.now) (taken stack.now))
         (IsFound (S.problem source.now) met.old met.new (spots stack.now) (taken stack.now))) }
 {
-    let next = match source.try_move(alloc, kit, stack.top(), &mv)? {
+    let top = stack.hashed_top();
+    let next = match source.try_move(alloc, kit, top.config(), &mv)? {
         None => return Ok(None),
         Some(next) => next,
     };
-    if next.same(source.goal()) {
+    let hashed = top.after(next, &mv);
+    if hashed.same(source.goal()) {
         return Ok(Some(Found::Goal(mv)));
     }
-    if met.insert(next.copy(alloc)?)? {
-        Ok(Some(Found::New(mv, next)))
+    if met.insert(hashed.copy(alloc)?)? {
+        Ok(Some(Found::New(mv, hashed)))
     } else {
         Ok(None)
     }
@@ -168,7 +170,7 @@ fn expand<L: Ledger>(
     alloc: Global,
     stack: &mut Stack,
     mv: Move,
-    next: Config,
+    next: Hashed,
     steps: &mut Steps<L>,
 ) -> Result<(), Memory>
     ensures spots { OnOk result (spots stack.new ≡ new_spot next ∷ spots stack.old) }
@@ -246,8 +248,9 @@ fn begin<S: Expanding, L: Ledger>(
     ensures steps { steps.new ≡ steps.old + 1 }
 {
     steps.tick();
-    met.insert(source.start().copy(alloc)?)?;
-    stack.push(alloc, source.start().copy(alloc)?)
+    let start = Hashed::new(source.start().copy(alloc)?);
+    met.insert(start.copy(alloc)?)?;
+    stack.push(alloc, start)
 }
 
 /// The first list of allowed moves from start to goal.
@@ -266,7 +269,7 @@ pub(crate) fn find_plan<S: Expanding, L: Ledger>(
     ensures answer { IsAnswer (S.problem source.now) budget result }
     ensures steps { steps.new < steps.old + budget }
 {
-    if source.start().same(source.goal()) {
+    if source.start().same(source.goal().config()) {
         return Ok(Sequence::new(alloc));
     }
     if budget == 1 {

@@ -4,6 +4,7 @@ ghost use Rattle.std.specs.Prelude.{◌≡◌, ◌↔◌, ◌<◌, [], ◌∷◌
 ghost use Rattle.plan_search.specs.Problems.{part_count};
 ghost use Rattle.plan_search.specs.Stacks.{HasMore, IsAfterTop, IsTop, OfTop, but_first, new_spot, spots, taken};
 
+use crate::hashed::Hashed;
 use conf_doc::Config;
 use host_core::{Memory, Sequence};
 use move_core::{Move, Plan};
@@ -13,7 +14,7 @@ use std::alloc::Global;
 /// try, the next one last.
 #[derive(Drop)]
 struct Frame {
-    config: Config,
+    config: Hashed,
     parts: u8,
     rest: Vec<Move>,
 }
@@ -49,6 +50,14 @@ impl Stack {
         requires { 0 < length (spots self.now) }
         ensures { IsTop (spots self.now) result.now }
     {
+        self.frames[self.frames.len() - 1].config.config()
+    }
+
+    /// The same with its hash.
+    pub(crate) fn hashed_top(&self) -> &Hashed
+        requires { 0 < length (spots self.now) }
+        ensures { IsTop (spots self.now) result.now }
+    {
         &self.frames[self.frames.len() - 1].config
     }
 
@@ -61,7 +70,7 @@ impl Stack {
     }
 
     /// Adds a configuration at which nothing was asked.
-    pub(crate) fn push(&mut self, alloc: Global, config: Config) -> Result<(), Memory>
+    pub(crate) fn push(&mut self, alloc: Global, config: Hashed) -> Result<(), Memory>
         ensures spots { OnOk result (spots self.new ≡ new_spot config ∷ spots self.old) }
         ensures taken { taken self.new ≡ taken self.old }
     {

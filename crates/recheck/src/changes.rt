@@ -12,7 +12,7 @@ ghost use Rattle.recheck.specs.Within.{IsLeft};
 ghost use Rattle.ref_index.specs.Agreements.{AgreeBut, entry_of};
 ghost use Rattle.ref_index.specs.Referrers.{want_for, HasWant};
 
-use crate::musts::drop_readers;
+use crate::musts::{drop_readers, one_may_read};
 use crate::verdicts::{Verdict, drop_at};
 use conf_check::musts_have_one_truth;
 use conf_doc::{Config, Entry, Table};
@@ -274,7 +274,8 @@ fn is_same_table(config: &Config, next: &Config, name: &str) -> bool
     }
 }
 
-/// Drops the verdicts on entries with a must that reads a table, unless it is the same in both.
+/// Drops the verdicts on entries with a must that reads a table, unless it is the same in both. The tables are compared only
+/// where a verdict's entry may have such a must.
 fn drop_readers_unless_same(
     verdicts: &mut Vec<Verdict>,
     models: &Models,
@@ -287,6 +288,9 @@ fn drop_readers_unless_same(
     ensures left { IsLeft (IsTurnedByTable models.now config.now next.now)
         verdicts.old.items verdicts.new.items }
 {
+    if !one_may_read(models, verdicts.as_slice(), name) {
+        return;
+    }
     if is_same_table(config, next, name) {
         return;
     }

@@ -95,7 +95,7 @@ fn may_read_at(models: &Models, verdicts: &[Verdict], i: usize, table: &str) -> 
 }
 
 /// The same of any verdict. Those of one table stand together, so its shapes are looked at once.
-fn one_may_read(models: &Models, verdicts: &[Verdict], table: &str) -> bool
+pub(crate) fn one_may_read(models: &Models, verdicts: &[Verdict], table: &str) -> bool
     ensures { OnFalse result (AreUnread models.now table.now verdicts.now) }
 {
     for i in 0..verdicts.len() {

@@ -13,14 +13,19 @@ use Rattle.conf_doc.specs.declared.configuration.Table.{Table}
 use Rattle.conf_doc.proofs.Edits.{same_Some}
 use Rattle.yang_model.specs.ModelSets.{ModelSet}
 use Rattle.conf_check.specs.Acceptance.{keys_of}
-use Rattle.conf_check.specs.Rows.{IsEntryAt}
+use Rattle.conf_check.specs.Rows.{Row, IsEntryAt, typed_text}
 use Rattle.ref_index.specs.Agreements.{AgreeBut, entry_of}
-use Rattle.ref_index.specs.EntryNames.{AddsChanged, AreDifferences, HasOthers, HoldsParts, IsNamed, entries_of}
+use Rattle.ref_index.specs.EntryNames.{AreDifferences, AreTogether, HasEntry, HasOthers, HoldsParts, IsNamed, StayNamed, entries_of}
+use Rattle.ref_index.specs.Referrers.{HasWant}
+use Rattle.ref_index.specs.Referring.{may_refer}
+use Rattle.ref_index.specs.Texts.{Has, HasNoneOf}
 use Rattle.ref_index.specs.declared.entry_names.EntryName.{EntryName}
 use Rattle.ref_index.specs.declared.text_sets.TextSet.{TextSet}
-use Rattle.ref_index.proofs.NamedEntries.{entry_of_key, finds_part, found_at, item_at, name_at, place_of_entry, same_keys}
-use Rattle.ref_index.proofs.SameEntries.{Satisfies, same_want}
-use Rattle.ref_index.proofs.SameWants.{HasKeys, changed_differ}
+use Rattle.ref_index.proofs.NamedEntries.{entry_of_key, entry_of_place, finds_part, found_at, item_at, name_at, place_of_entry, same_keys}
+use Rattle.ref_index.proofs.Leafrefs.{refers_nowhere}
+use Rattle.ref_index.proofs.SameEntries.{Satisfies, carried_want, row_of_want, same_want, text_of_want}
+use Rattle.ref_index.proofs.SameWants.{HasKeys, satisfies}
+use Rattle.ref_index.proofs.Unreferring.{SatisfiesElsewhere, wanted_elsewhere}
 
 -- one name, or another
 pub by_name : (a b : List ℕ) (P : Type 0) → (a ≡ b → P) → (a ≢ b → P) → P
@@ -101,24 +106,25 @@ module _ (a b : Config) (table key : List ℕ) (agree : AgreeBut a b table key) 
     pub key_satisfies : (models : ModelSet) (s : List ℕ) → Satisfies models s a b
     key_satisfies models s r is = record { key = is.key; there = key_stays r.table is.key is.there; belongs = is.belongs; part = is.part }
 
-others : (a b : Config) (table key : List ℕ) (names : List EntryName) → AgreeBut a b table key → IsConfig a → IsConfig b
-    → is_some (entry_of table key a) ≡ is_some (entry_of table key b) → IsNamed names table key → (models : ModelSet) → HasOthers models a b names
-others a b table key names agree formed well both named models w p has =
-    elim (same_or_one a b table key agree p.table p.key) [
-      | inr one ↦ inr (subst (λ t. IsNamed names t p.key) (sym one.0) (subst (IsNamed names table) (sym one.1) named))
-      | inl same ↦
-          let place = entry_placed b p.table p.key has.at.entry.fields (sym same ∙ entry_found a p.table p.key has.position.table has.position.key formed has.at.entry) in
-          inl (same_want models a b has.position w p has.at has.wanted place.0 place.1 place.2 (sym place.3)
-          (key_satisfies a b table key agree formed both models w.text) (key_satisfies b a table key (turned a b table key agree) well (sym both) models w.text))
-    ]
+module _ (models : ModelSet) where
+  others : (a b : Config) (table key : List ℕ) (names : List EntryName) → AgreeBut a b table key → IsConfig a → IsConfig b
+      → is_some (entry_of table key a) ≡ is_some (entry_of table key b) → IsNamed names table key → HasOthers models a b names
+  others a b table key names agree formed well both named w p has =
+      elim (same_or_one a b table key agree p.table p.key) [
+        | inr one ↦ inr (subst (λ t. IsNamed names t p.key) (sym one.0) (subst (IsNamed names table) (sym one.1) named))
+        | inl same ↦
+            let place = entry_placed b p.table p.key has.at.entry.fields (sym same ∙ entry_found a p.table p.key has.position.table has.position.key formed has.at.entry) in
+            inl (same_want models a b has.position w p has.at has.wanted place.0 place.1 place.2 (sym place.3)
+            (key_satisfies a b table key agree formed both models w.text) (key_satisfies b a table key (turned a b table key agree) well (sym both) models w.text))
+      ]
 
--- where the one entry stands in both or in neither, the wants of no other may differ
-pub one_differs : (a b : Config) (table key : List ℕ) (names : List EntryName) → AgreeBut a b table key → IsConfig a → IsConfig b
-    → is_some (entry_of table key a) ≡ is_some (entry_of table key b) → IsNamed names table key → AreDifferences a b names
-one_differs a b table key names agree formed well both named = record {
-  of_first = others a b table key names agree formed well both named;
-  of_second = others b a table key names (turned a b table key agree) well formed (sym both) named;
-}
+  -- where the one entry stands in both or in neither, the wants of no other may differ
+  pub one_differs : (a b : Config) (table key : List ℕ) (names : List EntryName) → AgreeBut a b table key → IsConfig a → IsConfig b
+      → is_some (entry_of table key a) ≡ is_some (entry_of table key b) → IsNamed names table key → AreDifferences models a b names
+  one_differs a b table key names agree formed well both named = record {
+    of_first = others a b table key names agree formed well both named;
+    of_second = others b a table key names (turned a b table key agree) well formed (sym both) named;
+  }
 
 -- a key that the second lacks is that of the one
 keys_but : (a b : Config) (table key : List ℕ) (names : List EntryName) → AgreeBut a b table key → IsConfig a → IsNamed names table key → HasKeys a b names
@@ -129,8 +135,71 @@ keys_but a b table key names agree formed named t k has =
       | inr one ↦ inr (subst (λ u. IsNamed names u k) (sym one.0) (subst (IsNamed names table) (sym one.1) named))
     ]
 
--- where it may come or go, those of the entries may differ that have a part of its key
-pub changed_differ_but : (a b : Config) (table key : List ℕ) (one names : List EntryName) (parts : TextSet) → AgreeBut a b table key → IsConfig a → IsConfig b
-    → IsNamed one table key → HoldsParts one parts → AddsChanged parts a b one names → AreDifferences a b names
-changed_differ_but a b table key one names parts agree formed well named =
-    changed_differ a b one names parts formed well (keys_but a b table key one agree formed named) (keys_but b a table key one (turned a b table key agree) well named)
+-- both satisfy the same of tables of other names
+elsewhere : (models : ModelSet) (a b : Config) (table key s : List ℕ) → AgreeBut a b table key → SatisfiesElsewhere models table s a b
+elsewhere models a b table key s agree r other is = record {
+  key = is.key;
+  there = subst (λ (o : Option Table). Contains (option_map_or (map (λ e. e.0)) o []) is.key) (agree.tables r.table other) is.there;
+  belongs = is.belongs;
+  part = is.part;
+}
+
+-- entries of tables that may refer to the table are together, or they are named
+abbrev HaveReferring : ModelSet → List ℕ → TextSet → Config → Config → List EntryName → Type 0
+HaveReferring models to parts a b names =
+    (t k : List ℕ) (x y : Entry) → may_refer models t to ≡ true → HasEntry (entries_of a t) k x → HasEntry (entries_of b t) k y → AreTogether parts k x y ⊎ IsNamed names t k
+
+module _ (models : ModelSet) (table key : List ℕ) (one names : List EntryName) (parts : TextSet) (named : IsNamed one table key) (holds : HoldsParts one parts)
+    (stay : StayNamed one names) where
+  referring_others : (a b : Config) → AgreeBut a b table key → IsConfig a → IsConfig b → HaveReferring models table parts a b names → HasOthers models a b names
+  referring_others a b agree formed well entries w p has =
+      elim (same_or_one a b table key agree p.table p.key) [
+        | inr is ↦ inr (subst (λ t. IsNamed names t p.key) (sym is.0) (subst (IsNamed names table) (sym is.1) (stay table key named)))
+        | inl same ↦ elim (may_refer models p.table table) as (λ x. may_refer models p.table table ≡ x → HasWant models b w p ⊎ IsNamed names p.table p.key) [
+          | true ↦ λ may. referring same may
+          | false ↦ λ apart. inl (unreferring same apart)
+        ] refl
+      ]
+    where
+      place : entry_of p.table p.key a ≡ entry_of p.table p.key b → (i j : ℕ) × (is : IsEntryAt b p.table p.key i j) × (is.fields ≡ has.at.entry.fields)
+      place same = entry_placed b p.table p.key has.at.entry.fields (sym same ∙ entry_found a p.table p.key has.position.table has.position.key formed has.at.entry)
+
+      -- its table may refer to the one: no text of it is a part of the key, or it is named
+      referring : entry_of p.table p.key a ≡ entry_of p.table p.key b → may_refer models p.table table ≡ true → HasWant models b w p ⊎ IsNamed names p.table p.key
+      referring same may =
+          let at = place same in
+          elim (entries p.table p.key has.at.entry.fields at.2.fields may (entry_of_place a p.table p.key has.position.table has.position.key formed has.at.entry)
+          (entry_of_place b p.table p.key at.0 at.1 well at.2)) [
+            | inr is ↦ inr is
+            | inl together ↦
+                let none : ¬ Has parts w.text = together.1 w.text (text_of_want models a has.position w p has.at has.wanted) in
+                inl (same_want models a b has.position w p has.at has.wanted at.0 at.1 at.2 (sym at.3)
+                (satisfies one parts holds models a b w.text (keys_but a b table key one agree formed named) none)
+                (satisfies one parts holds models b a w.text (keys_but b a table key one (turned a b table key agree) well named) none))
+          ]
+
+      -- it may not: what it wants is of other tables, which are the same
+      unreferring : entry_of p.table p.key a ≡ entry_of p.table p.key b → may_refer models p.table table ≡ false → HasWant models b w p
+      unreferring same apart =
+          let at = place same in
+          let row = has.wanted.row in
+          let shape = has.wanted.shape in
+          let field = has.position.field in
+          let item = has.position.item in
+          let of_row : may_refer models row.table table ≡ false =
+          subst (λ t. may_refer models t table ≡ false) (sym (ap (λ (r : Row). r.table) (row_of_want models a has.position w p has.at has.wanted))) apart in
+          carried_want models a b has.position w p has.at has.wanted at.0 at.1 at.2 (sym at.3)
+          (wanted_elsewhere models table a b (typed_text shape row field item) w (refers_nowhere models table row shape of_row has.wanted.shaped field item)
+          (elsewhere models a b table key w.text agree) (elsewhere models b a table key w.text (turned a b table key agree)) has.wanted.wanted)
+
+  sides_turned : (a b : Config) → HaveReferring models table parts a b names → HaveReferring models table parts b a names
+  sides_turned a b entries t k x y may two first = elim (entries t k y x may first two) [
+    | inl together ↦ inl (sym together.0, subst (HasNoneOf parts k) together.0 together.1)
+    | inr is ↦ inr is
+  ]
+
+  pub referring_differ : (a b : Config) → AgreeBut a b table key → IsConfig a → IsConfig b → HaveReferring models table parts a b names → AreDifferences models a b names
+  referring_differ a b agree formed well entries = record {
+    of_first = referring_others a b agree formed well entries;
+    of_second = referring_others b a (turned a b table key agree) well formed (sides_turned a b entries);
+  }

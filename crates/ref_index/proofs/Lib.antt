@@ -3,6 +3,7 @@ mod Collecting
 mod EntryTexts
 mod Firsts
 mod LeafGroups
+mod Leafrefs
 mod Lists
 mod Moves
 mod NamedEntries
@@ -10,4 +11,5 @@ mod SameEntries
 mod SameWants
 mod Sides
 mod TextMaps
+mod Unreferring
 mod Walks

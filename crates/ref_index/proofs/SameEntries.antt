@@ -80,19 +80,14 @@ module _ (models : ModelSet) (a b : Config) where
     subst (λ s. IsWanted models b t.0 s w.target) (sym h.0) (wanted w.text to back t.0 w.target (subst (λ s. IsWanted models a t.0 s w.target) h.0 h.1)),
   )
 
-  -- a want of an entry that stands in both, where both satisfy the same of its text
-  pub same_want : (position : WantPlace) (w : Want) (p : Place) (at : IsPlaceAt a position p) → IsWantAt models a position w
-      → (i j : ℕ) (there : IsEntryAt b p.table p.key i j) → at.entry.fields ≡ there.fields → Satisfies models w.text a b → Satisfies models w.text b a → HasWant models b w p
-  same_want position w p at is i j there fields to back = record {
+  -- a want of an entry that stands in both, where its text has it in the second too
+  pub carried_want : (position : WantPlace) (w : Want) (p : Place) (at : IsPlaceAt a position p) (is : IsWantAt models a position w)
+      → (i j : ℕ) (there : IsEntryAt b p.table p.key i j) → at.entry.fields ≡ there.fields
+      → IsWantedText models b (typed_text is.shape is.row position.field position.item) w → HasWant models b w p
+  carried_want position w p at is i j there fields carried = record {
     position = record { table = i; key = j; field = position.field; item = position.item };
     at = record { entry = there; field = ap (λ f. field_name f position.field) (sym fields) ∙ at.field; item = at.item };
-    wanted = record {
-      row = is.row;
-      at = row_there;
-      shape = is.shape;
-      shaped = is.shaped;
-      wanted = wanted_there (typed_text is.shape is.row position.field position.item) w to back is.wanted;
-    };
+    wanted = record { row = is.row; at = row_there; shape = is.shape; shaped = is.shaped; wanted = carried };
   }
     where
       row_there : row_at models b i j ≡ Some is.row
@@ -101,14 +96,25 @@ module _ (models : ModelSet) (a b : Config) where
           ∙ ap (λ f. cond (is_some (table_named p.table models)) (Some (row_of p.table p.key f)) None) (sym fields)
           ∙ sym (at_entry models a p.table p.key position.table position.key at.entry) ∙ is.at
 
--- the text of a want is one of its entry's
-pub text_of_want : (models : ModelSet) (a : Config) (position : WantPlace) (w : Want) (p : Place) (at : IsPlaceAt a position p) → IsWantAt models a position w
-    → HasText p.key at.entry.fields w.text
-text_of_want models a position w p at is =
-    let row : is.row ≡ row_of p.table p.key at.entry.fields =
-    row_is (is_some (table_named p.table models)) is.row (sym (at_entry models a p.table p.key position.table position.key at.entry) ∙ is.at) in
-    subst (λ r. HasText r.key r.fields w.text) row (wanted_text models a w is.shape is.row position.field position.item is.wanted)
+  -- where both satisfy the same of the text it has
+  pub same_want : (position : WantPlace) (w : Want) (p : Place) (at : IsPlaceAt a position p) → IsWantAt models a position w
+      → (i j : ℕ) (there : IsEntryAt b p.table p.key i j) → at.entry.fields ≡ there.fields → Satisfies models w.text a b → Satisfies models w.text b a → HasWant models b w p
+  same_want position w p at is i j there fields to back =
+      carried_want position w p at is i j there fields (wanted_there (typed_text is.shape is.row position.field position.item) w to back is.wanted)
+
+-- the row of a want is that of the entry at its place
+pub row_of_want : (models : ModelSet) (a : Config) (position : WantPlace) (w : Want) (p : Place) (at : IsPlaceAt a position p) → (is : IsWantAt models a position w)
+    → is.row ≡ row_of p.table p.key at.entry.fields
+row_of_want models a position w p at is =
+    row_is (is_some (table_named p.table models)) is.row (sym (at_entry models a p.table p.key position.table position.key at.entry) ∙ is.at)
   where
     row_is : (b : Bool) (r : Row) → cond b (Some (row_of p.table p.key at.entry.fields)) None ≡ Some r → r ≡ row_of p.table p.key at.entry.fields
     row_is true r e = sym (same_Some (row_of p.table p.key at.entry.fields) r e)
     row_is false r e = absurd cc
+
+-- the text of a want is one of its entry's
+pub text_of_want : (models : ModelSet) (a : Config) (position : WantPlace) (w : Want) (p : Place) (at : IsPlaceAt a position p) → IsWantAt models a position w
+    → HasText p.key at.entry.fields w.text
+text_of_want models a position w p at is =
+    subst (λ r. HasText r.key r.fields w.text) (row_of_want models a position w p at is)
+    (wanted_text models a w is.shape is.row position.field position.item is.wanted)

@@ -24,7 +24,7 @@ HasEntries parts a b names =
 
 module _ (lone : List EntryName) (parts : TextSet) (holds : HoldsParts lone parts) where
   -- a text that is no part of a key that one of them has alone can want the same in both
-  satisfies : (models : ModelSet) (a b : Config) (s : List ℕ) → HasKeys a b lone → ¬ Has parts s → Satisfies models s a b
+  pub satisfies : (models : ModelSet) (a b : Config) (s : List ℕ) → HasKeys a b lone → ¬ Has parts s → Satisfies models s a b
   satisfies models a b s keys none r is =
       let there : HasKey (entries_of a r.table) is.key = subst (λ ks. Contains ks is.key) (same_keys a r.table) is.there in
       elim (keys r.table is.key there) [
@@ -61,17 +61,18 @@ turned parts a b names entries t k x y one two = elim (entries t k y x two one) 
   | inr named ↦ inr named
 ]
 
--- where the keys that one of them has alone are named, and then the entries that aren't together
-pub changed_differ : (a b : Config) (lone names : List EntryName) (parts : TextSet) → IsConfig a → IsConfig b → HasKeys a b lone → HasKeys b a lone
-    → HoldsParts lone parts → AddsChanged parts a b lone names → AreDifferences a b names
-changed_differ a b lone names parts formed well keys back holds changed = record {
-  of_first = λ models. has_others lone parts holds models a b names formed keys back changed.stay changed.all;
-  of_second = λ models. has_others lone parts holds models b a names well back keys changed.stay (turned parts a b names changed.all);
-}
+module _ (models : ModelSet) (a b : Config) where
+  -- where the keys that one of them has alone are named, and then the entries that aren't together
+  changed_differ : (lone names : List EntryName) (parts : TextSet) → IsConfig a → IsConfig b → HasKeys a b lone → HasKeys b a lone
+      → HoldsParts lone parts → AddsChanged parts a b lone names → AreDifferences models a b names
+  changed_differ lone names parts formed well keys back holds changed = record {
+    of_first = has_others lone parts holds models a b names formed keys back changed.stay changed.all;
+    of_second = has_others lone parts holds models b a names well back keys changed.stay (turned parts a b names changed.all);
+  }
 
--- the keys that one of them has alone, first those of the one and then those of the other
-pub all_differences : (a b : Config) (first lone names : List EntryName) (parts : TextSet) → IsConfig a → IsConfig b → AddsLone a b [] first → AddsLone b a first lone
-    → HoldsParts lone parts → AddsChanged parts a b lone names → AreDifferences a b names
-all_differences a b first lone names parts formed well ab ba =
-    changed_differ a b lone names parts formed well
-    (λ t k has. elim (ab.all t k has) [ inl kept ↦ inl kept | inr named ↦ inr (ba.stay t k named) ]) ba.all
+  -- the keys that one of them has alone, first those of the one and then those of the other
+  pub all_differences : (first lone names : List EntryName) (parts : TextSet) → IsConfig a → IsConfig b → AddsLone a b [] first → AddsLone b a first lone
+      → HoldsParts lone parts → AddsChanged parts a b lone names → AreDifferences models a b names
+  all_differences first lone names parts formed well ab ba =
+      changed_differ lone names parts formed well
+      (λ t k has. elim (ab.all t k has) [ inl kept ↦ inl kept | inr named ↦ inr (ba.stay t k named) ]) ba.all

@@ -1,5 +1,5 @@
 -- Tables and configurations side by side, one entry after another.
-use Rattle.std.proofs.Common.{◌≡◌, ◌⊎◌, inl, inr, ◌<◌, ◌≤◌, ◌+◌, ℕ, List, [], ◌∷◌, ◌++◌, Option, Some, None, length, map, slice_get, refl, sym, ap, ◌∙◌, subst, arith}
+use Rattle.std.proofs.Common.{◌≡◌, ◌⊎◌, inl, inr, ◌<◌, ◌≤◌, ◌+◌, ℕ, List, [], ◌∷◌, ◌++◌, Option, Some, None, length, map, slice_get, true, refl, sym, ap, ◌∙◌, subst, arith}
 use Rattle.std.specs.List.{Contains}
 use Rattle.std.specs.Option.{option_map_or}
 use Rattle.std.proofs.lemmas.Bool.{cases_lt}
@@ -10,7 +10,9 @@ use Rattle.conf_doc.specs.declared.configuration.Entry.{Entry}
 use Rattle.conf_doc.specs.declared.configuration.Table.{Table}
 use Rattle.conf_doc.proofs.Edits.{same_Some}
 use Rattle.key_split.specs.Key.{key_parts}
-use Rattle.ref_index.specs.EntryNames.{AddsChanged, AddsChangedOf, AddsLone, AddsLoneOf, AreTogether, HasEntry, HasKey, HoldsParts, IsNamed, StayNamed, entries_of}
+use Rattle.yang_model.specs.ModelSets.{ModelSet}
+use Rattle.ref_index.specs.EntryNames.{AddsChanged, AddsChangedOf, AddsLone, AddsLoneOf, AddsReferring, AddsReferringOf, AreTogether, HasEntry, HasKey, HoldsParts, IsNamed, StayNamed, entries_of}
+use Rattle.ref_index.specs.Referring.{may_refer}
 use Rattle.ref_index.specs.Texts.{Has}
 use Rattle.ref_index.specs.declared.entry_names.EntryName.{EntryName}
 use Rattle.ref_index.specs.declared.text_sets.TextSet.{TextSet}
@@ -36,6 +38,12 @@ ChangedOf parts t left right names j =
 abbrev pub ChangedAt : TextSet → Config → Config → List EntryName → ℕ → Type 0
 ChangedAt parts first second names j =
     (t : List ℕ) (left : Table) → slice_get first j ≡ Some (t, left) → (k : List ℕ) (a b : Entry) → HasEntry left k a
+    → HasEntry (entries_of second t) k b → AreTogether parts k a b ⊎ IsNamed names t k
+
+-- so they are where the table may refer to another one
+abbrev pub ReferringAt : ModelSet → List ℕ → TextSet → Config → Config → List EntryName → ℕ → Type 0
+ReferringAt models to parts first second names j =
+    (t : List ℕ) (left : Table) → slice_get first j ≡ Some (t, left) → may_refer models t to ≡ true → (k : List ℕ) (a b : Entry) → HasEntry left k a
     → HasEntry (entries_of second t) k b → AreTogether parts k a b ⊎ IsNamed names t k
 
 -- the set has the parts of the key of the entry at an index
@@ -73,6 +81,12 @@ module _ (old new : List EntryName) (n : ℕ) (stay : StayNamed old new) where
   changed_at parts a b =
       one_more (ChangedAt parts a b old) (ChangedAt parts a b new) n (λ j was t left at k x y one two. named_or (AreTogether parts k x y) t k old new stay (was t left at k x y one two))
 
+  pub referring_at : (models : ModelSet) (to : List ℕ) (parts : TextSet) (a b : Config) → ((j : ℕ) → j < n → ReferringAt models to parts a b old j)
+      → ReferringAt models to parts a b new n → (j : ℕ) → j < n + 1 → ReferringAt models to parts a b new j
+  referring_at models to parts a b =
+      one_more (ReferringAt models to parts a b old) (ReferringAt models to parts a b new) n
+      (λ j was t left at may k x y one two. named_or (AreTogether parts k x y) t k old new stay (was t left at may k x y one two))
+
 pub holds_more : (names : List EntryName) (old new : TextSet) (n : ℕ) → ((s : List ℕ) → Has old s → Has new s)
     → ((j : ℕ) → j < n → HoldsAt names old j) → HoldsAt names new n → (j : ℕ) → j < n + 1 → HoldsAt names new j
 holds_more names old new n kept = one_more (HoldsAt names old) (HoldsAt names new) n (λ j was name at s part. kept s (was name at s part))
@@ -98,6 +112,14 @@ changed_of_table parts a b i name left right old new n at is adds t table there 
     subst (λ (p : List ℕ × Table). AreTogether parts k x y ⊎ IsNamed new p.0 k) same
     (adds.all k x y (subst (λ (p : List ℕ × Table). HasEntry p.1 k x) (sym same) one)
     (subst (λ es. HasEntry es k y) (sym is) (subst (λ (p : List ℕ × Table). HasEntry (entries_of b p.0) k y) (sym same) two)))
+
+pub referring_of_table : (models : ModelSet) (to : List ℕ) (parts : TextSet) (a b : Config) (i : ℕ) (name : List ℕ) (left right : Table) (old new : List EntryName)
+    → slice_get (map (λ p. p.0) a) i ≡ Some name → slice_get (map (λ p. p.1) a) i ≡ Some left → right ≡ entries_of b name
+    → AddsReferringOf models to parts name left right old new → ReferringAt models to parts a b new i
+referring_of_table models to parts a b i name left right old new n at is adds t table there may =
+    let same : ◌≡◌ {A = List ℕ × Table} (name, left) (t, table) = same_table a i name t left table n at there in
+    changed_of_table parts a b i name left right old new n at is
+    (adds.all (subst (λ (p : List ℕ × Table). may_refer models p.0 to ≡ true) (sym same) may)) t table there
 
 -- ---- all of them
 
@@ -216,3 +238,12 @@ module _ (begun old : List EntryName) (stay : StayNamed begun old) (t : List ℕ
           changed_of old new n more parts t left right before
               (λ k a b at has. inr (subst (λ names. IsNamed names t k) (sym is) (name_added old name t k table (is_key ∙ same_key k a at)))),
         )
+
+pub adds_referring : (models : ModelSet) (to : List ℕ) (parts : TextSet) (a b : Config) (old new : List EntryName) (n : ℕ) → length a ≤ n → StayNamed old new
+    → ((j : ℕ) → j < n → ReferringAt models to parts a b new j) → AddsReferring models to parts a b old new
+adds_referring models to parts a b old new n long stay all = record {
+  stay = stay;
+  all = λ t k x y may one two.
+      let at = at_index a t n long (λ table. HasEntry table k x) (λ h. let is = h.at in cc) one in
+      all at.0 at.2 t at.1 at.3 may k x y at.4 two;
+}

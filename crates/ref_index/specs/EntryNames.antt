@@ -1,5 +1,5 @@
 -- What differs between two configurations, by the names of entries.
-use Rattle.std.specs.Prelude.{◌≡◌, ◌⊎◌, ◌<◌, ℕ, Bool, false, List, [], Some, map, slice_get}
+use Rattle.std.specs.Prelude.{◌≡◌, ◌⊎◌, ◌<◌, ℕ, Bool, true, false, List, [], Some, map, slice_get}
 use Rattle.std.specs.List.{Contains}
 use Rattle.std.specs.Option.{option_map_or}
 use Rattle.conf_doc.specs.Pairs.{find}
@@ -14,6 +14,7 @@ use Rattle.conf_check.specs.declared.want_iter.WantAt.{WantAt}
 use Rattle.conf_check.specs.declared.want_iter.WantPlace.{WantPlace}
 use Rattle.ref_index.specs.PlaceMaps.{IsListed}
 use Rattle.ref_index.specs.Referrers.{HasWant, IsPlaceAt}
+use Rattle.ref_index.specs.Referring.{may_refer}
 use Rattle.ref_index.specs.Texts.{Has, HasNoneOf}
 use Rattle.ref_index.specs.declared.entry_names.EntryName.{EntryName}
 use Rattle.ref_index.specs.declared.places.Place.{Place}
@@ -84,6 +85,22 @@ pub record AddsChanged (parts : TextSet) (first second : Config)
       (t k : List ℕ) (a b : Entry) → HasEntry (entries_of first t) k a
       → HasEntry (entries_of second t) k b → AreTogether parts k a b ⊎ IsNamed new t k
 
+-- the keys that both tables have are added, unless the entries there are so, where the table may refer to
+-- another one
+pub record AddsReferringOf (models : ModelSet) (to : List ℕ) (parts : TextSet) (t : List ℕ)
+    (left right : Table) (old new : List EntryName) : Type 0 where
+  pub stay : StayNamed old new
+  pub all : may_refer models t to ≡ true → AddsChangedOf parts t left right old new
+
+-- the same of all tables that may
+pub record AddsReferring (models : ModelSet) (to : List ℕ) (parts : TextSet)
+    (first second : Config) (old new : List EntryName) : Type 0 where
+  pub stay : StayNamed old new
+  pub all :
+      (t k : List ℕ) (a b : Entry) → may_refer models t to ≡ true
+      → HasEntry (entries_of first t) k a → HasEntry (entries_of second t) k b
+      → AreTogether parts k a b ⊎ IsNamed new t k
+
 -- the second configuration has the wants of the entries of the first that aren't named
 abbrev pub HasOthers : ModelSet → Config → Config → List EntryName → Type 0
 HasOthers models first second names =
@@ -91,9 +108,10 @@ HasOthers models first second names =
     → HasWant models second w p ⊎ IsNamed names p.table p.key
 
 -- of the entries that aren't named both have the same wants
-pub record AreDifferences (first second : Config) (names : List EntryName) : Type 0 where
-  pub of_first : (models : ModelSet) → HasOthers models first second names
-  pub of_second : (models : ModelSet) → HasOthers models second first names
+pub record AreDifferences (models : ModelSet) (first second : Config) (names : List EntryName)
+    : Type 0 where
+  pub of_first : HasOthers models first second names
+  pub of_second : HasOthers models second first names
 
 -- to what is listed the wants are added that the second configuration hasn't, of the entries of the first
 -- at some positions

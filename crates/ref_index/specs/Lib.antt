@@ -5,4 +5,5 @@ pub mod Referrers
 pub mod Codes
 pub mod EntryNames
 pub mod PlaceMaps
+pub mod Referring
 pub mod Texts

@@ -7,12 +7,15 @@ ghost use Rattle.ref_index.specs.Agreements.{AgreeBut, entry_of};
 ghost use Rattle.ref_index.specs.Texts.{Has};
 ghost use Rattle.ref_index.specs.declared.entry_names.EntryName.{EntryName};
 ghost use Rattle.conf_doc.specs.WellFormed.{IsConfig, IsTable};
-ghost use Rattle.ref_index.specs.EntryNames.{AddsChanged, AddsChangedOf, AddsLone, AddsLoneOf, AreDifferences, HasKey, HoldsParts, IsApart, IsNamed, entries_of};
+ghost use Rattle.yang_model.specs.ModelSets.{ModelSet};
+ghost use Rattle.ref_index.specs.EntryNames.{AddsChanged, AddsChangedOf, AddsLone, AddsLoneOf, AddsReferring, AddsReferringOf, AreDifferences, HasKey, HoldsParts, IsApart, IsNamed, entries_of};
 
+use crate::referring::table_refers;
 use crate::text_sets::TextSet;
 use conf_doc::{Config, Entry, Table};
 use host_core::Memory;
 use std::alloc::Global;
+use yang_model::Models;
 
 /// The table and the key of an entry.
 #[derive(Clone, Copy, Drop)]
@@ -200,7 +203,8 @@ pub(crate) fn differences<'a>(
     first: &'a Config,
     second: &'a Config,
 ) -> Result<Vec<EntryName<'a>>, Memory>
-    ensures { IfOk result (λ found. AreDifferences first.now second.now found.items) }
+    ensures { (models : ModelSet) →
+        IfOk result (λ found. AreDifferences models first.now second.now found.items) }
 {
     let mut found = Vec::new(alloc);
     add_lone(alloc, first, second, &mut found)?;
@@ -230,23 +234,69 @@ fn one_name<'a>(alloc: Global, table: &'a str, key: &'a str) -> Result<Vec<Entry
     Ok(found)
 }
 
+/// Adds the entries of a table at which another one has one that differs, or that have one of those texts, where
+/// the table may refer to another one.
+fn add_if_referring<'a>(
+    models: &Models,
+    to: &str,
+    name: &'a str,
+    left: &'a Table,
+    right: &Table,
+    parts: &TextSet,
+    found: &mut Vec<EntryName<'a>>,
+) -> Result<(), Memory>
+    ensures { OnOk result (AddsReferringOf models.now to.now parts.now name.now
+        left.now right.now found.old.items found.new.items) }
+{
+    if !table_refers(models, name, to) {
+        return Ok(());
+    }
+    add_changed_of(name, left, right, parts, found)?;
+    Ok(())
+}
+
+/// The same of each table. Where a key of that other one comes or goes no others have other wants.
+fn add_referring<'a>(
+    alloc: Global,
+    models: &Models,
+    to: &str,
+    first: &'a Config,
+    second: &Config,
+    parts: &TextSet,
+    found: &mut Vec<EntryName<'a>>,
+) -> Result<(), Memory>
+    ensures { OnOk result (AddsReferring models.now to.now parts.now
+        first.now second.now found.old.items found.new.items) }
+{
+    let empty = Table::new(alloc);
+    for t in 0..first.len() {
+        let name = first.name_at(t);
+        let left = first.part_at(t);
+        let right = table_or(second, name, &empty);
+        add_if_referring(models, to, name, left, right, parts, found)?;
+    }
+    Ok(())
+}
+
 /// The entries of which the wants may differ, where two configurations agree but for one entry: that one, and
-/// where it comes or goes those that have a part of its key.
+/// where it comes or goes those that have a part of its key, of the tables that may refer to its table.
 pub(crate) fn differences_but<'a>(
     alloc: Global,
+    models: &Models,
     first: &'a Config,
     second: &'a Config,
     table: &'a str,
     key: &'a str,
 ) -> Result<Vec<EntryName<'a>>, Memory>
     requires { AgreeBut first.now second.now table.now key.now }
-    ensures { IfOk result (λ found. AreDifferences first.now second.now found.items) }
+    ensures { IfOk result (λ found.
+        AreDifferences models.now first.now second.now found.items) }
 {
     let mut found = one_name(alloc, table, key)?;
     if has_entry(first, table, key) == has_entry(second, table, key) {
         return Ok(found);
     }
     let parts = parts_of(alloc, found.as_slice())?;
-    add_changed(alloc, first, second, &parts, &mut found)?;
+    add_referring(alloc, models, table, first, second, &parts, &mut found)?;
     Ok(found)
 }

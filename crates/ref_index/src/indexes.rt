@@ -73,7 +73,7 @@ fn move_named(
     places: &mut PlaceMap,
 ) -> Result<(), Memory>
     requires map { IsMapOf models.now config.now places.old }
-    requires apart { AreDifferences config.now next.now names.now }
+    requires apart { AreDifferences models.now config.now next.now names.now }
     ensures ok { OnOk result (IsMapOf models.now next.now places.new) }
     ensures err { OnErr result (IsMapOf models.now config.now places.new) }
 {
@@ -122,7 +122,7 @@ fn move_entry(
     ensures ok { OnOk result (IsMapOf models.now next.now places.new) }
     ensures err { OnErr result (IsMapOf models.now config.now places.new) }
 {
-    let apart = differences_but(alloc, config, next, table, key)?;
+    let apart = differences_but(alloc, models, config, next, table, key)?;
     move_named(alloc, models, config, next, apart.as_slice(), places)
 }
 
@@ -156,7 +156,7 @@ impl RefIndex {
     }
 
     /// The same where both configurations agree but for one entry. The wants are looked at only of that one,
-    /// and where it comes or goes of those with a text that is a part of its key.
+    /// and where it comes or goes of those with a text that is a part of its key, in tables with a leafref to its table.
     pub fn move_by(
         &mut self,
         alloc: Global,

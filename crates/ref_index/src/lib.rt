@@ -7,6 +7,7 @@ mod groups;
 mod indexes;
 mod place_maps;
 mod places;
+mod referring;
 mod text_sets;
 
 pub use indexes::RefIndex;

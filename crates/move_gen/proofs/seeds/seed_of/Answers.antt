@@ -1,10 +1,19 @@
 use Rattle.std.proofs.Common.{◌+◌, sym, ◌∙◌, subst, true≢false, arith}
+use Rattle.conf_doc.specs.Pairs.{IsRising}
 use Rattle.move_core.specs.Contexts.{rulebook}
+use Rattle.move_core.specs.Generated.{IsSeed}
 use Rattle.move_gen.specs.Choosing.{IsSeedOfFirst}
-use Rattle.move_gen.proofs.Chosen.{seed_ends, seed_with, seed_without}
+use Rattle.move_gen.proofs.Chosen.{seed_ends, seed_with, seed_without, whole_seed}
 use Rattle.move_gen.proofs.Walks.{letters_at}
 use Rattle.move_gen.proofs.seeds.seed_of.Goals.{then-has_no_want+in_ok-seed, else-has_no_want}
 use Rattle.move_gen.proofs.seeds.seed_of.Goals as goal
+
+pub returns-then-has_free_fields : goal.returns-then-has_free_fields
+returns-then-has_free_fields c =
+    let book = rulebook c.args.ctx.now in let goal = c.args.goal.now in let t = c.args.table.now in let k = c.args.key.now in let e = c.args.entry.now in
+    let is = c.in_ok-whole.ensures.copy in
+    subst (IsSeed book goal t k e) (sym is)
+    (whole_seed book goal t k e (subst (λ x. IsRising x) is c.in_ok-whole.ensures.formed.shaped.rising) (c.has_free_fields.ensures c.if-has_free_fields.true))
 
 pub with-requires : goal.with-requires
 with-requires c = letters_at c.args.entry.now c.loop-i.i c.name_at-field.result.now c.len-i-end.ensures.formed.shaped.named c.name_at-field.ensures

@@ -1,6 +1,12 @@
-use Rattle.plan_search.proofs.Routes.{search_answer}
+use Rattle.std.proofs.Common.{sym, subst, ◌∙◌}
+use Rattle.move_core.specs.Contexts.{IsValidIn, rulebook}
+use Rattle.plan_search.specs.Searches.{IsSearchAnswer}
 use Rattle.plan_search.proofs.planning.search.Goals as goal
 
-pub returns-clause-answer : goal.returns-clause-answer
-returns-clause-answer g c =
-    search_answer c.args.ctx.now c.args.start.now c.args.goal.now c.args.budget c.find_plan.result c.find_plan.ensures.answer
+pub search_by_kit-requires-clause-goal : goal.search_by_kit-requires-clause-goal
+search_by_kit-requires-clause-goal g c = subst (IsValidIn c.args.ctx.now) (sym (c.new-goal.ensures ∙ c.in-Ok.ensures)) c.requires.goal
+
+pub returns-in-Ok-clause-answer : goal.returns-in-Ok-clause-answer
+returns-in-Ok-clause-answer g c =
+    subst (λ d. IsSearchAnswer (rulebook c.args.ctx.now) c.args.start.now d c.args.budget c.search_by_kit.result) (c.new-goal.ensures ∙ c.in-Ok.ensures)
+    c.search_by_kit.ensures.answer

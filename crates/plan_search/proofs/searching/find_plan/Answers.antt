@@ -12,7 +12,7 @@ returns-then-same-clause-ready g c = c.requires.ready
 pub returns-then-same-clause-answer : goal.returns-then-same-clause-answer
 returns-then-same-clause-answer g c =
     let p = g.S.Expanding.problem c.args.source.now in
-    let same : p.start ≡ p.goal = sym c.start.ensures ∙ c.same.ensures.0 c.if-same.true ∙ c.goal.ensures in
+    let same : p.start ≡ p.goal = sym c.start.ensures ∙ c.same.ensures.0 c.if-same.true ∙ c.config.ensures ∙ c.goal.ensures in
     subst (λ l. IsAnswer p c.args.budget (Ok l)) (sym c.new.ensures) (no_moves p c.args.budget c.requires.budget same)
 
 pub returns-then-same-clause-steps : goal.returns-then-same-clause-steps
@@ -25,7 +25,7 @@ pub returns-then-budget-eq1-clause-answer : goal.returns-then-budget-eq1-clause-
 returns-then-budget-eq1-clause-answer g c =
     let p = g.S.Expanding.problem c.args.source.now in
     let other : p.start ≢ p.goal =
-    λ e. true≢false (sym (c.same.ensures.1 (c.start.ensures ∙ e ∙ sym c.goal.ensures)) ∙ c.if-same.false) in
+    λ e. true≢false (sym (c.same.ensures.1 (c.start.ensures ∙ e ∙ sym (c.config.ensures ∙ c.goal.ensures))) ∙ c.if-same.false) in
     let one = c.if-budget-eq1.true in
     budget_met p (p.start ∷ []) c.args.budget (met_begun p other) (omega (arith, one))
 
@@ -45,7 +45,7 @@ pub go_on-requires-clause-met : goal.go_on-requires-clause-met
 go_on-requires-clause-met g c =
     let p = g.S.Expanding.problem c.args.source.now in
     let other : p.start ≢ p.goal =
-    λ e. true≢false (sym (c.same.ensures.1 (c.start.ensures ∙ e ∙ sym c.goal.ensures)) ∙ c.if-same.false) in
+    λ e. true≢false (sym (c.same.ensures.1 (c.start.ensures ∙ e ∙ sym (c.config.ensures ∙ c.goal.ensures))) ∙ c.if-same.false) in
     subst (AreMet p) (sym c.in-Ok.ensures.met) (met_begun p other)
 
 pub go_on-requires-clause-way : goal.go_on-requires-clause-way

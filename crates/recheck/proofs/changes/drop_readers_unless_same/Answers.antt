@@ -4,6 +4,12 @@ use Rattle.recheck.proofs.Left.{not_so}
 use Rattle.recheck.proofs.Within.{left_for, left_itself}
 use Rattle.recheck.proofs.changes.drop_readers_unless_same.Goals as goal
 
+pub returns-then-not-one_may_read-clause-among : goal.returns-then-not-one_may_read-clause-among
+returns-then-not-one_may_read-clause-among c = among_itself c.args.verdicts.now.items
+
+pub returns-then-not-one_may_read-clause-left : goal.returns-then-not-one_may_read-clause-left
+returns-then-not-one_may_read-clause-left c = left_itself _ c.args.verdicts.now.items
+
 pub returns-then-is_same_table-clause-among : goal.returns-then-is_same_table-clause-among
 returns-then-is_same_table-clause-among c = among_itself c.args.verdicts.now.items
 

@@ -5,5 +5,5 @@ use Rattle.ref_index.proofs.indexes.move_entry.Goals as goal
 pub move_named-requires : goal.move_named-requires
 move_named-requires c = record {
   map = c.requires.map;
-  apart = subst (AreDifferences c.args.config.now c.args.next.now) (sym c.as_slice.ensures.value) c.in_ok-apart.ensures;
+  apart = subst (AreDifferences c.args.models.now c.args.config.now c.args.next.now) (sym c.as_slice.ensures.value) c.in_ok-apart.ensures;
 }

@@ -4,10 +4,10 @@ use Rattle.ref_index.proofs.Moves.{map_moves, map_stays}
 use Rattle.ref_index.proofs.indexes.move_named.Goals as goal
 
 pub missing_wants-requires : goal.missing_wants-requires
-missing_wants-requires c = c.requires.apart.of_first c.args.models.now
+missing_wants-requires c = c.requires.apart.of_first
 
 pub missing_wants-requires-2 : goal.missing_wants-requires-2
-missing_wants-requires-2 c = c.requires.apart.of_second c.args.models.now
+missing_wants-requires-2 c = c.requires.apart.of_second
 
 pub returns-in-Ok-clause-ok : goal.returns-in-Ok-clause-ok
 returns-in-Ok-clause-ok c =

@@ -9,5 +9,5 @@ use Rattle.move_gen.proofs.items.ChangedListsEntryMoves.give.Goals as goal
 pub returns-in-Some : goal.returns-in-Some
 returns-in-Some c =
     let cur = c.args.self.now.cur.now in let t = c.args.table.now in let k = c.args.key.now in let old = c.in-Some.old.now in let new = c.args.entry.now in
-    gives_alike (IsOfSome (IsItemOfField t k old) new) (IsOfItemsOfEntry cur t k new) c.give_of_entry.result c.args.out.now.items c.give_of_entry.new.out.items
-    (λ g. of_entry cur t k old new g (ap (λ o. option_map part.Entry (option_copied o)) (sym c.in-Some.is) ∙ c.requires.there)) c.give_of_entry.ensures
+    gives_alike (IsOfSome (IsItemOfField t k old) new) (IsOfItemsOfEntry cur t k new) c.give_of_fields.result c.args.out.now.items c.give_of_fields.new.out.items
+    (λ g. of_entry cur t k old new g (ap (λ o. option_map part.Entry (option_copied o)) (sym c.in-Some.is) ∙ c.requires.there)) c.give_of_fields.ensures
