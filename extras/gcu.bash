@@ -11,7 +11,8 @@ _gcu() {
         rollback,2 | delete-checkpoint,2)
             checkpoints=$(for it in *.cp.json; do [ -e "$it" ] && echo "${it%.cp.json}"; done)
             mapfile -t COMPREPLY < <(compgen -W "$checkpoints" -- "$word") ;;
-        resume,2) mapfile -t COMPREPLY < <(compgen -W '--budget' -- "$word") ;;
+        resume,[24]) mapfile -t COMPREPLY < <(compgen -W '--budget --scope' -- "$word") ;;
+        status,2 | abandon,2) mapfile -t COMPREPLY < <(compgen -W '--scope' -- "$word") ;;
         apply-patch,* | replace,* | rollback,*) mapfile -t COMPREPLY < <(compgen -W '--dry-run --budget' -- "$word") ;;
     esac
 }

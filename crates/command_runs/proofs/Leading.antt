@@ -21,6 +21,7 @@ use Rattle.gcu_requests.specs.Form as forms
 use Rattle.gcu_requests.specs.Form.{Form, form}
 use Rattle.gcu_requests.specs.Request as request
 use Rattle.gcu_requests.specs.Request.{Request}
+use Rattle.gcu_requests.specs.ScopeForm.{IsUnscoped}
 use Rattle.gcu_engine.specs.Answers.{Leaves}
 use Rattle.gcu_engine.specs.Crashes.{LeftByForm, LeftOf, LeftOfMigration, LeftWriting}
 use Rattle.gcu_engine.proofs.Closed.{either_stored}
@@ -177,9 +178,9 @@ ReadsAsIs = (pending : Pending) (now : Files) → Image pending now now
 -- each command leads to a list
 promised_leads : ReadsTokens → ReadsAsIs → (before : List Config) (words : List (List ℕ)) (s t : State) (output : List ℕ) (start : Config)
     (stands : stored s.files ≡ Ok start) (all : AllStandFor before s) (printed_is : t.output ≡ s.output ++ output)
-    (old new : Counts) (e : Outcome) → IsPromised words s t old new e → IsLed before s t output start stands all printed_is
-promised_leads reads now before words s t output start stands all printed_is old new e promised =
-    by (form words) (form_is_budgeted words) promised.answers promised.left
+    (old new : Counts) (e : Outcome) → IsUnscoped words → IsPromised words s t old new e → IsLed before s t output start stands all printed_is
+promised_leads reads now before words s t output start stands all printed_is old new e none promised =
+    by (form words) (form_is_budgeted words) (promised.answers none) (promised.left none)
   where
     query : (o : Option Form) → IsNoChange o → IsBudgeted o → Leaves (form_asked o s) s (Some t) old new e → ((left : Left) → MayLeave t left → LeftByForm o s left)
         → IsLed before s t output start stands all printed_is
@@ -227,12 +228,12 @@ handed_images now (Some pick) ended files image =
     subst (Image ended.state.pending ended.state.files) (sym image) (picked_may_be_left now pick ended.state.pending ended.state.files)
 
 -- what a command that ran leads to
-pub run_leads : ReadsTokens → ReadsAsIs → (stop : Stop) (host after : MemoryHost) (ran : Ran) → IsRun stop host after ran
+pub run_leads : ReadsTokens → ReadsAsIs → (stop : Stop) (host after : MemoryHost) (ran : Ran) → IsRun stop host after ran → IsUnscoped stop.words
     → (before : List Config) → AllStandFor before host.state → Leads before ran after.state
-run_leads reads now stop host after ran run before all =
+run_leads reads now stop host after ran run none before all =
     let first = all host.state.files (now host.state.pending host.state.files) in
     let led = promised_leads reads now before stop.words host.state run.ended.state ran.output.items first.0 first.1 all run.output
-    host.counts run.ended.counts run.result run.promised in (
+    host.counts run.ended.counts run.result none run.promised in (
       last_or_next before first.0 led.0 led.1,
       record {
         start = first.0;

@@ -7,7 +7,7 @@ use Rattle.std.specs.Prelude.{Option, Some, None}
 use Rattle.gcu_output.specs.Lines.{number}
 use Rattle.gcu_output.specs.declared.outcomes.Outcome.{Outcome}
 use Rattle.command_runs.specs.Noted.{rise}
-use Rattle.command_runs.specs.Runs.{HasReason, IsFault, IsPromised, IsRun, handed_on}
+use Rattle.command_runs.specs.Runs.{HasReason, IsFault, IsPromised, IsPromisedInScope, IsRun, handed_on}
 use Rattle.command_runs.specs.declared.stops.Ran.{Ran}
 use Rattle.command_runs.specs.declared.stops.Stop.{Stop}
 use Rattle.command_runs.proofs.Reasons.{reason_of}
@@ -26,13 +26,14 @@ behind base front whole output is rest =
 pub run_is : (stop : Stop) (host ended after : MemoryHost) (ran : Ran) (result : Outcome)
     → GoesOn (faulty_by stop.faults host) ended
     → IsPromised stop.words host.state ended.state host.counts ended.counts result
+    → IsPromisedInScope stop.words (faulty_by stop.faults host) ended result
     → files_of ran.before.items ≡ host.state.files
     → ran.output.items ≡ drop (length host.state.output) ended.state.output
     → ran.status ≡ number result → ran.calls ≡ ended.calls → ran.starved ≡ rise host.starved ended.starved
     → ended.calls < 2 ^ 64 → ended.starved < 2 ^ 64
     → after ≡ handed_on stop.pick ended
     → IsRun stop host after ran
-run_is stop host ended after ran result goes promised finds output status calls starved calls_fit starved_fits handed = record {
+run_is stop host ended after ran result goes promised scoped finds output status calls starved calls_fit starved_fits handed = record {
   ended = ended;
   result = result;
   goes = goes;
@@ -42,6 +43,7 @@ run_is stop host ended after ran result goes promised finds output status calls 
   calls = calls;
   starved = starved;
   promised = promised;
+  scoped = scoped;
   handed = handed;
   reason = λ fault.
       let counts : after.counts ≡ ended.counts = ap (λ (m : MemoryHost). m.counts) handed ∙ handed_counts stop.pick ended in

@@ -3,6 +3,7 @@ use Rattle.std.specs.Prelude.{◌≡◌, List, [], ◌∷◌, ◌++◌}
 use Rattle.host_core.specs.MemoryHost.{MemoryHost}
 use Rattle.conf_doc.specs.declared.configuration.Config.{Config}
 use Rattle.command_runs.specs.Histories.{AllStandFor, Leads}
+use Rattle.gcu_requests.specs.ScopeForm.{IsUnscoped}
 use Rattle.command_runs.specs.Runs.{IsRun}
 use Rattle.command_runs.specs.declared.stops.Ran.{Ran}
 use Rattle.command_runs.specs.declared.stops.Stop.{Stop}
@@ -12,4 +13,5 @@ pub record AddsRun (stop : Stop) (host next : MemoryHost) (old new : List Ran) :
   pub ran : Ran
   pub added : new ≡ old ++ ran ∷ []
   pub run : IsRun stop host next ran
-  pub leads : (before : List Config) → AllStandFor before host.state → Leads before ran next.state
+  pub leads : IsUnscoped stop.words
+      → (before : List Config) → AllStandFor before host.state → Leads before ran next.state

@@ -1,9 +1,9 @@
 -- What is noted of a command that runs on a host in memory, and what the promises say of it.
-use Rattle.std.specs.Prelude.{◌≡◌, ◌≢◌, ◌⊎◌, ◌<◌, ◌≤◌, ℕ, IsTrue, List, [], ◌∷◌, ◌++◌, Option, Some, None}
+use Rattle.std.specs.Prelude.{◌≡◌, ◌≢◌, ◌⊎◌, ◌<◌, ◌≤◌, ℕ, IsTrue, List, [], ◌∷◌, ◌++◌, Option, Some, None, ⊤}
 use Rattle.host_core.specs.Counts.{Counts, NoneRose, last_count}
 use Rattle.host_core.specs.Crashes.{Left, MayLeave}
 use Rattle.host_core.specs.Faults.{is_faulty}
-use Rattle.host_core.specs.MemoryHost.{GoesOn, MemoryHost, faulty_by}
+use Rattle.host_core.specs.MemoryHost.{GoesOn, MemoryHost, faulty_by, left_of, moment_of}
 use Rattle.host_core.specs.Picks.{crashed}
 use Rattle.host_core.specs.State.{State}
 use Rattle.host_core.specs.declared.crash.Pick.{Pick}
@@ -12,10 +12,11 @@ use Rattle.gcu_output.specs.Lines.{number}
 use Rattle.gcu_output.specs.declared.outcomes.Outcome.{Outcome}
 use Rattle.gcu_output.specs.declared.outcomes.Outcome.TheVariants.{Usage}
 use Rattle.gcu_requests.specs.Asked.{asked}
-use Rattle.gcu_requests.specs.Form.{form}
+use Rattle.gcu_requests.specs.ScopeForm.{IsNoCommand, IsUnscoped}
 use Rattle.gcu_engine.specs.Answers.{Answers, Complete, HasCause, TellsUsage}
 use Rattle.gcu_engine.specs.Crashes.{LeftMeanwhile}
 use Rattle.gcu_engine.specs.Headline.{IsHeadline}
+use Rattle.gcu_engine.specs.Scoped.{RunsScoped}
 use Rattle.command_runs.specs.Noted.{found, rise}
 use Rattle.command_runs.specs.declared.stops.Ran.{Ran}
 use Rattle.command_runs.specs.declared.stops.Stop.{Stop}
@@ -23,16 +24,32 @@ use Rattle.command_runs.specs.declared.stops.Stop.{Stop}
 -- ---- the promises
 
 -- what is promised of a command that began in one state with these counts and ended in another: its answer,
--- its output and what it leaves, also to a crash at its end, by what the words ask of the state before
+-- its output and what it leaves, also to a crash at its end, by what the words ask of the state before. What
+-- is promised of words that name a scope stands apart.
 pub record IsPromised (words : List (List ℕ)) (before after : State) (old new : Counts)
     (result : Outcome) : Type 0 where
-  pub answers : Answers words (Some before) (Some after) old new result
+  pub answers : IsUnscoped words → Answers words (Some before) (Some after) old new result
   pub cause : HasCause old new result
-  pub left : (left : Left) → MayLeave after left → LeftMeanwhile words (Some before) left
-  pub headline : IsHeadline words before (Some after) result (MayLeave after)
-  pub usage : result ≡ Usage → form words ≡ None
-  pub only_usage : form words ≡ None → TellsUsage result
-  pub complete : NoneRose old new → Complete (asked words before) result
+  pub left : IsUnscoped words
+      → (left : Left) → MayLeave after left → LeftMeanwhile words (Some before) left
+  pub headline : IsUnscoped words → IsHeadline words before (Some after) result (MayLeave after)
+  pub usage : result ≡ Usage → IsNoCommand words
+  pub only_usage : IsNoCommand words → TellsUsage result
+  pub complete : IsUnscoped words → NoneRose old new → Complete (asked words before) result
+
+-- a host in memory tells its state
+abbrev pub told_of : MemoryHost → Option State
+told_of m = Some m.state
+
+-- and its counts
+abbrev pub counts_of : MemoryHost → Counts
+counts_of m = m.counts
+
+-- the same of words that name a scope: it is so over the files of that scope
+abbrev pub IsPromisedInScope : List (List ℕ) → MemoryHost → MemoryHost → Outcome → Type 0
+IsPromisedInScope words began ended result =
+    IsUnscoped words
+    ⊎ RunsScoped told_of counts_of moment_of left_of words began ended result
 
 -- ---- faults
 
@@ -72,6 +89,7 @@ pub record IsRun (stop : Stop) (host after : MemoryHost) (ran : Ran) : Type 0 wh
   pub calls : ran.calls ≡ ended.calls
   pub starved : ran.starved ≡ rise host.starved ended.starved
   pub promised : IsPromised stop.words host.state ended.state host.counts ended.counts result
+  pub scoped : IsPromisedInScope stop.words (faulty_by stop.faults host) ended result
   pub handed : after ≡ handed_on stop.pick ended
   pub reason : IsFault ran.status → HasReason stop.faults ran after.counts
 
@@ -82,3 +100,8 @@ AreRun [] host after (ran ∷ rans) = ⊥
 AreRun (stop ∷ stops) host after [] = ⊥
 AreRun (stop ∷ stops) host after (ran ∷ rans) =
     (next : MemoryHost) × IsRun stop host next ran × AreRun stops next after rans
+
+-- no command names a scope
+abbrev pub AreUnscoped : List Stop → Type 0
+AreUnscoped [] = ⊤
+AreUnscoped (stop ∷ stops) = IsUnscoped stop.words × AreUnscoped stops

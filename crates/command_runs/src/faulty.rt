@@ -1,7 +1,7 @@
 //! One command on a host with faults.
 ghost use Rattle.std.specs.Prelude.{◌≡◌};
 ghost use Rattle.host_core.specs.MemoryHost.{GoesOn, faulty_by};
-ghost use Rattle.command_runs.specs.Runs.{IsPromised};
+ghost use Rattle.command_runs.specs.Runs.{IsPromised, IsPromisedInScope};
 
 use gcu_engine::{Outcome, run};
 use host_core::{Faults, MemHost, Names};
@@ -21,6 +21,7 @@ pub(crate) fn run_with(
     ensures goes { GoesOn (faulty_by faults host) result.0 }
     ensures promised { IsPromised words
         host.state result.0.state host.counts result.0.counts result.1 }
+    ensures scoped { IsPromisedInScope words (faulty_by faults host) result.0 result.1 }
 {
     let mut host = host.with_faults(faults);
     let outcome = run(alloc, words.items(), kit, &mut host);

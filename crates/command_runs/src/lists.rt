@@ -3,7 +3,7 @@ ghost use Rattle.std.specs.Prelude.{List, IfOk};
 ghost use Rattle.conf_doc.specs.declared.configuration.Config.{Config};
 ghost use Rattle.command_runs.specs.Adding.{AddsRun};
 ghost use Rattle.command_runs.specs.Histories.{AllLead, AllStandFor};
-ghost use Rattle.command_runs.specs.Runs.{AreRun};
+ghost use Rattle.command_runs.specs.Runs.{AreRun, AreUnscoped};
 
 use crate::running::run_stop;
 use crate::{Ran, Stop};
@@ -24,8 +24,9 @@ pub fn run_stops(
     // There is one note for each command, in order, and each command ran as is promised.
     ensures runs { IfOk result (λ r. AreRun stops.items host r.0 r.1.items) }
     // Each command finds files that stand for a configuration of the list that those before it lead to, and
-    // so do those that are handed on, and all images of them.
-    ensures lead { IfOk result (λ r. (before : List Config) → AllStandFor before host.state
+    // so do those that are handed on, and all images of them. It is said of commands over the whole folder.
+    ensures lead { IfOk result (λ r. AreUnscoped stops.items
+        → (before : List Config) → AllStandFor before host.state
         → AllLead before r.1.items r.0.state) }
 {
     crash_may_leave_all();

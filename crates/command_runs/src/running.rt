@@ -1,6 +1,7 @@
 //! One command that is run to its end or stopped, and lists of them.
 ghost use Rattle.std.specs.Prelude.{List, IfOk};
 ghost use Rattle.conf_doc.specs.declared.configuration.Config.{Config};
+ghost use Rattle.gcu_requests.specs.ScopeForm.{IsUnscoped};
 ghost use Rattle.command_runs.specs.Histories.{AllStandFor, Leads};
 ghost use Rattle.command_runs.specs.Runs.{IsRun};
 
@@ -26,9 +27,10 @@ pub fn run_stop(
     // its status and what is handed on; and a fault has a reason.
     ensures runs { IfOk result (λ r. IsRun stop host r.0 r.1) }
     // Where the files that it found and all images of them stand for configurations of a list, those that
-    // are handed on stand for configurations of the list that it leads to.
-    ensures leads { IfOk result (λ r. (before : List Config) → AllStandFor before host.state
-        → Leads before r.1 r.0.state) }
+    // are handed on stand for configurations of the list that it leads to. It is said of a command over the
+    // whole folder.
+    ensures leads { IfOk result (λ r. IsUnscoped stop.words
+        → (before : List Config) → AllStandFor before host.state → Leads before r.1 r.0.state) }
 {
     crash_may_leave_all();
     tokens_of_pointer();

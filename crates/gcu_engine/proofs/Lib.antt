@@ -34,6 +34,7 @@ mod Requests
 mod Resuming
 mod RightPlans
 mod Savings
+mod Scoping
 mod StatusSaying
 mod StepsElsewhere
 mod SummaryTexts

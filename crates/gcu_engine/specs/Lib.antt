@@ -1,6 +1,7 @@
 -- what public clauses cite
 pub mod Answers
 pub mod Changing
+pub mod Commands
 pub mod Contents
 pub mod Crashes
 pub mod Headline
@@ -9,9 +10,9 @@ pub mod Migrating
 pub mod Plannings
 pub mod PointLines
 pub mod Resuming
+pub mod Scoped
 pub mod Summary
 -- what only private clauses cite
-pub mod Commands
 pub mod Doing
 pub mod FaultLines
 pub mod MigrationEnds

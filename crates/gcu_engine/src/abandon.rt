@@ -2,7 +2,7 @@
 ghost use Rattle.std.specs.Prelude.{◌≡◌, ◌≤◌, IfErr, IfSome, OnOk};
 ghost use Rattle.host_core.specs.Counts.{DiskMayRise, NoneFell};
 ghost use Rattle.host_core.specs.Crashes.{LeavesOnly};
-ghost use Rattle.host_core.specs.Names.{longest_scoped_name};
+ghost use Rattle.host_core.specs.Names.{longest_plain_name};
 ghost use Rattle.host_core.specs.State.{CanMove};
 ghost use Rattle.conf_store.specs.Changes.{AreLeft, Settles};
 ghost use Rattle.conf_store.specs.Files.{intent_file};
@@ -23,7 +23,7 @@ use std::alloc::Global;
 
 /// Removes `intent`. What the folder stands for stays as it is.
 pub(crate) fn abandon<H: Host>(alloc: Global, host: &mut H) -> Outcome
-    requires { longest_scoped_name ≤ H.longest_name }
+    requires { longest_plain_name ≤ H.longest_name }
     ensures answers { AnswersTo abandon_asked
         (H.told host.old) (H.told host.new) (H.counts host.old) (H.counts host.new) result }
     ensures cause { HasCause (H.counts host.old) (H.counts host.new) result }
@@ -41,7 +41,7 @@ pub(crate) fn abandon<H: Host>(alloc: Global, host: &mut H) -> Outcome
 
 /// Settles what is pending, and removes `intent` where it is there.
 fn give_up<H: Host>(alloc: Global, host: &mut H) -> Result<(), Outcome>
-    requires { longest_scoped_name ≤ H.longest_name }
+    requires { longest_plain_name ≤ H.longest_name }
     ensures left { IsReady abandon_asked
         (H.told host.old) (H.told host.new) (outcome_of result) }
     ensures counts { DiskMayRise (H.counts host.old) (H.counts host.new) }
@@ -61,7 +61,7 @@ fn give_up<H: Host>(alloc: Global, host: &mut H) -> Result<(), Outcome>
 
 /// Removes `intent`, with nothing pending.
 fn remove_intent<H: Host>(host: &mut H) -> Result<(), Outcome>
-    requires longest { longest_scoped_name ≤ H.longest_name }
+    requires longest { longest_plain_name ≤ H.longest_name }
     requires ready { IfSome (H.told host.old) (CanMove intent_file) }
     ensures ok { OnOk result (Settles IsClosed (H.told host.old) (H.told host.new)) }
     ensures err { IfErr result

@@ -3,7 +3,7 @@
 ghost use Rattle.std.specs.Prelude.{◌≡◌, ◌≤◌, ◌<◌, false, true, IfErr, IfOk, IfSome, map, option_map};
 ghost use Rattle.host_core.specs.Counts.{NoneFell, PrintMayRise};
 ghost use Rattle.host_core.specs.Crashes.{Elapses, LeavesOnly, MayLeaveInPrint, MayLeaveNow};
-ghost use Rattle.host_core.specs.Names.{longest_scoped_name};
+ghost use Rattle.host_core.specs.Names.{longest_plain_name};
 ghost use Rattle.host_core.specs.State.{settled, with_pending};
 ghost use Rattle.conf_store.specs.Changes.{IsSettled};
 ghost use Rattle.conf_store.specs.Folds.{StandsFor};
@@ -56,7 +56,7 @@ pub(crate) fn change<H: Host>(
     kit: &mut Kit,
     host: &mut H,
 ) -> Outcome
-    requires longest { longest_scoped_name ≤ H.longest_name }
+    requires longest { longest_plain_name ≤ H.longest_name }
     requires kinds { ⟦<Kit as Boxes>⟧.HasKinds kit.old }
     requires budget { 0 < budget }
     requires most { budget ≤ most_budget }
@@ -89,7 +89,7 @@ fn change_named<H: Host>(
     kit: &mut Kit,
     host: &mut H,
 ) -> Outcome
-    requires longest { longest_scoped_name ≤ H.longest_name }
+    requires longest { longest_plain_name ≤ H.longest_name }
     requires named { HasGoodName (target_view target) }
     requires kinds { ⟦<Kit as Boxes>⟧.HasKinds kit.old }
     requires budget { 0 < budget }
@@ -125,7 +125,7 @@ fn make_ready<H: Host>(
     kit: &mut Kit,
     host: &mut H,
 ) -> Result<ReadyChange, Outcome>
-    requires longest { longest_scoped_name ≤ H.longest_name }
+    requires longest { longest_plain_name ≤ H.longest_name }
     requires named { HasGoodName (target_view target) }
     requires kinds { ⟦<Kit as Boxes>⟧.HasKinds kit.old }
     requires budget { 0 < budget }
@@ -159,7 +159,7 @@ fn plan_settled<H: Host>(
     kit: &mut Kit,
     host: &mut H,
 ) -> Result<ReadyChange, Outcome>
-    requires longest { longest_scoped_name ≤ H.longest_name }
+    requires longest { longest_plain_name ≤ H.longest_name }
     requires named { HasGoodName (target_view target) }
     requires kinds { ⟦<Kit as Boxes>⟧.HasKinds kit.old }
     requires budget { 0 < budget }
@@ -259,7 +259,7 @@ fn plan_services(
 
 /// Prints the plan of a change, and does it.
 fn do_change<H: Host>(change: &ReadyChange, host: &mut H) -> Outcome
-    requires longest { longest_scoped_name ≤ H.longest_name }
+    requires longest { longest_plain_name ≤ H.longest_name }
     requires clean { IfSome (H.told host.old) IsSettled }
     requires stands { IfSome (H.told host.old) (λ s. StandsFor change.now.ready.stored s.files) }
     requires closes { IfSome (H.told host.old)
@@ -284,7 +284,7 @@ fn do_change<H: Host>(change: &ReadyChange, host: &mut H) -> Outcome
 
 /// Does a change whose plan is printed.
 fn finish_change<H: Host>(change: &ReadyChange, host: &mut H) -> Outcome
-    requires longest { longest_scoped_name ≤ H.longest_name }
+    requires longest { longest_plain_name ≤ H.longest_name }
     requires clean { IfSome (H.told host.old) IsSettled }
     requires stands { IfSome (H.told host.old) (λ s. StandsFor change.now.ready.stored s.files) }
     requires closes { IfSome (H.told host.old)
@@ -309,7 +309,7 @@ fn finish_change<H: Host>(change: &ReadyChange, host: &mut H) -> Outcome
 
 /// Removes `intent`, and ends a change without steps.
 fn close_stopped<H: Host>(change: &ReadyChange, host: &mut H) -> Outcome
-    requires longest { longest_scoped_name ≤ H.longest_name }
+    requires longest { longest_plain_name ≤ H.longest_name }
     requires clean { IfSome (H.told host.old) IsSettled }
     requires stands { IfSome (H.told host.old) (λ s. StandsFor change.now.ready.stored s.files) }
     requires over { IfSome (H.told host.old) (λ s. ClosesAs true change.now.ready s.files) }
@@ -336,7 +336,7 @@ fn close_stopped<H: Host>(change: &ReadyChange, host: &mut H) -> Outcome
 
 /// Does the steps of a change.
 fn do_steps<H: Host>(change: &ReadyChange, host: &mut H) -> Outcome
-    requires longest { longest_scoped_name ≤ H.longest_name }
+    requires longest { longest_plain_name ≤ H.longest_name }
     requires clean { IfSome (H.told host.old) IsSettled }
     requires stands { IfSome (H.told host.old) (λ s. StandsFor change.now.ready.stored s.files) }
     requires closed { IfSome (H.told host.old) (λ s. ClosesAs false change.now.ready s.files) }

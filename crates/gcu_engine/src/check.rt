@@ -2,7 +2,7 @@
 ghost use Rattle.std.specs.Prelude.{◌≡◌, ◌≤◌, Ok};
 ghost use Rattle.host_core.specs.Counts.{NoneFell};
 ghost use Rattle.host_core.specs.Crashes.{LeavesOnly};
-ghost use Rattle.host_core.specs.Names.{longest_scoped_name};
+ghost use Rattle.host_core.specs.Names.{longest_plain_name};
 ghost use Rattle.gcu_output.specs.declared.outcomes.Outcome.TheVariants.{Usage as usage};
 ghost use Rattle.gcu_requests.specs.Checking.{check_asked};
 ghost use Rattle.gcu_engine.specs.Answers.{HasCause};
@@ -16,7 +16,7 @@ use std::alloc::Global;
 
 /// Says whether the stored configuration is valid, or where it isn't.
 pub(crate) fn check<H: Host>(alloc: Global, host: &mut H) -> Outcome
-    requires { longest_scoped_name ≤ H.longest_name }
+    requires { longest_plain_name ≤ H.longest_name }
     ensures answers { AnswersTo check_asked
         (H.told host.old) (H.told host.new) (H.counts host.old) (H.counts host.new) result }
     ensures cause { HasCause (H.counts host.old) (H.counts host.new) result }

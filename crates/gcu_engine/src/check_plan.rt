@@ -2,7 +2,7 @@
 ghost use Rattle.std.specs.Prelude.{◌≡◌, ◌≤◌, ◌++◌, IfOk, string_bytes};
 ghost use Rattle.host_core.specs.Counts.{NoneFell, PrintMayRise};
 ghost use Rattle.host_core.specs.Crashes.{Elapses, LeavesOnly};
-ghost use Rattle.host_core.specs.Names.{longest_scoped_name};
+ghost use Rattle.host_core.specs.Names.{longest_plain_name};
 ghost use Rattle.gcu_output.specs.Printing.{LeftInText, IsSaid};
 ghost use Rattle.gcu_output.specs.Lines.{last_line};
 ghost use Rattle.gcu_output.specs.declared.outcomes.Outcome.TheVariants.{Done as done, Usage as usage};
@@ -19,7 +19,7 @@ use std::alloc::{AllocError, Global};
 
 /// Says of how many steps a plan is, or where it is none. The folder stays as it is.
 pub(crate) fn check_plan<H: Host>(alloc: Global, patch: &Txt, plan: &Txt, host: &mut H) -> Outcome
-    requires { longest_scoped_name ≤ H.longest_name }
+    requires { longest_plain_name ≤ H.longest_name }
     ensures answers { AnswersTo (check_plan_asked patch.now plan.now)
         (H.told host.old) (H.told host.new) (H.counts host.old) (H.counts host.new) result }
     ensures cause { HasCause (H.counts host.old) (H.counts host.new) result }

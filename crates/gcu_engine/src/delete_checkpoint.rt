@@ -3,7 +3,7 @@ ghost use Rattle.std.specs.Prelude.{◌≡◌, ◌≤◌, true, IfErr, IfSome, N
 ghost use Rattle.std.specs.FinMap.{get};
 ghost use Rattle.host_core.specs.Counts.{DiskMayRise, NoneFell};
 ghost use Rattle.host_core.specs.Crashes.{LeavesOnly};
-ghost use Rattle.host_core.specs.Names.{longest_scoped_name};
+ghost use Rattle.host_core.specs.Names.{longest_plain_name};
 ghost use Rattle.conf_store.specs.Changes.{AreLeft, IsSettled, Settles};
 ghost use Rattle.conf_store.specs.Reads.{OnlyReads};
 ghost use Rattle.checkpoints.specs.Changes.{IsDeleted, IsDeletedOrNot};
@@ -26,7 +26,7 @@ use std::alloc::Global;
 
 /// Deletes a checkpoint, whatever it holds. Once it is deleted no memory is asked for.
 pub(crate) fn delete_checkpoint<H: Host>(alloc: Global, name: &Txt, host: &mut H) -> Outcome
-    requires { longest_scoped_name ≤ H.longest_name }
+    requires { longest_plain_name ≤ H.longest_name }
     ensures answers { AnswersTo (delete_asked name.now)
         (H.told host.old) (H.told host.new) (H.counts host.old) (H.counts host.new) result }
     ensures cause { HasCause (H.counts host.old) (H.counts host.new) result }
@@ -44,7 +44,7 @@ pub(crate) fn delete_checkpoint<H: Host>(alloc: Global, name: &Txt, host: &mut H
 
 /// Settles what is pending, and deletes the checkpoint, where no change was stopped before its end.
 fn remove_checkpoint<H: Host>(alloc: Global, name: &Txt, host: &mut H) -> Result<(), Outcome>
-    requires { longest_scoped_name ≤ H.longest_name }
+    requires { longest_plain_name ≤ H.longest_name }
     ensures left { IsReady (delete_asked name.now)
         (H.told host.old) (H.told host.new) (outcome_of result) }
     ensures counts { DiskMayRise (H.counts host.old) (H.counts host.new) }
@@ -68,7 +68,7 @@ fn remove_checkpoint<H: Host>(alloc: Global, name: &Txt, host: &mut H) -> Result
 
 /// Deletes the checkpoint, with nothing pending.
 fn delete_settled<H: Host>(alloc: Global, name: &Txt, host: &mut H) -> Result<(), Outcome>
-    requires longest { longest_scoped_name ≤ H.longest_name }
+    requires longest { longest_plain_name ≤ H.longest_name }
     requires ready { IfSome (H.told host.old) IsSettled }
     requires named { is_name name.now ≡ true }
     ensures answer { Finds (H.told host.old) (λ _. deletion_of name.now) result

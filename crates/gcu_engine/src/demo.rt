@@ -2,7 +2,7 @@
 ghost use Rattle.std.specs.Prelude.{◌≡◌, ◌≤◌, ◌++◌, IfErr, IfOk, IfSome, OnOk, string_bytes};
 ghost use Rattle.host_core.specs.Counts.{NoneFell, PrintMayRise};
 ghost use Rattle.host_core.specs.Crashes.{Elapses, LeavesOnly, MayLeaveNow};
-ghost use Rattle.host_core.specs.Names.{longest_scoped_name};
+ghost use Rattle.host_core.specs.Names.{longest_plain_name};
 ghost use Rattle.gcu_demo.specs.Demo.{most_ports};
 ghost use Rattle.gcu_output.specs.Printing.{LeftInText, IsSaid};
 ghost use Rattle.gcu_output.specs.Lines.{last_line, line_feed};
@@ -25,7 +25,7 @@ use std::alloc::{AllocError, Global};
 /// Says of how many steps a plan is between the configurations of a demonstration. Of the folder only `intent`
 /// is looked for, and no file is written.
 pub(crate) fn demo<H: Host>(alloc: Global, size: Demo, kit: &mut Kit, host: &mut H) -> Outcome
-    requires longest { longest_scoped_name ≤ H.longest_name }
+    requires longest { longest_plain_name ≤ H.longest_name }
     requires kinds { ⟦<Kit as Boxes>⟧.HasKinds kit.old }
     ensures kinds { ⟦<Kit as Boxes>⟧.HasKinds kit.new }
     ensures answers { AnswersTo (demo_asked size.seed size.ports)
@@ -52,7 +52,7 @@ fn find_steps<H: Host>(
     kit: &mut Kit,
     host: &mut H,
 ) -> Result<Plan, Outcome>
-    requires longest { longest_scoped_name ≤ H.longest_name }
+    requires longest { longest_plain_name ≤ H.longest_name }
     requires kinds { ⟦<Kit as Boxes>⟧.HasKinds kit.old }
     ensures kinds { ⟦<Kit as Boxes>⟧.HasKinds kit.new }
     ensures says { IfSome (H.told host.old)

@@ -13,7 +13,9 @@ mod kit_lists;
 mod list_checkpoints;
 mod migrate_checkpoints;
 mod run_command;
+mod run_form;
 mod save_checkpoint;
+mod scoped;
 mod solving;
 mod status;
 

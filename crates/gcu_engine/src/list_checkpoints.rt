@@ -2,7 +2,7 @@
 ghost use Rattle.std.specs.Prelude.{◌≡◌, ◌≤◌, ◌++◌, IfErr, IfOk, OnOk, map, string_bytes};
 ghost use Rattle.host_core.specs.Counts.{DiskMayRise, NoneFell, PrintMayRise};
 ghost use Rattle.host_core.specs.Crashes.{Elapses, LeavesOnly, MayLeaveNow};
-ghost use Rattle.host_core.specs.Names.{longest_scoped_name};
+ghost use Rattle.host_core.specs.Names.{longest_plain_name};
 ghost use Rattle.checkpoints.specs.Answers.{numbered_view};
 ghost use Rattle.gcu_output.specs.Printing.{LeftInText, IsSaid};
 ghost use Rattle.gcu_output.specs.Lines.{last_line, line_feed};
@@ -23,7 +23,7 @@ use std::alloc::{AllocError, Global};
 
 /// Prints the names of all checkpoints, one a line, each with its sequence number or `broken`.
 pub(crate) fn list_checkpoints<H: Host>(alloc: Global, host: &mut H) -> Outcome
-    requires { longest_scoped_name ≤ H.longest_name }
+    requires { longest_plain_name ≤ H.longest_name }
     ensures answers { AnswersTo list_asked
         (H.told host.old) (H.told host.new) (H.counts host.old) (H.counts host.new) result }
     ensures cause { HasCause (H.counts host.old) (H.counts host.new) result }
@@ -43,7 +43,7 @@ pub(crate) fn list_checkpoints<H: Host>(alloc: Global, host: &mut H) -> Outcome
 
 /// All checkpoints with their numbers, where no change was stopped before its end.
 fn find_numbers<H: Host>(alloc: Global, host: &mut H) -> Result<Sequence<Numbered>, Outcome>
-    requires { longest_scoped_name ≤ H.longest_name }
+    requires { longest_plain_name ≤ H.longest_name }
     ensures answer { Finds (H.told host.old) (λ all. list_of (map numbered_view all)) result
         list_asked }
     ensures told { H.told host.new ≡ H.told host.old }
@@ -58,7 +58,7 @@ fn find_numbers<H: Host>(alloc: Global, host: &mut H) -> Result<Sequence<Numbere
 
 /// All checkpoints with their numbers.
 fn read_numbers<H: Host>(alloc: Global, host: &mut H) -> Result<Sequence<Numbered>, Outcome>
-    requires { longest_scoped_name ≤ H.longest_name }
+    requires { longest_plain_name ≤ H.longest_name }
     ensures answer { Finds (H.told host.old) (λ all. list_of (map numbered_view all)) result
         numbers_asked }
     ensures told { H.told host.new ≡ H.told host.old }

@@ -2,7 +2,7 @@
 ghost use Rattle.std.specs.Prelude.{◌≡◌, ◌≤◌, All, IfErr, IfOk, IfSome, Ok, option_map};
 ghost use Rattle.host_core.specs.Counts.{DiskMayRise, NoneFell};
 ghost use Rattle.host_core.specs.Crashes.{Elapses, LeavesOnly, MayLeaveNow};
-ghost use Rattle.host_core.specs.Names.{longest_scoped_name};
+ghost use Rattle.host_core.specs.Names.{longest_plain_name};
 ghost use Rattle.host_core.specs.State.{settled, with_pending};
 ghost use Rattle.conf_store.specs.Changes.{IsSettled};
 ghost use Rattle.checkpoints.specs.Migrations.{IsDue};
@@ -39,7 +39,7 @@ pub(crate) struct ReadyMigration {
 /// Puts the file of each checkpoint of the old format anew, in the order of the names, and prints a line for
 /// each. Once all is ready no memory is asked for.
 pub(crate) fn migrate_checkpoints<H: Host>(alloc: Global, host: &mut H) -> Outcome
-    requires { longest_scoped_name ≤ H.longest_name }
+    requires { longest_plain_name ≤ H.longest_name }
     ensures answers { AnswersTo migrate_asked
         (H.told host.old) (H.told host.new) (H.counts host.old) (H.counts host.new) result }
     ensures cause { HasCause (H.counts host.old) (H.counts host.new) result }
@@ -59,7 +59,7 @@ pub(crate) fn migrate_checkpoints<H: Host>(alloc: Global, host: &mut H) -> Outco
 
 /// Settles what is pending, and makes every byte of the migration.
 fn make_ready<H: Host>(alloc: Global, host: &mut H) -> Result<ReadyMigration, Outcome>
-    requires { longest_scoped_name ≤ H.longest_name }
+    requires { longest_plain_name ≤ H.longest_name }
     ensures ready { IfOk result (λ r. IfSome (H.told host.old)
         (λ s. (migrate_asked s).Gives (Ok (migration_of r.migration)))) }
     ensures due { IfOk result (λ r. IfSome (H.told host.new)
@@ -82,7 +82,7 @@ fn make_ready<H: Host>(alloc: Global, host: &mut H) -> Result<ReadyMigration, Ou
 
 /// Makes every byte of the migration, with nothing pending, where no change was stopped before its end.
 fn ready_settled<H: Host>(alloc: Global, host: &mut H) -> Result<ReadyMigration, Outcome>
-    requires { longest_scoped_name ≤ H.longest_name }
+    requires { longest_plain_name ≤ H.longest_name }
     ensures answer { Finds (H.told host.old) (λ r. migration_of r.migration) result
         migration_asked }
     ensures due { IfOk result (λ r. IfSome (H.told host.old)
@@ -100,7 +100,7 @@ fn ready_settled<H: Host>(alloc: Global, host: &mut H) -> Result<ReadyMigration,
 
 /// Makes every byte of the migration, whether a change was stopped or not.
 fn prepare_lines<H: Host>(alloc: Global, host: &mut H) -> Result<ReadyMigration, Outcome>
-    requires { longest_scoped_name ≤ H.longest_name }
+    requires { longest_plain_name ≤ H.longest_name }
     ensures answer { Finds (H.told host.old) (λ r. migration_of r.migration) result old_asked }
     ensures due { IfOk result (λ r. IfSome (H.told host.old)
         (λ s. All (λ n. IsDue n s.files) r.migration)) }
@@ -118,7 +118,7 @@ fn prepare_lines<H: Host>(alloc: Global, host: &mut H) -> Result<ReadyMigration,
 
 /// The checkpoints of the old format, with their new texts.
 fn find_migration<H: Host>(alloc: Global, host: &mut H) -> Result<Migration, Outcome>
-    requires { longest_scoped_name ≤ H.longest_name }
+    requires { longest_plain_name ≤ H.longest_name }
     ensures answer { Finds (H.told host.old) migration_of result old_asked }
     ensures due { IfOk result (λ m. IfSome (H.told host.old) (λ s. All (λ n. IsDue n s.files) m)) }
     ensures told { H.told host.new ≡ H.told host.old }
@@ -151,7 +151,7 @@ fn with_lines(alloc: Global, migration: Migration) -> Result<ReadyMigration, Mem
 
 /// Does a migration whose lines are ready, and prints the last one.
 fn do_migration<H: Host>(ready: &ReadyMigration, host: &mut H) -> Outcome
-    requires longest { longest_scoped_name ≤ H.longest_name }
+    requires longest { longest_plain_name ≤ H.longest_name }
     requires clean { IfSome (H.told host.old) IsSettled }
     requires due { IfSome (H.told host.old) (λ s. All (λ n. IsDue n s.files) ready.now.migration) }
     requires lines { HasLines ready.now }

@@ -2,7 +2,7 @@
 ghost use Rattle.std.specs.Prelude.{◌≡◌, ◌≤◌, true, IfErr, IfSome, OnOk};
 ghost use Rattle.host_core.specs.Counts.{DiskMayRise, NoneFell};
 ghost use Rattle.host_core.specs.Crashes.{LeavesOnly};
-ghost use Rattle.host_core.specs.Names.{longest_scoped_name};
+ghost use Rattle.host_core.specs.Names.{longest_plain_name};
 ghost use Rattle.conf_store.specs.Changes.{AreLeft, IsSettled, Settles};
 ghost use Rattle.conf_store.specs.Reads.{OnlyReads};
 ghost use Rattle.checkpoints.specs.Answers.{IsInTheWay};
@@ -27,7 +27,7 @@ use std::alloc::Global;
 /// Saves the stored configuration, where it is valid, as a checkpoint that isn't there yet. Once it is saved
 /// no memory is asked for.
 pub(crate) fn save_checkpoint<H: Host>(alloc: Global, name: &Txt, host: &mut H) -> Outcome
-    requires { longest_scoped_name ≤ H.longest_name }
+    requires { longest_plain_name ≤ H.longest_name }
     ensures answers { AnswersTo (save_asked name.now)
         (H.told host.old) (H.told host.new) (H.counts host.old) (H.counts host.new) result }
     ensures cause { HasCause (H.counts host.old) (H.counts host.new) result }
@@ -45,7 +45,7 @@ pub(crate) fn save_checkpoint<H: Host>(alloc: Global, name: &Txt, host: &mut H) 
 
 /// Settles what is pending, judges the stored configuration, and saves it.
 fn add_checkpoint<H: Host>(alloc: Global, name: &Txt, host: &mut H) -> Result<(), Outcome>
-    requires { longest_scoped_name ≤ H.longest_name }
+    requires { longest_plain_name ≤ H.longest_name }
     ensures left { IsReady (save_asked name.now)
         (H.told host.old) (H.told host.new) (outcome_of result) }
     ensures counts { NoneFell (H.counts host.old) (H.counts host.new) }
@@ -74,7 +74,7 @@ fn save_config<H: Host>(
     config: &Config,
     host: &mut H,
 ) -> Result<(), Outcome>
-    requires longest { longest_scoped_name ≤ H.longest_name }
+    requires longest { longest_plain_name ≤ H.longest_name }
     requires ready { IfSome (H.told host.old) IsSettled }
     requires named { is_name name.now ≡ true }
     ensures answer { Finds (H.told host.old) (λ _. saving_of name.now config.now) result

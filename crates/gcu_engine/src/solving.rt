@@ -2,7 +2,7 @@
 ghost use Rattle.std.specs.Prelude.{◌≡◌, ◌≤◌, ◌<◌, IfErr, IfSome};
 ghost use Rattle.host_core.specs.Counts.{NoneFell};
 ghost use Rattle.host_core.specs.Crashes.{Elapses, MayLeaveNow};
-ghost use Rattle.host_core.specs.Names.{longest_scoped_name};
+ghost use Rattle.host_core.specs.Names.{longest_plain_name};
 ghost use Rattle.move_core.specs.Contexts.{rulebook};
 ghost use Rattle.plan_search.specs.Searches.{IsSearchAnswer};
 ghost use Rattle.plan_options.specs.Views.{target_view};
@@ -28,7 +28,7 @@ pub(crate) fn solve<H: Host>(
     kit: &mut Kit,
     host: &mut H,
 ) -> Result<Plan, Outcome>
-    requires longest { longest_scoped_name ≤ H.longest_name }
+    requires longest { longest_plain_name ≤ H.longest_name }
     requires kinds { ⟦<Kit as Boxes>⟧.HasKinds kit.old }
     requires budget { 0 < budget }
     ensures kinds { ⟦<Kit as Boxes>⟧.HasKinds kit.new }

@@ -1,4 +1,5 @@
 pub mod Checked
+mod Choices
 pub mod Finding
 mod DemoFinding
 mod FirstBreaches

@@ -19,6 +19,7 @@ pub mod Preparing
 pub mod ReadPlannings
 pub mod Request
 pub mod RulesAsked
+pub mod ScopeForm
 pub mod StoredAsked
 pub mod Trees
 -- what only private clauses cite

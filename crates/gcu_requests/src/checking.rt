@@ -2,7 +2,7 @@
 ghost use Rattle.std.specs.Prelude.{◌≡◌, ◌≤◌, IfErr, IfOk, Ok};
 ghost use Rattle.host_core.specs.Counts.{NoneFell};
 ghost use Rattle.host_core.specs.Crashes.{Elapses, MayLeaveNow};
-ghost use Rattle.host_core.specs.Names.{longest_scoped_name};
+ghost use Rattle.host_core.specs.Names.{longest_plain_name};
 ghost use Rattle.conf_check.specs.Validity.{IsFirstViolation};
 ghost use Rattle.gcu_requests.specs.Asking.{follows_by};
 ghost use Rattle.gcu_requests.specs.Checking.{IsJudged, check_asked, judging_asked};
@@ -23,7 +23,7 @@ use yang_model::Models;
 
 /// The stored configuration, where it is valid and no change was stopped before its end.
 pub fn judge_stored<H: Host>(alloc: Global, host: &mut H) -> Result<Config, Outcome>
-    requires { longest_scoped_name ≤ H.longest_name }
+    requires { longest_plain_name ≤ H.longest_name }
     ensures answer { Finds (H.told host.old) (λ _. check_of) result check_asked }
     ensures stored { IfOk result (λ c. Finds (H.told host.old) (λ _. c) (Ok c) stored_asked) }
     ensures told { H.told host.new ≡ H.told host.old }
@@ -38,7 +38,7 @@ pub fn judge_stored<H: Host>(alloc: Global, host: &mut H) -> Result<Config, Outc
 
 /// The same, where no change was stopped before its end.
 fn judge_folder<H: Host>(alloc: Global, host: &mut H) -> Result<Config, Outcome>
-    requires { longest_scoped_name ≤ H.longest_name }
+    requires { longest_plain_name ≤ H.longest_name }
     ensures answer { Finds (H.told host.old) (λ _. check_of) result judging_asked }
     ensures stored { IfOk result (λ c. Finds (H.told host.old) (λ _. c) (Ok c) stored_asked) }
     ensures told { H.told host.new ≡ H.told host.old }

@@ -2,7 +2,7 @@
 ghost use Rattle.std.specs.Prelude.{◌≡◌, ◌≤◌, true, IfErr};
 ghost use Rattle.host_core.specs.Counts.{DiskMayRise};
 ghost use Rattle.host_core.specs.Crashes.{Elapses, MayLeaveNow};
-ghost use Rattle.host_core.specs.Names.{longest_scoped_name};
+ghost use Rattle.host_core.specs.Names.{longest_plain_name};
 ghost use Rattle.checkpoints.specs.Names.{is_good_name as is_name};
 ghost use Rattle.gcu_requests.specs.PointAsked.{held_asked};
 ghost use Rattle.gcu_requests.specs.Preparing.{Finds, Refuses};
@@ -19,7 +19,7 @@ pub(crate) fn checkpoint_goal<H: Host>(
     name: &Txt,
     host: &mut H,
 ) -> Result<Config, Outcome>
-    requires longest { longest_scoped_name ≤ H.longest_name }
+    requires longest { longest_plain_name ≤ H.longest_name }
     requires named { is_name name.now ≡ true }
     ensures answer { Finds (H.told host.old) (λ c. c) result (held_asked name.now) }
     ensures told { H.told host.new ≡ H.told host.old }

@@ -2,7 +2,7 @@
 ghost use Rattle.std.specs.Prelude.{◌≡◌, ◌≤◌, IfErr, IfOk};
 ghost use Rattle.host_core.specs.Counts.{NoneFell};
 ghost use Rattle.host_core.specs.Crashes.{Elapses, MayLeaveNow};
-ghost use Rattle.host_core.specs.Names.{longest_scoped_name};
+ghost use Rattle.host_core.specs.Names.{longest_plain_name};
 ghost use Rattle.move_core.specs.Contexts.{IsNamed};
 ghost use Rattle.gcu_requests.specs.DemoAsked.{demo_planning_asked, generated_asked, generating_asked};
 ghost use Rattle.gcu_requests.specs.ReadPlannings.{IsReadyToSearch, planning_of};
@@ -23,7 +23,7 @@ use std::alloc::Global;
 
 /// Reads what a demonstration needs, and generates its configurations.
 pub fn prepare_demo<H: Host>(alloc: Global, size: Demo, host: &mut H) -> Result<Planning, Outcome>
-    requires longest { longest_scoped_name ≤ H.longest_name }
+    requires longest { longest_plain_name ≤ H.longest_name }
     ensures answer { Finds (H.told host.old) planning_of result
         (demo_planning_asked size.seed size.ports) }
     ensures ready { IfOk result IsReadyToSearch }

@@ -12,6 +12,7 @@ use plan_options::{
 };
 
 /// A command with its words.
+#[derive(Drop)]
 pub enum Form<'a> {
     /// The words are no command.
     Unknown,
@@ -71,7 +72,7 @@ pub fn read_form(words: &[Txt]) -> Form<'_>
 }
 
 /// The command that a word is.
-fn form_of_one(command: &Txt) -> Form<'_>
+pub(crate) fn form_of_one(command: &Txt) -> Form<'_>
     ensures { form_view result ≡ form_of_one command.now }
 {
     if command.as_str() == "check" {
@@ -107,7 +108,7 @@ fn form_of_interruption(command: &Txt) -> Form<'_>
 }
 
 /// A change that was stopped is to be finished.
-fn resumed(command: &Txt, options: Options) -> Form<'_>
+pub(crate) fn resumed(command: &Txt, options: Options) -> Form<'_>
     ensures { form_view result ≡ Some (change_of resume_target options.budget) }
 {
     let target = Target {

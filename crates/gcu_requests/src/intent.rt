@@ -3,7 +3,7 @@ ghost use Rattle.std.specs.Prelude.{◌≡◌, ◌≤◌, IfErr, option_map};
 ghost use Rattle.host_core.specs.Answers.{Gives};
 ghost use Rattle.host_core.specs.Counts.{DiskMayRise};
 ghost use Rattle.host_core.specs.Crashes.{Elapses, MayLeaveNow};
-ghost use Rattle.host_core.specs.Names.{longest_scoped_name};
+ghost use Rattle.host_core.specs.Names.{longest_plain_name};
 ghost use Rattle.conf_store.specs.Stored.{config_in};
 ghost use Rattle.gcu_requests.specs.IntentAsked.{held_answer, intended_answer, intended_asked, intent_asked, interrupted, uninterrupted};
 ghost use Rattle.gcu_requests.specs.Preparing.{Finds, Refuses, RefusesAlways, refusal};
@@ -16,7 +16,7 @@ use std::alloc::Global;
 
 /// Refuses where a change was stopped before its end.
 pub fn test_uninterrupted<H: Host>(alloc: Global, host: &mut H) -> Result<(), Outcome>
-    requires { longest_scoped_name ≤ H.longest_name }
+    requires { longest_plain_name ≤ H.longest_name }
     ensures answer { Finds (H.told host.old) (λ u. u) result uninterrupted }
     ensures told { H.told host.new ≡ H.told host.old }
     ensures counts { DiskMayRise (H.counts host.old) (H.counts host.new) }
@@ -33,7 +33,7 @@ pub fn test_uninterrupted<H: Host>(alloc: Global, host: &mut H) -> Result<(), Ou
 
 /// Refuses where no change was stopped before its end.
 pub fn test_interrupted<H: Host>(alloc: Global, host: &mut H) -> Result<(), Outcome>
-    requires { longest_scoped_name ≤ H.longest_name }
+    requires { longest_plain_name ≤ H.longest_name }
     ensures answer { Finds (H.told host.old) (λ u. u) result interrupted }
     ensures told { H.told host.new ≡ H.told host.old }
     ensures counts { DiskMayRise (H.counts host.old) (H.counts host.new) }
@@ -50,7 +50,7 @@ pub fn test_interrupted<H: Host>(alloc: Global, host: &mut H) -> Result<(), Outc
 
 /// The goal of the change that was stopped.
 pub(crate) fn intent_goal<H: Host>(alloc: Global, host: &mut H) -> Result<Config, Outcome>
-    requires { longest_scoped_name ≤ H.longest_name }
+    requires { longest_plain_name ≤ H.longest_name }
     ensures answer { Finds (H.told host.old) (λ c. c) result intended_asked }
     ensures told { H.told host.new ≡ H.told host.old }
     ensures counts { DiskMayRise (H.counts host.old) (H.counts host.new) }
@@ -89,7 +89,7 @@ fn goal_in(alloc: Global, bytes: &[u8]) -> Result<Config, Outcome>
 
 /// The bytes of the file, or None where it isn't there.
 pub(crate) fn read_intent<H: Host>(alloc: Global, host: &mut H) -> Result<Option<Vec<u8>>, Outcome>
-    requires { longest_scoped_name ≤ H.longest_name }
+    requires { longest_plain_name ≤ H.longest_name }
     ensures answer { Finds (H.told host.old) (option_map (λ v. v.items)) result intent_asked }
     ensures told { H.told host.new ≡ H.told host.old }
     ensures counts { DiskMayRise (H.counts host.old) (H.counts host.new) }

@@ -2,7 +2,7 @@
 ghost use Rattle.std.specs.Prelude.{◌≡◌, ◌≤◌, IfErr, IfOk, IfSome, option_map};
 ghost use Rattle.host_core.specs.Counts.{DiskMayRise};
 ghost use Rattle.host_core.specs.Crashes.{Elapses, MayLeaveNow};
-ghost use Rattle.host_core.specs.Names.{longest_scoped_name};
+ghost use Rattle.host_core.specs.Names.{longest_plain_name};
 ghost use Rattle.conf_store.specs.Stored.{config_in};
 ghost use Rattle.gcu_output.specs.declared.outcomes.Outcome.TheVariants.{Memory as no_memory};
 ghost use Rattle.gcu_requests.specs.IntentAsked.{intent_holding, intent_of, status_asked};
@@ -25,7 +25,7 @@ pub struct Status {
 
 /// Reads how far a change is that was stopped.
 pub fn read_status<H: Host>(alloc: Global, host: &mut H) -> Result<Status, Outcome>
-    requires { longest_scoped_name ≤ H.longest_name }
+    requires { longest_plain_name ≤ H.longest_name }
     ensures answer { Finds (H.told host.old) status_request result status_asked }
     ensures told { H.told host.new ≡ H.told host.old }
     ensures counts { DiskMayRise (H.counts host.old) (H.counts host.new) }
@@ -41,7 +41,7 @@ pub fn read_status<H: Host>(alloc: Global, host: &mut H) -> Result<Status, Outco
 
 /// How many step files are applied in what the folder stands for.
 fn read_steps<H: Host>(alloc: Global, host: &mut H) -> Result<u32, Outcome>
-    requires { longest_scoped_name ≤ H.longest_name }
+    requires { longest_plain_name ≤ H.longest_name }
     ensures answer { IfSome (H.told host.old) (λ s. CountsIn s result) }
     ensures told { H.told host.new ≡ H.told host.old }
     ensures counts { DiskMayRise (H.counts host.old) (H.counts host.new) }

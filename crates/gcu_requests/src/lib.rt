@@ -20,6 +20,7 @@ mod plan_goal;
 mod planning;
 mod previewing;
 mod rules;
+mod scope_form;
 mod stored;
 
 pub use checking::judge_stored;
@@ -32,3 +33,4 @@ pub use plan_checking::judge_plan;
 pub use plan_goal::test_target;
 pub use planning::{Planning, prepare};
 pub use previewing::preview;
+pub use scope_form::{ScopeForm, read_scope_form};

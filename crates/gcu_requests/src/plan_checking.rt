@@ -2,7 +2,7 @@
 ghost use Rattle.std.specs.Prelude.{◌≡◌, ◌≤◌, ◌<◌, IfErr, IfOk, length};
 ghost use Rattle.host_core.specs.Counts.{InputMayRise, NoneFell};
 ghost use Rattle.host_core.specs.Crashes.{Elapses, MayLeaveNow};
-ghost use Rattle.host_core.specs.Names.{longest_scoped_name};
+ghost use Rattle.host_core.specs.Names.{longest_plain_name};
 ghost use Rattle.plan_check.specs.Checks.{most_steps};
 ghost use Rattle.plan_options.specs.Options.{default_budget};
 ghost use Rattle.plan_options.specs.Targets.{patched};
@@ -32,7 +32,7 @@ pub fn judge_plan<H: Host>(
     plan: &Txt,
     host: &mut H,
 ) -> Result<usize, Outcome>
-    requires { longest_scoped_name ≤ H.longest_name }
+    requires { longest_plain_name ≤ H.longest_name }
     ensures answer { Finds (H.told host.old) accept_plan result
         (check_plan_asked patch.now plan.now) }
     ensures told { H.told host.new ≡ H.told host.old }
@@ -48,7 +48,7 @@ pub fn judge_plan<H: Host>(
 
 /// Reads what a plan for the patch in an input needs. Nothing is searched for, so its budget says nothing.
 fn prepare_patch<H: Host>(alloc: Global, patch: &Txt, host: &mut H) -> Result<Planning, Outcome>
-    requires { longest_scoped_name ≤ H.longest_name }
+    requires { longest_plain_name ≤ H.longest_name }
     ensures answer { Finds (H.told host.old) planning_of result
         (planning_asked (patched patch.now) default_budget) }
     ensures ready { IfOk result IsReadyToSearch }

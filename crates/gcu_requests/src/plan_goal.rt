@@ -4,7 +4,7 @@ ghost use Rattle.std.specs.Prelude.{◌≡◌, ◌≤◌, true, IfErr, IfOk, OnO
 ghost use Rattle.host_core.specs.Answers.{Gives};
 ghost use Rattle.host_core.specs.Counts.{NoneFell};
 ghost use Rattle.host_core.specs.Crashes.{Elapses, MayLeaveNow};
-ghost use Rattle.host_core.specs.Names.{longest_scoped_name};
+ghost use Rattle.host_core.specs.Names.{longest_plain_name};
 ghost use Rattle.move_core.specs.Contexts.{AgreeElsewhere, IsValidIn};
 ghost use Rattle.checkpoints.specs.Names.{is_good_name as is_name};
 ghost use Rattle.plan_options.specs.Views.{target_view};
@@ -62,7 +62,7 @@ pub(crate) fn read_goal<H: Host>(
     start: &Config,
     host: &mut H,
 ) -> Result<Config, Outcome>
-    requires longest { longest_scoped_name ≤ H.longest_name }
+    requires longest { longest_plain_name ≤ H.longest_name }
     requires named { HasGoodName (target_view target) }
     ensures answer { Finds (H.told host.old) (λ c. c) result
         (goal_asked (target_view target.entry) ctx.now start.now) }
@@ -102,7 +102,7 @@ fn make_goal<H: Host>(
     start: &Config,
     host: &mut H,
 ) -> Result<Config, Outcome>
-    requires longest { longest_scoped_name ≤ H.longest_name }
+    requires longest { longest_plain_name ≤ H.longest_name }
     requires named { HasGoodName (target_view target) }
     ensures answer { Finds (H.told host.old) (λ c. c) result
         (made_asked (target_view target.entry) start.now) }

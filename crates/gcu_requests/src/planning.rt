@@ -3,7 +3,7 @@ ghost use Rattle.std.specs.Prelude.{◌≡◌, ◌≤◌, ◌<◌, IfErr, IfOk, 
 ghost use Rattle.std.specs.List.{AllPass};
 ghost use Rattle.host_core.specs.Counts.{DiskMayRise, NoneFell};
 ghost use Rattle.host_core.specs.Crashes.{Elapses, MayLeaveNow};
-ghost use Rattle.host_core.specs.Names.{longest_scoped_name};
+ghost use Rattle.host_core.specs.Names.{longest_plain_name};
 ghost use Rattle.conf_doc.specs.WellFormed.{IsConfig};
 ghost use Rattle.conf_store.specs.Files.{is_step_name};
 ghost use Rattle.conf_store.specs.Folds.{StandsFor};
@@ -45,7 +45,7 @@ pub fn prepare<H: Host>(
     budget: u32,
     host: &mut H,
 ) -> Result<Planning, Outcome>
-    requires longest { longest_scoped_name ≤ H.longest_name }
+    requires longest { longest_plain_name ≤ H.longest_name }
     requires named { HasGoodName (target_view target) }
     requires budget { 0 < budget }
     ensures answer { Finds (H.told host.old) planning_of result
@@ -66,7 +66,7 @@ pub fn prepare<H: Host>(
 
 /// Refuses a change that was stopped before its end, or that there is none where it is to be gone on with.
 fn test_gate<H: Host>(alloc: Global, target: Target<'_>, host: &mut H) -> Result<(), Outcome>
-    requires { longest_scoped_name ≤ H.longest_name }
+    requires { longest_plain_name ≤ H.longest_name }
     ensures answer { Finds (H.told host.old) (λ u. u) result
         (gate_asked (target_view target.entry)) }
     ensures told { H.told host.new ≡ H.told host.old }
@@ -88,7 +88,7 @@ fn read_needs<H: Host>(
     budget: u32,
     host: &mut H,
 ) -> Result<Planning, Outcome>
-    requires longest { longest_scoped_name ≤ H.longest_name }
+    requires longest { longest_plain_name ≤ H.longest_name }
     requires named { HasGoodName (target_view target) }
     requires budget { 0 < budget }
     ensures answer { Finds (H.told host.old) planning_of result
@@ -116,7 +116,7 @@ fn read_needs<H: Host>(
 
 /// What the folder stands for, where that is valid.
 fn read_start<H: Host>(alloc: Global, ctx: &Ctx, host: &mut H) -> Result<Stored, Outcome>
-    requires { longest_scoped_name ≤ H.longest_name }
+    requires { longest_plain_name ≤ H.longest_name }
     ensures answer { Finds (H.told host.old) (λ what. what.config) result (start_asked ctx.now) }
     ensures stands { IfOk result
         (λ what. IfSome (H.told host.old) (λ s. StandsFor what s.files)) }

@@ -3,7 +3,7 @@ ghost use Rattle.std.specs.Prelude.{◌≡◌, ◌≤◌, IfErr};
 ghost use Rattle.host_core.specs.Answers.{Gives};
 ghost use Rattle.host_core.specs.Counts.{InputMayRise, NoneFell};
 ghost use Rattle.host_core.specs.Crashes.{Elapses, MayLeaveNow};
-ghost use Rattle.host_core.specs.Names.{longest_scoped_name};
+ghost use Rattle.host_core.specs.Names.{longest_plain_name};
 ghost use Rattle.conf_doc.specs.Trees.{document};
 ghost use Rattle.patch_core.specs.Operation.{operations};
 ghost use Rattle.patch_core.specs.Reading.{patch as patch_of};
@@ -25,7 +25,7 @@ pub(crate) const PATCH_LIMIT: u64 = 1_048_576;
 
 /// The tree of the configuration that the patch would leave.
 pub fn preview<H: Host>(alloc: Global, path: &Txt, host: &mut H) -> Result<Tree, Outcome>
-    requires { longest_scoped_name ≤ H.longest_name }
+    requires { longest_plain_name ≤ H.longest_name }
     ensures answer { Finds (H.told host.old) document result (preview_document path.now) }
     ensures told { H.told host.new ≡ H.told host.old }
     ensures counts { NoneFell (H.counts host.old) (H.counts host.new) }
@@ -39,7 +39,7 @@ pub fn preview<H: Host>(alloc: Global, path: &Txt, host: &mut H) -> Result<Tree,
 
 /// The same, where no change was stopped before its end.
 fn patch_stored<H: Host>(alloc: Global, path: &Txt, host: &mut H) -> Result<Tree, Outcome>
-    requires { longest_scoped_name ≤ H.longest_name }
+    requires { longest_plain_name ≤ H.longest_name }
     ensures answer { Finds (H.told host.old) document result (patched_document path.now) }
     ensures told { H.told host.new ≡ H.told host.old }
     ensures counts { NoneFell (H.counts host.old) (H.counts host.new) }

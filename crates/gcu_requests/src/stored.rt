@@ -3,7 +3,7 @@ ghost use Rattle.std.specs.Prelude.{◌≡◌, ◌≤◌, IfErr, IfOk, IfSome};
 ghost use Rattle.std.specs.List.{AllPass};
 ghost use Rattle.host_core.specs.Counts.{DiskMayRise};
 ghost use Rattle.host_core.specs.Crashes.{Elapses, MayLeaveNow};
-ghost use Rattle.host_core.specs.Names.{longest_scoped_name};
+ghost use Rattle.host_core.specs.Names.{longest_plain_name};
 ghost use Rattle.conf_doc.specs.Trees.{document};
 ghost use Rattle.conf_doc.specs.WellFormed.{IsConfig};
 ghost use Rattle.conf_store.specs.Files.{is_step_name};
@@ -20,7 +20,7 @@ use std::alloc::Global;
 
 /// Reads the configuration that the folder stands for.
 pub(crate) fn read_config<H: Host>(alloc: Global, host: &mut H) -> Result<Config, Outcome>
-    requires { longest_scoped_name ≤ H.longest_name }
+    requires { longest_plain_name ≤ H.longest_name }
     ensures answer { Finds (H.told host.old) (λ c. c) result stored_asked }
     ensures told { H.told host.new ≡ H.told host.old }
     ensures counts { DiskMayRise (H.counts host.old) (H.counts host.new) }
@@ -38,7 +38,7 @@ pub(crate) fn read_config<H: Host>(alloc: Global, host: &mut H) -> Result<Config
 
 /// Reads what the folder stands for, with the files that a fold takes away.
 pub(crate) fn read_folder<H: Host>(alloc: Global, host: &mut H) -> Result<Stored, Outcome>
-    requires { longest_scoped_name ≤ H.longest_name }
+    requires { longest_plain_name ≤ H.longest_name }
     ensures answer { Finds (H.told host.old) (λ what. what.config) result stored_asked }
     ensures stands { IfOk result
         (λ what. IfSome (H.told host.old) (λ s. StandsFor what s.files)) }
@@ -60,7 +60,7 @@ pub(crate) fn read_folder<H: Host>(alloc: Global, host: &mut H) -> Result<Stored
 
 /// Reads the configuration that the folder stands for, as its tree.
 pub(crate) fn read_stored<H: Host>(alloc: Global, host: &mut H) -> Result<Tree, Outcome>
-    requires { longest_scoped_name ≤ H.longest_name }
+    requires { longest_plain_name ≤ H.longest_name }
     ensures answer { Finds (H.told host.old) document result stored_document }
     ensures told { H.told host.new ≡ H.told host.old }
     ensures counts { DiskMayRise (H.counts host.old) (H.counts host.new) }

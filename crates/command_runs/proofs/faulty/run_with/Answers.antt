@@ -1,6 +1,7 @@
 use Rattle.std.proofs.Common.{ℕ, List, subst}
-use Rattle.command_runs.specs.Runs.{IsPromised}
-use Rattle.command_runs.proofs.Promising.{goes_by, promised_by}
+use Rattle.host_core.specs.MemoryHost.{faulty_by}
+use Rattle.command_runs.specs.Runs.{IsPromised, IsPromisedInScope}
+use Rattle.command_runs.proofs.Promising.{goes_by, promised_by, scoped_by}
 use Rattle.command_runs.proofs.faulty.run_with.Goals as goal
 
 pub returns : goal.returns
@@ -15,4 +16,8 @@ returns g c =
           c.items.ensures
           (promised_by c.items.result.now c.args.faults c.args.host c.with_faults-host.result ended c.run-outcome.result
           c.with_faults-host.ensures ran.answers ran.cause ran.crash ran.headline ran.usage ran.only_usage ran.complete);
+      scoped =
+          subst (λ (words : List (List ℕ)). IsPromisedInScope words (faulty_by c.args.faults c.args.host) ended c.run-outcome.result)
+          c.items.ensures
+          (scoped_by c.items.result.now c.args.faults c.args.host c.with_faults-host.result ended c.run-outcome.result c.with_faults-host.ensures ran.scoped);
     }

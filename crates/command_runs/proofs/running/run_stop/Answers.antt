@@ -11,7 +11,7 @@ returns-clause-runs g c =
     let outcome = c.run_with-host.result.1 in
     let noted = c.in_ok-ran.ensures in
     run_is c.args.stop c.args.host ended c.in_ok-hand_on.field-0 c.in_ok-ran.ran outcome c.run_with-host.ensures.goes
-    c.run_with-host.ensures.promised
+    c.run_with-host.ensures.promised c.run_with-host.ensures.scoped
     (ap files_of noted.before ∙ c.in_ok-before.ensures)
     (noted.output ∙ ap (λ (printed : List ℕ). drop (length printed) ended.state.output) c.output-printed.ensures)
     noted.status noted.calls (noted.starved ∙ ap (λ (n : ℕ). rise n ended.starved) c.starved-starved.ensures)

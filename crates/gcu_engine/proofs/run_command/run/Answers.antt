@@ -1,437 +1,64 @@
-use Rattle.std.proofs.Common.{None, Some, sym, ◌++◌}
-use Rattle.conf_doc.specs.Trees.{document}
-use Rattle.plan_options.specs.Views.{target_view}
-use Rattle.gcu_output.specs.Lines.{last_line}
-use Rattle.gcu_output.specs.Printing.{text_in_lines}
-use Rattle.gcu_output.specs.declared.outcomes.Outcome.TheVariants.{Usage, Done}
-use Rattle.gcu_requests.specs.Form.{abandon, check, list_checkpoints, migrate_checkpoints, status}
-use Rattle.gcu_engine.proofs.Completing.{complete_by}
-use Rattle.gcu_engine.proofs.Headlines.{change_headline, headline}
-use Rattle.gcu_engine.proofs.Elapsing.{changes_by, command_leaves, command_leaves_behind, leaves_by, migrates_by}
-use Rattle.gcu_engine.proofs.Answering.{answers_by, said_answers, done_completes, said_completes, no_form_says, preview_says, preview_refuses, refused_cause}
-use Rattle.gcu_engine.proofs.Intending.{keeps_intent}
-use Rattle.gcu_engine.proofs.Resuming.{never_resumes, resumes}
+use Rattle.std.proofs.Common.{inl, inr, sym, ◌∙◌}
+use Rattle.gcu_requests.specs.Form.{form}
+use Rattle.gcu_engine.proofs.Scoping.{some_or_none}
 use Rattle.gcu_engine.proofs.run_command.run.Goals as goal
 
--- the words are no command
-pub returns-in-Unknown-clause-answers : goal.returns-in-Unknown-clause-answers
-returns-in-Unknown-clause-answers g c =
-    said_answers c.args.words.now (g.H.Host.told c.args.host.now) (g.H.Host.told c.say.new.host) (g.H.Host.counts c.args.host.now) (g.H.Host.counts c.args.host.now) (g.H.Host.counts c.say.new.host)
-    Usage (last_line Usage) c.say.result c.say.ensures.said c.say.ensures.counts tt
-    (no_form_says c.args.words.now (g.H.Host.told c.args.host.now) (sym c.in-Unknown.ensures))
-
--- a preview
-pub returns-in-Ok-clause-answers : goal.returns-in-Ok-clause-answers
-returns-in-Ok-clause-answers g c =
-    said_answers c.args.words.now (g.H.Host.told c.args.host.now) (g.H.Host.told c.show.new.host) (g.H.Host.counts c.args.host.now) (g.H.Host.counts c.preview.new.host) (g.H.Host.counts c.show.new.host)
-    Done (text_in_lines (document c.in-Ok.tree) ++ last_line Done) c.show.result (rw c.in-Ok.ensures.told at c.show.ensures.said) c.show.ensures.counts tt
-    (preview_says c.args.words.now _ (g.H.Host.told c.args.host.now) c.in-Ok.tree (sym c.in-Preview.ensures) c.in-Ok.ensures.answer)
-
--- a refused preview
-pub returns-in-Err-clause-answers : goal.returns-in-Err-clause-answers
-returns-in-Err-clause-answers g c =
-    said_answers c.args.words.now (g.H.Host.told c.args.host.now) (g.H.Host.told c.say-in-Err.new.host) (g.H.Host.counts c.args.host.now) (g.H.Host.counts c.preview.new.host) (g.H.Host.counts c.say-in-Err.new.host)
-    c.in-Err.outcome (last_line c.in-Err.outcome) c.say-in-Err.result (rw c.in-Err.ensures.told at c.say-in-Err.ensures.said) c.say-in-Err.ensures.counts
-    (refused_cause (g.H.Host.counts c.args.host.now) (g.H.Host.counts c.preview.new.host) c.in-Err.outcome c.in-Err.ensures.cause)
-    (preview_refuses c.args.words.now _ (g.H.Host.told c.args.host.now) c.in-Err.outcome (g.H.Host.counts c.args.host.now) (g.H.Host.counts c.preview.new.host) (sym c.in-Preview.ensures) c.in-Err.ensures.cause c.in-Err.ensures.answer)
-
--- ---- time
-
-pub returns-in-Unknown-clause-crash : goal.returns-in-Unknown-clause-crash
-returns-in-Unknown-clause-crash g c =
-    command_leaves g.H.Host.moment g.H.Host.left_since c.args.words.now None c.args.host.now c.say.new.host (g.H.Host.told c.args.host.now) Usage (last_line Usage) c.in-Unknown.ensures (λ s left h. h)
-    (no_form_says c.args.words.now (g.H.Host.told c.args.host.now) (sym c.in-Unknown.ensures)) (λ left since. g.met.H.Host.only_now c.args.host.now left since) c.say.ensures.time
-
-pub returns-in-Ok-clause-crash : goal.returns-in-Ok-clause-crash
-returns-in-Ok-clause-crash g c =
-    command_leaves_behind g.H.Host.moment g.H.Host.left_since c.args.words.now _ c.args.host.now c.preview.new.host c.show.new.host
-    (g.H.Host.told c.args.host.now) (g.H.Host.told c.preview.new.host) Done (text_in_lines (document c.in-Ok.tree) ++ last_line Done) c.in-Preview.ensures (λ s left h. h)
-    (preview_says c.args.words.now _ (g.H.Host.told c.args.host.now) c.in-Ok.tree (sym c.in-Preview.ensures) c.in-Ok.ensures.answer) c.preview.ensures.told
-    (λ left since. g.met.H.Host.only_now c.args.host.now left since) c.preview.ensures.time c.show.ensures.time
-
-pub returns-in-Err-clause-crash : goal.returns-in-Err-clause-crash
-returns-in-Err-clause-crash g c =
-    command_leaves_behind g.H.Host.moment g.H.Host.left_since c.args.words.now _ c.args.host.now c.preview.new.host c.say-in-Err.new.host
-    (g.H.Host.told c.args.host.now) (g.H.Host.told c.preview.new.host) c.in-Err.outcome (last_line c.in-Err.outcome) c.in-Preview.ensures (λ s left h. h)
-    (preview_refuses c.args.words.now _ (g.H.Host.told c.args.host.now) c.in-Err.outcome (g.H.Host.counts c.args.host.now) (g.H.Host.counts c.preview.new.host) (sym c.in-Preview.ensures) c.in-Err.ensures.cause c.in-Err.ensures.answer) c.preview.ensures.told
-    (λ left since. g.met.H.Host.only_now c.args.host.now left since) c.preview.ensures.time c.say-in-Err.ensures.time
-
-pub returns-in-Ok-clause-goes : goal.returns-in-Ok-clause-goes
-returns-in-Ok-clause-goes g c =
-    g.met.H.Host.continues c.args.host.now c.preview.new.host c.show.new.host c.preview.ensures.goes c.show.ensures.goes
-
-pub returns-in-Err-clause-goes : goal.returns-in-Err-clause-goes
-returns-in-Err-clause-goes g c =
-    g.met.H.Host.continues c.args.host.now c.preview.new.host c.say-in-Err.new.host c.preview.ensures.goes c.say-in-Err.ensures.goes
-
--- ---- where nothing failed
-
-pub returns-in-Err-clause-complete : goal.returns-in-Err-clause-complete
-returns-in-Err-clause-complete g c =
-    said_completes c.args.words.now _ (g.H.Host.told c.args.host.now) (g.H.Host.told c.say-in-Err.new.host) (g.H.Host.told c.preview.new.host)
-    (g.H.Host.counts c.args.host.now) (g.H.Host.counts c.preview.new.host) (g.H.Host.counts c.say-in-Err.new.host)
-    c.in-Err.outcome c.say-in-Err.result (sym c.in-Preview.ensures) c.say-in-Err.ensures.said c.say-in-Err.ensures.counts
-    c.in-Err.ensures.counts c.in-Err.ensures.cause c.in-Err.ensures.answer
-
-pub returns-in-Ok-clause-complete : goal.returns-in-Ok-clause-complete
-returns-in-Ok-clause-complete g c =
-    done_completes c.args.words.now _ (text_in_lines (document c.in-Ok.tree) ++ last_line Done) (g.H.Host.told c.args.host.now) (g.H.Host.told c.show.new.host) (g.H.Host.told c.preview.new.host)
-    (g.H.Host.counts c.args.host.now) (g.H.Host.counts c.preview.new.host) (g.H.Host.counts c.show.new.host)
-    c.in-Ok.tree c.show.result (sym c.in-Preview.ensures) c.show.ensures.said c.in-Ok.ensures.counts c.in-Ok.ensures.answer
-
--- ---- commands in functions of their own
-
-pub returns-in-Check-clause-answers : goal.returns-in-Check-clause-answers
-returns-in-Check-clause-answers g c =
-    answers_by c.args.words.now (Some check) (g.H.Host.told c.args.host.now) (g.H.Host.told c.check.new.host) (g.H.Host.counts c.args.host.now) (g.H.Host.counts c.check.new.host) c.check.result
-    c.in-Check.ensures c.check.ensures.answers
-
-pub returns-in-Check-clause-crash : goal.returns-in-Check-clause-crash
-returns-in-Check-clause-crash g c =
-    leaves_by g.H.Host.moment g.H.Host.left_since c.args.words.now (Some check) c.args.host.now c.check.new.host (g.H.Host.told c.args.host.now) c.in-Check.ensures (λ s left h. h) c.check.ensures.crash
-
-pub returns-in-Check-clause-complete : goal.returns-in-Check-clause-complete
-returns-in-Check-clause-complete g c =
-    complete_by c.args.words.now (Some check) (g.H.Host.told c.args.host.now) (g.H.Host.counts c.args.host.now) (g.H.Host.counts c.check.new.host) c.check.result
-    c.in-Check.ensures c.check.ensures.complete
-
-pub returns-in-ListCheckpoints-clause-answers : goal.returns-in-ListCheckpoints-clause-answers
-returns-in-ListCheckpoints-clause-answers g c =
-    answers_by c.args.words.now (Some list_checkpoints) (g.H.Host.told c.args.host.now) (g.H.Host.told c.list_checkpoints.new.host) (g.H.Host.counts c.args.host.now) (g.H.Host.counts c.list_checkpoints.new.host) c.list_checkpoints.result
-    c.in-ListCheckpoints.ensures c.list_checkpoints.ensures.answers
-
-pub returns-in-ListCheckpoints-clause-crash : goal.returns-in-ListCheckpoints-clause-crash
-returns-in-ListCheckpoints-clause-crash g c =
-    leaves_by g.H.Host.moment g.H.Host.left_since c.args.words.now (Some list_checkpoints) c.args.host.now c.list_checkpoints.new.host (g.H.Host.told c.args.host.now) c.in-ListCheckpoints.ensures (λ s left h. h) c.list_checkpoints.ensures.crash
-
-pub returns-in-ListCheckpoints-clause-complete : goal.returns-in-ListCheckpoints-clause-complete
-returns-in-ListCheckpoints-clause-complete g c =
-    complete_by c.args.words.now (Some list_checkpoints) (g.H.Host.told c.args.host.now) (g.H.Host.counts c.args.host.now) (g.H.Host.counts c.list_checkpoints.new.host) c.list_checkpoints.result
-    c.in-ListCheckpoints.ensures c.list_checkpoints.ensures.complete
-
-pub returns-in-MigrateCheckpoints-clause-answers : goal.returns-in-MigrateCheckpoints-clause-answers
-returns-in-MigrateCheckpoints-clause-answers g c =
-    answers_by c.args.words.now (Some migrate_checkpoints) (g.H.Host.told c.args.host.now) (g.H.Host.told c.migrate_checkpoints.new.host) (g.H.Host.counts c.args.host.now) (g.H.Host.counts c.migrate_checkpoints.new.host) c.migrate_checkpoints.result
-    c.in-MigrateCheckpoints.ensures c.migrate_checkpoints.ensures.answers
-
-pub returns-in-MigrateCheckpoints-clause-crash : goal.returns-in-MigrateCheckpoints-clause-crash
-returns-in-MigrateCheckpoints-clause-crash g c =
-    migrates_by g.H.Host.moment g.H.Host.left_since c.args.words.now c.args.host.now c.migrate_checkpoints.new.host (g.H.Host.told c.args.host.now) c.in-MigrateCheckpoints.ensures c.migrate_checkpoints.ensures.crash
-
-pub returns-in-MigrateCheckpoints-clause-complete : goal.returns-in-MigrateCheckpoints-clause-complete
-returns-in-MigrateCheckpoints-clause-complete g c =
-    complete_by c.args.words.now (Some migrate_checkpoints) (g.H.Host.told c.args.host.now) (g.H.Host.counts c.args.host.now) (g.H.Host.counts c.migrate_checkpoints.new.host) c.migrate_checkpoints.result
-    c.in-MigrateCheckpoints.ensures c.migrate_checkpoints.ensures.complete
-
-pub returns-in-SaveCheckpoint-clause-answers : goal.returns-in-SaveCheckpoint-clause-answers
-returns-in-SaveCheckpoint-clause-answers g c =
-    answers_by c.args.words.now _ (g.H.Host.told c.args.host.now) (g.H.Host.told c.save_checkpoint.new.host) (g.H.Host.counts c.args.host.now) (g.H.Host.counts c.save_checkpoint.new.host) c.save_checkpoint.result
-    c.in-SaveCheckpoint.ensures c.save_checkpoint.ensures.answers
-
-pub returns-in-SaveCheckpoint-clause-crash : goal.returns-in-SaveCheckpoint-clause-crash
-returns-in-SaveCheckpoint-clause-crash g c =
-    leaves_by g.H.Host.moment g.H.Host.left_since c.args.words.now _ c.args.host.now c.save_checkpoint.new.host (g.H.Host.told c.args.host.now) c.in-SaveCheckpoint.ensures (λ s left h. h) c.save_checkpoint.ensures.crash
-
-pub returns-in-SaveCheckpoint-clause-complete : goal.returns-in-SaveCheckpoint-clause-complete
-returns-in-SaveCheckpoint-clause-complete g c =
-    complete_by c.args.words.now _ (g.H.Host.told c.args.host.now) (g.H.Host.counts c.args.host.now) (g.H.Host.counts c.save_checkpoint.new.host) c.save_checkpoint.result
-    c.in-SaveCheckpoint.ensures c.save_checkpoint.ensures.complete
-
-pub returns-in-DeleteCheckpoint-clause-answers : goal.returns-in-DeleteCheckpoint-clause-answers
-returns-in-DeleteCheckpoint-clause-answers g c =
-    answers_by c.args.words.now _ (g.H.Host.told c.args.host.now) (g.H.Host.told c.delete_checkpoint.new.host) (g.H.Host.counts c.args.host.now) (g.H.Host.counts c.delete_checkpoint.new.host) c.delete_checkpoint.result
-    c.in-DeleteCheckpoint.ensures c.delete_checkpoint.ensures.answers
-
-pub returns-in-DeleteCheckpoint-clause-crash : goal.returns-in-DeleteCheckpoint-clause-crash
-returns-in-DeleteCheckpoint-clause-crash g c =
-    leaves_by g.H.Host.moment g.H.Host.left_since c.args.words.now _ c.args.host.now c.delete_checkpoint.new.host (g.H.Host.told c.args.host.now) c.in-DeleteCheckpoint.ensures (λ s left h. h) c.delete_checkpoint.ensures.crash
-
-pub returns-in-DeleteCheckpoint-clause-complete : goal.returns-in-DeleteCheckpoint-clause-complete
-returns-in-DeleteCheckpoint-clause-complete g c =
-    complete_by c.args.words.now _ (g.H.Host.told c.args.host.now) (g.H.Host.counts c.args.host.now) (g.H.Host.counts c.delete_checkpoint.new.host) c.delete_checkpoint.result
-    c.in-DeleteCheckpoint.ensures c.delete_checkpoint.ensures.complete
-
-pub returns-in-Plan-clause-answers : goal.returns-in-Plan-clause-answers
-returns-in-Plan-clause-answers g c =
-    answers_by c.args.words.now _ (g.H.Host.told c.args.host.now) (g.H.Host.told c.dry_run.new.host) (g.H.Host.counts c.args.host.now) (g.H.Host.counts c.dry_run.new.host) c.dry_run.result
-    c.in-Plan.ensures c.dry_run.ensures.answers
-
-pub returns-in-Plan-clause-crash : goal.returns-in-Plan-clause-crash
-returns-in-Plan-clause-crash g c =
-    leaves_by g.H.Host.moment g.H.Host.left_since c.args.words.now _ c.args.host.now c.dry_run.new.host (g.H.Host.told c.args.host.now) c.in-Plan.ensures (λ s left h. h) c.dry_run.ensures.crash
-
-pub returns-in-Plan-clause-complete : goal.returns-in-Plan-clause-complete
-returns-in-Plan-clause-complete g c =
-    complete_by c.args.words.now _ (g.H.Host.told c.args.host.now) (g.H.Host.counts c.args.host.now) (g.H.Host.counts c.dry_run.new.host) c.dry_run.result
-    c.in-Plan.ensures c.dry_run.ensures.complete
-
-pub returns-in-Change-clause-answers : goal.returns-in-Change-clause-answers
-returns-in-Change-clause-answers g c =
-    answers_by c.args.words.now _ (g.H.Host.told c.args.host.now) (g.H.Host.told c.change.new.host) (g.H.Host.counts c.args.host.now) (g.H.Host.counts c.change.new.host) c.change.result
-    c.in-Change.ensures c.change.ensures.answers
-
-pub returns-in-Change-clause-crash : goal.returns-in-Change-clause-crash
-returns-in-Change-clause-crash g c =
-    changes_by g.H.Host.moment g.H.Host.left_since c.args.words.now _ _ c.args.host.now c.change.new.host (g.H.Host.told c.args.host.now) c.in-Change.ensures c.change.ensures.crash
-
-pub returns-in-Change-clause-complete : goal.returns-in-Change-clause-complete
-returns-in-Change-clause-complete g c =
-    complete_by c.args.words.now _ (g.H.Host.told c.args.host.now) (g.H.Host.counts c.args.host.now) (g.H.Host.counts c.change.new.host) c.change.result
-    c.in-Change.ensures c.change.ensures.complete
-
-pub returns-in-Status-clause-answers : goal.returns-in-Status-clause-answers
-returns-in-Status-clause-answers g c =
-    answers_by c.args.words.now (Some status) (g.H.Host.told c.args.host.now) (g.H.Host.told c.status.new.host) (g.H.Host.counts c.args.host.now) (g.H.Host.counts c.status.new.host) c.status.result
-    c.in-Status.ensures c.status.ensures.answers
-
-pub returns-in-Status-clause-crash : goal.returns-in-Status-clause-crash
-returns-in-Status-clause-crash g c =
-    leaves_by g.H.Host.moment g.H.Host.left_since c.args.words.now (Some status) c.args.host.now c.status.new.host (g.H.Host.told c.args.host.now) c.in-Status.ensures (λ s left h. h) c.status.ensures.crash
-
-pub returns-in-Status-clause-complete : goal.returns-in-Status-clause-complete
-returns-in-Status-clause-complete g c =
-    complete_by c.args.words.now (Some status) (g.H.Host.told c.args.host.now) (g.H.Host.counts c.args.host.now) (g.H.Host.counts c.status.new.host) c.status.result
-    c.in-Status.ensures c.status.ensures.complete
-
-pub returns-in-Abandon-clause-answers : goal.returns-in-Abandon-clause-answers
-returns-in-Abandon-clause-answers g c =
-    answers_by c.args.words.now (Some abandon) (g.H.Host.told c.args.host.now) (g.H.Host.told c.abandon.new.host) (g.H.Host.counts c.args.host.now) (g.H.Host.counts c.abandon.new.host) c.abandon.result
-    c.in-Abandon.ensures c.abandon.ensures.answers
-
-pub returns-in-Abandon-clause-crash : goal.returns-in-Abandon-clause-crash
-returns-in-Abandon-clause-crash g c =
-    leaves_by g.H.Host.moment g.H.Host.left_since c.args.words.now (Some abandon) c.args.host.now c.abandon.new.host (g.H.Host.told c.args.host.now) c.in-Abandon.ensures (λ s left h. h) c.abandon.ensures.crash
-
-pub returns-in-Abandon-clause-complete : goal.returns-in-Abandon-clause-complete
-returns-in-Abandon-clause-complete g c =
-    complete_by c.args.words.now (Some abandon) (g.H.Host.told c.args.host.now) (g.H.Host.counts c.args.host.now) (g.H.Host.counts c.abandon.new.host) c.abandon.result
-    c.in-Abandon.ensures c.abandon.ensures.complete
-
-pub returns-in-Demo-clause-answers : goal.returns-in-Demo-clause-answers
-returns-in-Demo-clause-answers g c =
-    answers_by c.args.words.now _ (g.H.Host.told c.args.host.now) (g.H.Host.told c.demo.new.host) (g.H.Host.counts c.args.host.now) (g.H.Host.counts c.demo.new.host) c.demo.result
-    c.in-Demo.ensures c.demo.ensures.answers
-
-pub returns-in-Demo-clause-crash : goal.returns-in-Demo-clause-crash
-returns-in-Demo-clause-crash g c =
-    leaves_by g.H.Host.moment g.H.Host.left_since c.args.words.now _ c.args.host.now c.demo.new.host (g.H.Host.told c.args.host.now) c.in-Demo.ensures (λ s left h. h) c.demo.ensures.crash
-
-pub returns-in-Demo-clause-complete : goal.returns-in-Demo-clause-complete
-returns-in-Demo-clause-complete g c =
-    complete_by c.args.words.now _ (g.H.Host.told c.args.host.now) (g.H.Host.counts c.args.host.now) (g.H.Host.counts c.demo.new.host) c.demo.result
-    c.in-Demo.ensures c.demo.ensures.complete
-
-pub returns-in-CheckPlan-clause-answers : goal.returns-in-CheckPlan-clause-answers
-returns-in-CheckPlan-clause-answers g c =
-    answers_by c.args.words.now _ (g.H.Host.told c.args.host.now) (g.H.Host.told c.check_plan.new.host) (g.H.Host.counts c.args.host.now) (g.H.Host.counts c.check_plan.new.host) c.check_plan.result
-    c.in-CheckPlan.ensures c.check_plan.ensures.answers
-
-pub returns-in-CheckPlan-clause-crash : goal.returns-in-CheckPlan-clause-crash
-returns-in-CheckPlan-clause-crash g c =
-    leaves_by g.H.Host.moment g.H.Host.left_since c.args.words.now _ c.args.host.now c.check_plan.new.host (g.H.Host.told c.args.host.now) c.in-CheckPlan.ensures (λ s left h. h) c.check_plan.ensures.crash
-
-pub returns-in-CheckPlan-clause-complete : goal.returns-in-CheckPlan-clause-complete
-returns-in-CheckPlan-clause-complete g c =
-    complete_by c.args.words.now _ (g.H.Host.told c.args.host.now) (g.H.Host.counts c.args.host.now) (g.H.Host.counts c.check_plan.new.host) c.check_plan.result
-    c.in-CheckPlan.ensures c.check_plan.ensures.complete
-
--- ---- the promise of the whole
-
-pub returns-in-Unknown-clause-headline : goal.returns-in-Unknown-clause-headline
-returns-in-Unknown-clause-headline g c =
-    headline g.H.Host.moment g.H.Host.left_since c.args.words.now _ (g.H.Host.told c.args.host.now) (g.H.Host.told c.say.new.host) c.args.host.now c.say.new.host
-    (g.H.Host.counts c.args.host.now) (g.H.Host.counts c.say.new.host) c.say.result c.in-Unknown.ensures tt c.asked_has_one_answer.ensures (returns-in-Unknown-clause-answers g c) (returns-in-Unknown-clause-crash g c)
-
-pub returns-in-Ok-clause-headline : goal.returns-in-Ok-clause-headline
-returns-in-Ok-clause-headline g c =
-    headline g.H.Host.moment g.H.Host.left_since c.args.words.now _ (g.H.Host.told c.args.host.now) (g.H.Host.told c.show.new.host) c.args.host.now c.show.new.host
-    (g.H.Host.counts c.args.host.now) (g.H.Host.counts c.show.new.host) c.show.result c.in-Preview.ensures tt c.asked_has_one_answer.ensures (returns-in-Ok-clause-answers g c) (returns-in-Ok-clause-crash g c)
-
-pub returns-in-Err-clause-headline : goal.returns-in-Err-clause-headline
-returns-in-Err-clause-headline g c =
-    headline g.H.Host.moment g.H.Host.left_since c.args.words.now _ (g.H.Host.told c.args.host.now) (g.H.Host.told c.say-in-Err.new.host) c.args.host.now c.say-in-Err.new.host
-    (g.H.Host.counts c.args.host.now) (g.H.Host.counts c.say-in-Err.new.host) c.say-in-Err.result c.in-Preview.ensures tt c.asked_has_one_answer.ensures (returns-in-Err-clause-answers g c) (returns-in-Err-clause-crash g c)
-
-pub returns-in-Check-clause-headline : goal.returns-in-Check-clause-headline
-returns-in-Check-clause-headline g c =
-    headline g.H.Host.moment g.H.Host.left_since c.args.words.now _ (g.H.Host.told c.args.host.now) (g.H.Host.told c.check.new.host) c.args.host.now c.check.new.host
-    (g.H.Host.counts c.args.host.now) (g.H.Host.counts c.check.new.host) c.check.result c.in-Check.ensures tt c.asked_has_one_answer.ensures (returns-in-Check-clause-answers g c) (returns-in-Check-clause-crash g c)
-
-pub returns-in-ListCheckpoints-clause-headline : goal.returns-in-ListCheckpoints-clause-headline
-returns-in-ListCheckpoints-clause-headline g c =
-    headline g.H.Host.moment g.H.Host.left_since c.args.words.now _ (g.H.Host.told c.args.host.now) (g.H.Host.told c.list_checkpoints.new.host) c.args.host.now c.list_checkpoints.new.host
-    (g.H.Host.counts c.args.host.now) (g.H.Host.counts c.list_checkpoints.new.host) c.list_checkpoints.result c.in-ListCheckpoints.ensures tt c.asked_has_one_answer.ensures (returns-in-ListCheckpoints-clause-answers g c) (returns-in-ListCheckpoints-clause-crash g c)
-
-pub returns-in-MigrateCheckpoints-clause-headline : goal.returns-in-MigrateCheckpoints-clause-headline
-returns-in-MigrateCheckpoints-clause-headline g c =
-    headline g.H.Host.moment g.H.Host.left_since c.args.words.now _ (g.H.Host.told c.args.host.now) (g.H.Host.told c.migrate_checkpoints.new.host) c.args.host.now c.migrate_checkpoints.new.host
-    (g.H.Host.counts c.args.host.now) (g.H.Host.counts c.migrate_checkpoints.new.host) c.migrate_checkpoints.result c.in-MigrateCheckpoints.ensures tt c.asked_has_one_answer.ensures (returns-in-MigrateCheckpoints-clause-answers g c) (returns-in-MigrateCheckpoints-clause-crash g c)
-
-pub returns-in-SaveCheckpoint-clause-headline : goal.returns-in-SaveCheckpoint-clause-headline
-returns-in-SaveCheckpoint-clause-headline g c =
-    headline g.H.Host.moment g.H.Host.left_since c.args.words.now _ (g.H.Host.told c.args.host.now) (g.H.Host.told c.save_checkpoint.new.host) c.args.host.now c.save_checkpoint.new.host
-    (g.H.Host.counts c.args.host.now) (g.H.Host.counts c.save_checkpoint.new.host) c.save_checkpoint.result c.in-SaveCheckpoint.ensures tt c.asked_has_one_answer.ensures (returns-in-SaveCheckpoint-clause-answers g c) (returns-in-SaveCheckpoint-clause-crash g c)
-
-pub returns-in-DeleteCheckpoint-clause-headline : goal.returns-in-DeleteCheckpoint-clause-headline
-returns-in-DeleteCheckpoint-clause-headline g c =
-    headline g.H.Host.moment g.H.Host.left_since c.args.words.now _ (g.H.Host.told c.args.host.now) (g.H.Host.told c.delete_checkpoint.new.host) c.args.host.now c.delete_checkpoint.new.host
-    (g.H.Host.counts c.args.host.now) (g.H.Host.counts c.delete_checkpoint.new.host) c.delete_checkpoint.result c.in-DeleteCheckpoint.ensures tt c.asked_has_one_answer.ensures (returns-in-DeleteCheckpoint-clause-answers g c) (returns-in-DeleteCheckpoint-clause-crash g c)
-
-pub returns-in-Plan-clause-headline : goal.returns-in-Plan-clause-headline
-returns-in-Plan-clause-headline g c =
-    headline g.H.Host.moment g.H.Host.left_since c.args.words.now _ (g.H.Host.told c.args.host.now) (g.H.Host.told c.dry_run.new.host) c.args.host.now c.dry_run.new.host
-    (g.H.Host.counts c.args.host.now) (g.H.Host.counts c.dry_run.new.host) c.dry_run.result c.in-Plan.ensures tt c.asked_has_one_answer.ensures (returns-in-Plan-clause-answers g c) (returns-in-Plan-clause-crash g c)
-
-pub returns-in-Change-clause-headline : goal.returns-in-Change-clause-headline
-returns-in-Change-clause-headline g c =
-    change_headline g.H.Host.moment g.H.Host.left_since c.args.words.now (target_view c.in-Change.target) c.in-Change.options.budget (g.H.Host.told c.args.host.now) (g.H.Host.told c.change.new.host) c.args.host.now c.change.new.host
-    (g.H.Host.counts c.args.host.now) (g.H.Host.counts c.change.new.host) c.change.result c.asked_has_one_answer.ensures (returns-in-Change-clause-answers g c) (returns-in-Change-clause-crash g c) c.change.ensures.early
-
-pub returns-in-Status-clause-headline : goal.returns-in-Status-clause-headline
-returns-in-Status-clause-headline g c =
-    headline g.H.Host.moment g.H.Host.left_since c.args.words.now _ (g.H.Host.told c.args.host.now) (g.H.Host.told c.status.new.host) c.args.host.now c.status.new.host
-    (g.H.Host.counts c.args.host.now) (g.H.Host.counts c.status.new.host) c.status.result c.in-Status.ensures tt c.asked_has_one_answer.ensures (returns-in-Status-clause-answers g c) (returns-in-Status-clause-crash g c)
-
-pub returns-in-Abandon-clause-headline : goal.returns-in-Abandon-clause-headline
-returns-in-Abandon-clause-headline g c =
-    headline g.H.Host.moment g.H.Host.left_since c.args.words.now _ (g.H.Host.told c.args.host.now) (g.H.Host.told c.abandon.new.host) c.args.host.now c.abandon.new.host
-    (g.H.Host.counts c.args.host.now) (g.H.Host.counts c.abandon.new.host) c.abandon.result c.in-Abandon.ensures tt c.asked_has_one_answer.ensures (returns-in-Abandon-clause-answers g c) (returns-in-Abandon-clause-crash g c)
-
-pub returns-in-Demo-clause-headline : goal.returns-in-Demo-clause-headline
-returns-in-Demo-clause-headline g c =
-    headline g.H.Host.moment g.H.Host.left_since c.args.words.now _ (g.H.Host.told c.args.host.now) (g.H.Host.told c.demo.new.host) c.args.host.now c.demo.new.host
-    (g.H.Host.counts c.args.host.now) (g.H.Host.counts c.demo.new.host) c.demo.result c.in-Demo.ensures tt c.asked_has_one_answer.ensures (returns-in-Demo-clause-answers g c) (returns-in-Demo-clause-crash g c)
-
-pub returns-in-CheckPlan-clause-headline : goal.returns-in-CheckPlan-clause-headline
-returns-in-CheckPlan-clause-headline g c =
-    headline g.H.Host.moment g.H.Host.left_since c.args.words.now _ (g.H.Host.told c.args.host.now) (g.H.Host.told c.check_plan.new.host) c.args.host.now c.check_plan.new.host
-    (g.H.Host.counts c.args.host.now) (g.H.Host.counts c.check_plan.new.host) c.check_plan.result c.in-CheckPlan.ensures tt c.asked_has_one_answer.ensures (returns-in-CheckPlan-clause-answers g c) (returns-in-CheckPlan-clause-crash g c)
-
--- ---- the file intent
-
-pub returns-in-Unknown-clause-intent : goal.returns-in-Unknown-clause-intent
-returns-in-Unknown-clause-intent g c =
-    keeps_intent g.H.Host.moment g.H.Host.left_since c.args.words.now (g.H.Host.told c.args.host.now) c.args.host.now c.say.new.host (returns-in-Unknown-clause-crash g c)
-
-pub returns-in-Ok-clause-intent : goal.returns-in-Ok-clause-intent
-returns-in-Ok-clause-intent g c =
-    keeps_intent g.H.Host.moment g.H.Host.left_since c.args.words.now (g.H.Host.told c.args.host.now) c.args.host.now c.show.new.host (returns-in-Ok-clause-crash g c)
-
-pub returns-in-Err-clause-intent : goal.returns-in-Err-clause-intent
-returns-in-Err-clause-intent g c =
-    keeps_intent g.H.Host.moment g.H.Host.left_since c.args.words.now (g.H.Host.told c.args.host.now) c.args.host.now c.say-in-Err.new.host (returns-in-Err-clause-crash g c)
-
-pub returns-in-Check-clause-intent : goal.returns-in-Check-clause-intent
-returns-in-Check-clause-intent g c =
-    keeps_intent g.H.Host.moment g.H.Host.left_since c.args.words.now (g.H.Host.told c.args.host.now) c.args.host.now c.check.new.host (returns-in-Check-clause-crash g c)
-
-pub returns-in-ListCheckpoints-clause-intent : goal.returns-in-ListCheckpoints-clause-intent
-returns-in-ListCheckpoints-clause-intent g c =
-    keeps_intent g.H.Host.moment g.H.Host.left_since c.args.words.now (g.H.Host.told c.args.host.now) c.args.host.now c.list_checkpoints.new.host (returns-in-ListCheckpoints-clause-crash g c)
-
-pub returns-in-MigrateCheckpoints-clause-intent : goal.returns-in-MigrateCheckpoints-clause-intent
-returns-in-MigrateCheckpoints-clause-intent g c =
-    keeps_intent g.H.Host.moment g.H.Host.left_since c.args.words.now (g.H.Host.told c.args.host.now) c.args.host.now c.migrate_checkpoints.new.host (returns-in-MigrateCheckpoints-clause-crash g c)
-
-pub returns-in-SaveCheckpoint-clause-intent : goal.returns-in-SaveCheckpoint-clause-intent
-returns-in-SaveCheckpoint-clause-intent g c =
-    keeps_intent g.H.Host.moment g.H.Host.left_since c.args.words.now (g.H.Host.told c.args.host.now) c.args.host.now c.save_checkpoint.new.host (returns-in-SaveCheckpoint-clause-crash g c)
-
-pub returns-in-DeleteCheckpoint-clause-intent : goal.returns-in-DeleteCheckpoint-clause-intent
-returns-in-DeleteCheckpoint-clause-intent g c =
-    keeps_intent g.H.Host.moment g.H.Host.left_since c.args.words.now (g.H.Host.told c.args.host.now) c.args.host.now c.delete_checkpoint.new.host (returns-in-DeleteCheckpoint-clause-crash g c)
-
-pub returns-in-Plan-clause-intent : goal.returns-in-Plan-clause-intent
-returns-in-Plan-clause-intent g c =
-    keeps_intent g.H.Host.moment g.H.Host.left_since c.args.words.now (g.H.Host.told c.args.host.now) c.args.host.now c.dry_run.new.host (returns-in-Plan-clause-crash g c)
-
-pub returns-in-Change-clause-intent : goal.returns-in-Change-clause-intent
-returns-in-Change-clause-intent g c =
-    keeps_intent g.H.Host.moment g.H.Host.left_since c.args.words.now (g.H.Host.told c.args.host.now) c.args.host.now c.change.new.host (returns-in-Change-clause-crash g c)
-
-pub returns-in-Status-clause-intent : goal.returns-in-Status-clause-intent
-returns-in-Status-clause-intent g c =
-    keeps_intent g.H.Host.moment g.H.Host.left_since c.args.words.now (g.H.Host.told c.args.host.now) c.args.host.now c.status.new.host (returns-in-Status-clause-crash g c)
-
-pub returns-in-Abandon-clause-intent : goal.returns-in-Abandon-clause-intent
-returns-in-Abandon-clause-intent g c =
-    keeps_intent g.H.Host.moment g.H.Host.left_since c.args.words.now (g.H.Host.told c.args.host.now) c.args.host.now c.abandon.new.host (returns-in-Abandon-clause-crash g c)
-
-pub returns-in-Demo-clause-intent : goal.returns-in-Demo-clause-intent
-returns-in-Demo-clause-intent g c =
-    keeps_intent g.H.Host.moment g.H.Host.left_since c.args.words.now (g.H.Host.told c.args.host.now) c.args.host.now c.demo.new.host (returns-in-Demo-clause-crash g c)
-
-pub returns-in-CheckPlan-clause-intent : goal.returns-in-CheckPlan-clause-intent
-returns-in-CheckPlan-clause-intent g c =
-    keeps_intent g.H.Host.moment g.H.Host.left_since c.args.words.now (g.H.Host.told c.args.host.now) c.args.host.now c.check_plan.new.host (returns-in-CheckPlan-clause-crash g c)
-
--- ---- a change that was stopped
-
-pub returns-in-Unknown-clause-resumes : goal.returns-in-Unknown-clause-resumes
-returns-in-Unknown-clause-resumes g c =
-    never_resumes c.args.words.now (g.H.Host.told c.args.host.now) (g.H.Host.counts c.args.host.now) (g.H.Host.counts c.say.new.host) c.say.result c.in-Unknown.ensures
-
-pub returns-in-Ok-clause-resumes : goal.returns-in-Ok-clause-resumes
-returns-in-Ok-clause-resumes g c =
-    resumes c.listed_moves_have_models.ensures c.asked_has_one_answer.ensures c.args.words.now (g.H.Host.told c.args.host.now)
-    (g.H.Host.counts c.args.host.now) (g.H.Host.counts c.show.new.host) c.show.result (returns-in-Ok-clause-complete g c)
-
-pub returns-in-Err-clause-resumes : goal.returns-in-Err-clause-resumes
-returns-in-Err-clause-resumes g c =
-    resumes c.listed_moves_have_models.ensures c.asked_has_one_answer.ensures c.args.words.now (g.H.Host.told c.args.host.now)
-    (g.H.Host.counts c.args.host.now) (g.H.Host.counts c.say-in-Err.new.host) c.say-in-Err.result (returns-in-Err-clause-complete g c)
-
-pub returns-in-Check-clause-resumes : goal.returns-in-Check-clause-resumes
-returns-in-Check-clause-resumes g c =
-    resumes c.listed_moves_have_models.ensures c.asked_has_one_answer.ensures c.args.words.now (g.H.Host.told c.args.host.now)
-    (g.H.Host.counts c.args.host.now) (g.H.Host.counts c.check.new.host) c.check.result (returns-in-Check-clause-complete g c)
-
-pub returns-in-ListCheckpoints-clause-resumes : goal.returns-in-ListCheckpoints-clause-resumes
-returns-in-ListCheckpoints-clause-resumes g c =
-    resumes c.listed_moves_have_models.ensures c.asked_has_one_answer.ensures c.args.words.now (g.H.Host.told c.args.host.now)
-    (g.H.Host.counts c.args.host.now) (g.H.Host.counts c.list_checkpoints.new.host) c.list_checkpoints.result (returns-in-ListCheckpoints-clause-complete g c)
-
-pub returns-in-MigrateCheckpoints-clause-resumes : goal.returns-in-MigrateCheckpoints-clause-resumes
-returns-in-MigrateCheckpoints-clause-resumes g c =
-    resumes c.listed_moves_have_models.ensures c.asked_has_one_answer.ensures c.args.words.now (g.H.Host.told c.args.host.now)
-    (g.H.Host.counts c.args.host.now) (g.H.Host.counts c.migrate_checkpoints.new.host) c.migrate_checkpoints.result (returns-in-MigrateCheckpoints-clause-complete g c)
-
-pub returns-in-SaveCheckpoint-clause-resumes : goal.returns-in-SaveCheckpoint-clause-resumes
-returns-in-SaveCheckpoint-clause-resumes g c =
-    resumes c.listed_moves_have_models.ensures c.asked_has_one_answer.ensures c.args.words.now (g.H.Host.told c.args.host.now)
-    (g.H.Host.counts c.args.host.now) (g.H.Host.counts c.save_checkpoint.new.host) c.save_checkpoint.result (returns-in-SaveCheckpoint-clause-complete g c)
-
-pub returns-in-DeleteCheckpoint-clause-resumes : goal.returns-in-DeleteCheckpoint-clause-resumes
-returns-in-DeleteCheckpoint-clause-resumes g c =
-    resumes c.listed_moves_have_models.ensures c.asked_has_one_answer.ensures c.args.words.now (g.H.Host.told c.args.host.now)
-    (g.H.Host.counts c.args.host.now) (g.H.Host.counts c.delete_checkpoint.new.host) c.delete_checkpoint.result (returns-in-DeleteCheckpoint-clause-complete g c)
-
-pub returns-in-Plan-clause-resumes : goal.returns-in-Plan-clause-resumes
-returns-in-Plan-clause-resumes g c =
-    resumes c.listed_moves_have_models.ensures c.asked_has_one_answer.ensures c.args.words.now (g.H.Host.told c.args.host.now)
-    (g.H.Host.counts c.args.host.now) (g.H.Host.counts c.dry_run.new.host) c.dry_run.result (returns-in-Plan-clause-complete g c)
-
-pub returns-in-Change-clause-resumes : goal.returns-in-Change-clause-resumes
-returns-in-Change-clause-resumes g c =
-    resumes c.listed_moves_have_models.ensures c.asked_has_one_answer.ensures c.args.words.now (g.H.Host.told c.args.host.now)
-    (g.H.Host.counts c.args.host.now) (g.H.Host.counts c.change.new.host) c.change.result (returns-in-Change-clause-complete g c)
-
-pub returns-in-Status-clause-resumes : goal.returns-in-Status-clause-resumes
-returns-in-Status-clause-resumes g c =
-    resumes c.listed_moves_have_models.ensures c.asked_has_one_answer.ensures c.args.words.now (g.H.Host.told c.args.host.now)
-    (g.H.Host.counts c.args.host.now) (g.H.Host.counts c.status.new.host) c.status.result (returns-in-Status-clause-complete g c)
-
-pub returns-in-Abandon-clause-resumes : goal.returns-in-Abandon-clause-resumes
-returns-in-Abandon-clause-resumes g c =
-    resumes c.listed_moves_have_models.ensures c.asked_has_one_answer.ensures c.args.words.now (g.H.Host.told c.args.host.now)
-    (g.H.Host.counts c.args.host.now) (g.H.Host.counts c.abandon.new.host) c.abandon.result (returns-in-Abandon-clause-complete g c)
-
-pub returns-in-Demo-clause-resumes : goal.returns-in-Demo-clause-resumes
-returns-in-Demo-clause-resumes g c =
-    resumes c.listed_moves_have_models.ensures c.asked_has_one_answer.ensures c.args.words.now (g.H.Host.told c.args.host.now)
-    (g.H.Host.counts c.args.host.now) (g.H.Host.counts c.demo.new.host) c.demo.result (returns-in-Demo-clause-complete g c)
-
-pub returns-in-CheckPlan-clause-resumes : goal.returns-in-CheckPlan-clause-resumes
-returns-in-CheckPlan-clause-resumes g c =
-    resumes c.listed_moves_have_models.ensures c.asked_has_one_answer.ensures c.args.words.now (g.H.Host.told c.args.host.now)
-    (g.H.Host.counts c.args.host.now) (g.H.Host.counts c.check_plan.new.host) c.check_plan.result (returns-in-CheckPlan-clause-complete g c)
+-- ---- words that name a scope
+
+pub returns-in-Some-clause-answers : goal.returns-in-Some-clause-answers
+returns-in-Some-clause-answers g c none = absurd (none _ c.in-Some.ensures.0 c.in-Some.ensures.1)
+
+pub returns-in-Some-clause-crash : goal.returns-in-Some-clause-crash
+returns-in-Some-clause-crash g c none = absurd (none _ c.in-Some.ensures.0 c.in-Some.ensures.1)
+
+pub returns-in-Some-clause-headline : goal.returns-in-Some-clause-headline
+returns-in-Some-clause-headline g c none = absurd (none _ c.in-Some.ensures.0 c.in-Some.ensures.1)
+
+pub returns-in-Some-clause-intent : goal.returns-in-Some-clause-intent
+returns-in-Some-clause-intent g c none = absurd (none _ c.in-Some.ensures.0 c.in-Some.ensures.1)
+
+pub returns-in-Some-clause-complete : goal.returns-in-Some-clause-complete
+returns-in-Some-clause-complete g c none = absurd (none _ c.in-Some.ensures.0 c.in-Some.ensures.1)
+
+pub returns-in-Some-clause-resumes : goal.returns-in-Some-clause-resumes
+returns-in-Some-clause-resumes g c none = absurd (none _ c.in-Some.ensures.0 c.in-Some.ensures.1)
+
+pub returns-in-Some-clause-usage : goal.returns-in-Some-clause-usage
+returns-in-Some-clause-usage g c said =
+    absurd (some_or_none (form c.in-Some.ensures.0) c.in-Some.ensures.1.command (c.in-Some.ensures.2 ∙ c.run_scoped.ensures.usage said))
+
+pub returns-in-Some-clause-only_usage : goal.returns-in-Some-clause-only_usage
+returns-in-Some-clause-only_usage g c none = absurd (none.0 _ c.in-Some.ensures.0 c.in-Some.ensures.1)
+
+pub returns-in-Some-clause-scoped : goal.returns-in-Some-clause-scoped
+returns-in-Some-clause-scoped g c =
+    inr (c.in-Some.scoped.scope, c.in-Some.ensures.0, c.in-Some.ensures.1, c.run_scoped.ensures.runs c.in-Some.ensures.0 c.in-Some.ensures.2)
+
+-- ---- all others
+
+pub returns-in-None-clause-answers : goal.returns-in-None-clause-answers
+returns-in-None-clause-answers g c none = c.run_form.ensures.answers c.args.words.now (sym c.read_form.ensures)
+
+pub returns-in-None-clause-crash : goal.returns-in-None-clause-crash
+returns-in-None-clause-crash g c none = c.run_form.ensures.crash c.args.words.now (sym c.read_form.ensures)
+
+pub returns-in-None-clause-headline : goal.returns-in-None-clause-headline
+returns-in-None-clause-headline g c none = c.run_form.ensures.headline c.args.words.now (sym c.read_form.ensures)
+
+pub returns-in-None-clause-intent : goal.returns-in-None-clause-intent
+returns-in-None-clause-intent g c none = c.run_form.ensures.intent c.args.words.now (sym c.read_form.ensures)
+
+pub returns-in-None-clause-complete : goal.returns-in-None-clause-complete
+returns-in-None-clause-complete g c none = c.run_form.ensures.complete c.args.words.now (sym c.read_form.ensures)
+
+pub returns-in-None-clause-resumes : goal.returns-in-None-clause-resumes
+returns-in-None-clause-resumes g c none = c.run_form.ensures.resumes c.args.words.now (sym c.read_form.ensures)
+
+pub returns-in-None-clause-usage : goal.returns-in-None-clause-usage
+returns-in-None-clause-usage g c said = (c.in-None.ensures, sym c.read_form.ensures ∙ c.run_form.ensures.usage said)
+
+pub returns-in-None-clause-only_usage : goal.returns-in-None-clause-only_usage
+returns-in-None-clause-only_usage g c none = c.run_form.ensures.only_usage (c.read_form.ensures ∙ none.1)
+
+pub returns-in-None-clause-scoped : goal.returns-in-None-clause-scoped
+returns-in-None-clause-scoped g c = inl c.in-None.ensures

@@ -1,0 +1,81 @@
+-- A command over the files of one scope: the same command without the option, of the folder as the scope
+-- shows it, once what was pending is settled.
+use Rattle.std.specs.Prelude.{◌≡◌, ◌⊎◌, ℕ, List, Option, IfSome, option_map}
+use Rattle.host_core.specs.Counts.{Counts, DiskMayRise, NoneFell, NoneRose, Rose}
+use Rattle.host_core.specs.Crashes.{Elapses, Left, LeavesOnly, MayLeaveNow}
+use Rattle.host_core.specs.State.{State, settled, with_pending}
+use Rattle.scopes.specs.Views.{AreOthersSame, IsSeen, seen}
+use Rattle.scopes.specs.declared.scope.Scope.{Scope}
+use Rattle.gcu_output.specs.declared.outcomes.Outcome.{Outcome}
+use Rattle.gcu_requests.specs.Asked.{asked}
+use Rattle.gcu_requests.specs.Asking.{Asking, a_file}
+use Rattle.gcu_requests.specs.Request.{Request}
+use Rattle.gcu_requests.specs.ScopeForm.{IsScoped}
+use Rattle.gcu_engine.specs.Answers.{Answers, Complete}
+use Rattle.gcu_engine.specs.Commands.{AnswersTo, LeftTo}
+use Rattle.gcu_engine.specs.Crashes.{LeftMeanwhile}
+use Rattle.gcu_engine.specs.Headline.{IsHeadline}
+use Rattle.gcu_engine.specs.Intending.{KeepsIntent}
+use Rattle.gcu_engine.specs.Resuming.{IsStoppedIn, Resumes}
+
+-- the state that a scope shows, of a host that may not tell its own
+abbrev pub seen_told : Scope → Option State → Option State
+seen_told scope told = option_map (seen scope) told
+
+-- the disk is asked to settle what is pending, and that gives nothing
+abbrev pub settling : State → Asking Request
+settling s = record { Reads = λ source. a_file ≡ source; Gives = λ r. ⊥ }
+
+module _ {H : Type 0} (told : H → Option State) (counts : H → Counts) (moment : H → ℕ)
+    (left_since : H → ℕ → Left → Type 0) where
+  -- what is pending can't be settled: that is told, and nothing is done
+  pub record IsUnsettled (old new : H) (result : Outcome) : Type 0 where
+    pub rose : Rose (counts old).disk (counts new).disk
+    pub answers : AnswersTo settling (told old) (told new) (counts old) (counts new) result
+    pub crash : LeavesOnly moment left_since old new (LeftTo settling (told old))
+
+  -- what a scope shows of what a crash might have left
+  abbrev pub seen_since : Scope → H → ℕ → Left → Type 0
+  seen_since scope h t left = IsSeen scope (left_since h t) left
+
+  -- The words without the option are done from a host on with nothing pending, of the folder as the scope
+  -- shows it. The files that the scope does not have stay as they are, also after a crash at any moment.
+  pub record RunsInScope (scope : Scope) (words : List (List ℕ)) (old new : H) (result : Outcome)
+      : Type 0 where
+    pub answers : Answers words
+        (seen_told scope (told old)) (seen_told scope (told new)) (counts old) (counts new) result
+    pub crash : LeavesOnly moment (seen_since scope) old new
+        (LeftMeanwhile words (seen_told scope (told old)))
+    pub headline : IfSome (seen_told scope (told old)) (λ s.
+        IsHeadline words s (seen_told scope (told new)) result (seen_since scope new (moment old)))
+    pub intent : IfSome (seen_told scope (told old)) (λ s.
+        KeepsIntent words s (seen_since scope new (moment old)))
+    pub complete : IfSome (seen_told scope (told old)) (λ s.
+        NoneRose (counts old) (counts new) → Complete (asked words s) result)
+    pub resumes : IfSome (seen_told scope (told old)) (λ s.
+        NoneRose (counts old) (counts new) → IsStoppedIn s → Resumes words result)
+    pub others : IfSome (told old) (λ s. IfSome (told new) (λ t.
+        AreOthersSame scope s.files t.files))
+    pub others_left : IfSome (told old) (λ s. LeavesOnly moment left_since old new (λ left.
+        AreOthersSame scope s.files left.files))
+    pub none_fell : NoneFell (counts old) (counts new)
+
+  -- what is pending is settled first
+  pub record RunsSettled (scope : Scope) (words : List (List ℕ)) (old new : H) (result : Outcome)
+      : Type 0 where
+    pub between : H
+    pub settles : told between ≡ option_map (with_pending settled) (told old)
+    pub time : Elapses moment left_since old between (MayLeaveNow (told between))
+    pub counted : DiskMayRise (counts old) (counts between)
+    pub runs : RunsInScope scope words between new result
+
+  -- it can't be settled, or the command is done over the files of the scope
+  abbrev pub DoesInScope : Scope → List (List ℕ) → H → H → Outcome → Type 0
+  DoesInScope scope words old new result =
+      IsUnsettled old new result ⊎ RunsSettled scope words old new result
+
+  -- the words name a scope, and so it is done
+  abbrev pub RunsScoped : List (List ℕ) → H → H → Outcome → Type 0
+  RunsScoped words old new result =
+      (scope : Scope) × (plain : List (List ℕ)) × IsScoped words scope plain
+      × DoesInScope scope plain old new result

@@ -1,0 +1,3 @@
+-- what public clauses cite
+pub mod ScriptFaults
+pub mod Scripts
