@@ -1,1 +1,2 @@
-mod ScriptRuns
+pub mod ScriptRuns
+pub mod WorldsKept

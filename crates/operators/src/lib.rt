@@ -9,6 +9,6 @@ mod replies;
 mod searching;
 mod turns;
 
-pub use laws::scripts_run_worlds;
+pub use laws::{scripts_keep_worlds, scripts_run_worlds};
 pub use operating::{Operated, operate};
 pub use searching::first_plan;
