@@ -104,7 +104,7 @@ module _ (patches : List Patched) (budget : ℕ) where
 
   -- ---- as a run of the world
 
-  turn_is : (w after : WorldState) (line : ScriptLine) (reply : Reply) → IsTurnOf patches budget w line reply after → (event : Event) × IsTurn w event reply after
+  pub turn_is : (w after : WorldState) (line : ScriptLine) (reply : Reply) → IsTurnOf patches budget w line reply after → (event : Event) × IsTurn w event reply after
   turn_is w after (Begin name file) reply t = (turns.Begin name t.0, t.2)
   turn_is w after (Step name) reply t = (turns.Step name, t)
   turn_is w after (Retarget name file) reply t = (turns.Retarget name t.0, t.2)
