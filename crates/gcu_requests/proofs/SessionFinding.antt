@@ -141,11 +141,11 @@ no_line None found line lines e h = tt
 no_line (Some s) found line lines e h = first_refused patched_all patched_all e (line_asked (patched_all found) (file_of line) s) _ h
 
 -- that of the first line, and then the others
-pub line_found : (o : Option State) (found more : Kept) (line : ScriptLine) (lines : List ScriptLine) (r : Result Kept Outcome)
-    → Finds o patched_all (Ok more) (line_asked (patched_all found) (file_of line)) → Finds o patched_all r (patches_asked (patched_all more) lines)
+pub line_found : (o : Option State) (found later : Kept) (line : ScriptLine) (lines : List ScriptLine) (r : Result Kept Outcome)
+    → Finds o patched_all (Ok later) (line_asked (patched_all found) (file_of line)) → Finds o patched_all r (patches_asked (patched_all later) lines)
     → Finds o patched_all r (patches_asked (patched_all found) (line ∷ lines))
-line_found None found more line lines r h rest = tt
-line_found (Some s) found more line lines r h rest = then_found patched_all patched_all more r (line_asked (patched_all found) (file_of line) s) _ h rest
+line_found None found later line lines r h rest = tt
+line_found (Some s) found later line lines r h rest = then_found patched_all patched_all later r (line_asked (patched_all found) (file_of line) s) _ h rest
 
 -- ---- all of it
 
