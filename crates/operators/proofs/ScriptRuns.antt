@@ -1,5 +1,5 @@
 -- How the lines of a script make its run.
-use Rattle.std.proofs.Common.{◌≡◌, ◌∙◌, inl, inr, ℕ, List, [], ◌∷◌, ◌++◌, map, length, refl, sym, ap, subst, append_assoc, Option, Some, None, IsNone, IsSome, Result, Ok, Err, IfOk}
+use Rattle.std.proofs.Common.{◌≡◌, ◌∙◌, inl, inr, ℕ, Bool, true, false, List, [], ◌∷◌, ◌++◌, map, length, refl, sym, ap, subst, append_assoc, Option, Some, None, IsNone, IsSome, Result, Ok, Err, IfOk}
 use Rattle.std.proofs.lemmas.List.{append-nil}
 use Rattle.std.proofs.lemmas.Result.{IfOk-weaker}
 use Rattle.conf_doc.specs.declared.configuration.Config.{Config}
@@ -50,6 +50,11 @@ module _ (budget : ℕ) (ctx : Ctx) (ops : List Operation) (now : Config) where
       → IsAim budget ctx ops now a
   refusal_aim e a h always other is = subst (IsAim budget ctx ops now) (sym is) (inl (e, refused_as e (aim_asked ctx ops now) always other h.gives, refl))
 
+  pub refused_aims : {E X : Type 0} (view : X → Aim) (e : Outcome) (r : Result X E) → Found {X = Config} (λ c. c) (Err e) (aim_asked ctx ops now) → RefusesAlways e
+      → IfOk r (λ a. ¬ (e ≡ Memory)) → IfOk r (λ a. view a ≡ Refusal (number e)) → IfOk r (λ a. IsAim budget ctx ops now (view a))
+  refused_aims view e (Ok a) h always other is = refusal_aim e (view a) h always other is
+  refused_aims view e (Err x) h always other is = tt
+
   -- there is a goal
   pub goal_aim : {E X : Type 0} (goal : Config) (view : X → Aim) (r : Result X E) → Found (λ (c : Config). c) (Ok goal) (aim_asked ctx ops now)
       → IfOk r (λ a. IsPlanned budget ctx now goal (view a)) → IfOk r (λ a. IsAim budget ctx ops now (view a))
@@ -67,6 +72,11 @@ module _ (patches : List Patched) (budget : ℕ) (ctx : Ctx) (file : List ℕ) (
   plan_of goal ms (ops, found, inr (at, given, planned)) = subst (λ g. IsPlan (rulebook ctx) now g ms) (sym planned.0) planned.1.0
 
 -- ---- turns
+
+-- a session that isn't known isn't there
+pub isnt_there : {A : Type 0} (o : Option A) (b : Bool) → b ≡ false → (IsSome o → b ≡ true) → IsNone o
+isnt_there None b is h = refl
+isnt_there (Some a) b is h = let known : b ≡ true = h refl in absurd cc
 
 none_some : {A : Type 0} (o : Option A) → IsNone o → IsSome o → ⊥
 none_some None none some = cc

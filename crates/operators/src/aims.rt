@@ -1,11 +1,12 @@
 //! What an operator aims at: a goal with the first plan to it, or what `apply-patch` would refuse.
-ghost use Rattle.std.specs.Prelude.{◌≡◌, ◌<◌, IfOk, IsSome};
+ghost use Rattle.std.specs.Prelude.{◌≡◌, ◌≢◌, ◌<◌, IfOk, IsSome};
 ghost use Rattle.move_core.specs.Contexts.{IsNamed, IsValidIn};
 ghost use Rattle.patch_core.specs.Operation.{operations};
 ghost use Rattle.gcu_requests.specs.ReadScripts.{patched_all};
 ghost use Rattle.gcu_requests.specs.SessionsAsked.{patch_at as patch_found};
 ghost use Rattle.sessions.specs.Turns.{Refusal as no_aim};
 ghost use Rattle.gcu_output.specs.Lines.{number};
+ghost use Rattle.gcu_output.specs.declared.outcomes.Outcome.TheVariants.{Memory as no_memory};
 ghost use Rattle.operators.specs.Aims.{aim_view};
 ghost use Rattle.operators.specs.Runs.{IsAim, IsAimOf, IsPlanned};
 
@@ -72,8 +73,18 @@ fn aim_of_patch(
 {
     match aim(alloc, ctx, patch, now) {
         Ok(goal) => aim_at_goal(alloc, ctx, kit, budget, now, goal),
-        Err(Outcome::Memory) => Err(Memory),
-        Err(refusal) => Ok(refused(&refusal)),
+        Err(refusal) => refused_unless_memory(&refusal),
+    }
+}
+
+/// Nothing, for the number of a refusal, which isn't want of memory.
+fn refused_unless_memory(refusal: &Outcome) -> Result<Aim, Memory>
+    ensures other { IfOk result (λ _. refusal.now ≢ no_memory) }
+    ensures aim { IfOk result (λ a. aim_view a ≡ no_aim (number refusal.now)) }
+{
+    match refusal {
+        Outcome::Memory => Err(Memory),
+        other => Ok(refused(other)),
     }
 }
 

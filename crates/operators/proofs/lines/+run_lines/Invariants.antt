@@ -2,4 +2,4 @@ use Rattle.std.proofs.Common.{length}
 use Rattle.operators.proofs.lines.+run_lines.Given as goal
 
 abbrev pub decreases-run_lines : goal.decreases-run_lines
-decreases-run_lines l = length l.lines.now
+decreases-run_lines g l = length l.lines.now
