@@ -1,5 +1,5 @@
 -- How the lines of a script make its run.
-use Rattle.std.proofs.Common.{◌≡◌, ◌∙◌, inl, inr, ℕ, Bool, true, false, List, [], ◌∷◌, ◌++◌, map, length, refl, sym, ap, subst, append_assoc, Option, Some, None, IsNone, IsSome, Result, Ok, Err, IfOk}
+use Rattle.std.proofs.Common.{◌≡◌, ◌∙◌, inl, inr, ℕ, Bool, true, false, List, [], ◌∷◌, ◌++◌, map, length, refl, sym, ap, subst, append_assoc, Option, Some, None, IsNone, IsSome, Result, Ok, Err, IfOk, OnOk}
 use Rattle.std.proofs.lemmas.List.{append-nil}
 use Rattle.std.proofs.lemmas.Result.{IfOk-weaker}
 use Rattle.conf_doc.specs.declared.configuration.Config.{Config}
@@ -8,8 +8,6 @@ use Rattle.move_core.specs.Plans.{IsPlan}
 use Rattle.move_core.specs.declared.contexts.Ctx.{Ctx}
 use Rattle.move_core.specs.declared.moves.Move.{Move}
 use Rattle.patch_core.specs.Operation.{Operation}
-use Rattle.plan_search.specs.Searches.{IsSearchAnswer}
-use Rattle.plan_search.specs.declared.errors.SearchError.TheVariants as search
 use Rattle.operators.specs.Replies.{commits_line, reply_line}
 use Rattle.session_scripts.specs.Scripts.{name_of}
 use Rattle.session_scripts.specs.declared.script_lines.ScriptLine.{ScriptLine}
@@ -111,6 +109,12 @@ module _ (patches : List Patched) (budget : ℕ) where
     (next, turn, run),
     same ∙ ap (λ t. t ++ reply_lines lines replies) is ∙ append_assoc before (reply_line (name_of line) reply) (reply_lines lines replies),
   )
+
+  pub told_on : {E X : Type 0} (r : Result X E) (line : ScriptLine) (lines : List ScriptLine) (reply : Reply) (w next after : WorldState) (before told text : List ℕ)
+      → IsTurnOf patches budget w line reply next → told ≡ before ++ reply_line (name_of line) reply → OnOk r (AreTold patches budget lines next told after text)
+      → OnOk r (AreTold patches budget (line ∷ lines) w before after text)
+  told_on (Ok x) line lines reply w next after before told text turn is more = told_more line lines reply w next after before told text turn is more
+  told_on (Err e) line lines reply w next after before told text turn is more = tt
 
   -- ---- as a run of the world
 

@@ -1,5 +1,5 @@
 -- What a script keeps that has run, and how many commits it makes.
-use Rattle.std.proofs.Common.{◌≡◌, ◌≤◌, ◌+◌, ◌∙◌, ℕ, suc, List, [], ◌∷◌, length, refl, sym, ap, subst, arith, length-append}
+use Rattle.std.proofs.Common.{◌≡◌, ◌≤◌, ◌+◌, ℕ, suc, List, [], ◌∷◌, length, refl, ap, arith, length-append}
 use Rattle.move_core.specs.Contexts.{IsValidIn}
 use Rattle.session_scripts.specs.declared.script_lines.ScriptLine.{ScriptLine}
 use Rattle.sessions.specs.Runs.{IsRun, Turn}

@@ -3,7 +3,6 @@ use Rattle.std.specs.Prelude.{◌≡◌, ◌⊎◌, ℕ, List, [], ◌∷◌, �
 use Rattle.conf_doc.specs.declared.configuration.Config.{Config}
 use Rattle.move_core.specs.Contexts.{rulebook}
 use Rattle.move_core.specs.declared.contexts.Ctx.{Ctx}
-use Rattle.move_core.specs.declared.moves.Move.{Move}
 use Rattle.patch_core.specs.Operation.{Operation}
 use Rattle.plan_search.specs.Searches.{IsSearchAnswer}
 use Rattle.plan_search.specs.declared.errors.SearchError.TheVariants as search

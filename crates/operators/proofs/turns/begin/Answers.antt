@@ -1,4 +1,3 @@
-use Rattle.std.proofs.Common.{subst}
 use Rattle.gcu_requests.specs.ReadScripts.{patched_all}
 use Rattle.sessions.specs.Turns.{Refusal, Towards}
 use Rattle.sessions.specs.Worlds.{session_of}
