@@ -21,14 +21,14 @@ telling p = request.rehearse (operating_of p)
 module _ (path : List ℕ) (budget : ℕ) where
   text_said : (s : State) (p : code.Operating) (r : Result (Vec ℕ Global) Outcome) → (rehearse_asked path budget s).Gives (Ok (telling p))
       → IfOk r (λ text. IsRehearsed p text.items) → IfErr r (λ e. e ≡ Memory) → SaysText (rehearse_asked path budget s) s r
-  text_said s p (Ok text) given h no = (telling p, given, refl, h)
-  text_said s p (Err e) given h no = subst (λ (x : Outcome). SaysText (rehearse_asked path budget s) s (Err x)) (sym no) (inl refl, refl)
+  text_said s p (Ok text) given h oom = (telling p, given, refl, h)
+  text_said s p (Err e) given h oom = subst (λ (x : Outcome). SaysText (rehearse_asked path budget s) s (Err x)) (sym oom) (inl refl, refl)
 
   -- what the operators are told is what is asked for
   pub text_says : (o : Option State) (p : code.Operating) (r : Result (Vec ℕ Global) Outcome) → Finds o operating_of (Ok p) (operating_asked path budget)
       → IfOk r (λ text. IsRehearsed p text.items) → IfErr r (λ e. e ≡ Memory) → IfSome o (λ s. SaysText (rehearse_asked path budget s) s r)
-  text_says None p r h told no = tt
-  text_says (Some s) p r h told no = text_said s p r (inr (operating_of p, h.gives, refl)) told no
+  text_says None p r h told oom = tt
+  text_says (Some s) p r h told oom = text_said s p r (inr (operating_of p, h.gives, refl)) told oom
 
   -- what is refused is refused of the question
   pub script_refused : (o : Option State) (e : Outcome) (old new : Counts) → Refuses old new e

@@ -1,5 +1,6 @@
 -- What a command says that only tells what operators do.
-use Rattle.std.specs.Prelude.{◌≡◌, ℕ, Global, List, ◌++◌, Vec, Result, Ok, Err}
+use Rattle.std.specs.Prelude.{◌≡◌, ℕ, List, ◌++◌, Vec, Result, Ok, Err}
+use Rattle.std.specs.declared.alloc.Global.{Global}
 use Rattle.host_core.specs.State.{State}
 use Rattle.sessions.specs.Worlds.{WorldState}
 use Rattle.gcu_output.specs.Lines.{last_line}
