@@ -10,7 +10,7 @@ use Rattle.plan_options.specs.Demos.{demo_of, Demo}
 use Rattle.plan_options.specs.Options.{Options, budget_in, budget_word, dry_run_word, most_budget, options, with_budget}
 use Rattle.plan_options.specs.Targets.{Target, resumed, target_of}
 use Rattle.plan_options.specs.Words.{is_positional, is_word}
-use Rattle.gcu_requests.specs.Form.{Form, abandon, change, check, check_plan, delete_checkpoint, demo, form, form_of_check, form_of_demo, form_of_interruption, form_of_plan, form_of_resume, list_checkpoints, migrate_checkpoints, plan, planned, preview, save_checkpoint, status}
+use Rattle.gcu_requests.specs.Form.{Form, abandon, change, check, check_plan, delete_checkpoint, demo, form, form_of_check, form_of_demo, form_of_interruption, form_of_plan, form_of_resume, list_checkpoints, migrate_checkpoints, plan, planned, preview, save_checkpoint, status, form_of_sessions, operated, rehearse}
 
 -- ---- options
 
@@ -95,6 +95,14 @@ check_budgeted patch [] = tt
 check_budgeted patch (saved ∷ []) = either_budgeted (is_positional patch && is_positional saved) (Some (check_plan patch saved)) None tt tt
 check_budgeted patch (a ∷ b ∷ ws) = tt
 
+sessions_budgeted : (path : List ℕ) (ws : List (List ℕ)) → IsBudgeted (form_of_sessions path ws)
+sessions_budgeted path ws =
+    either_budgeted (is_positional path) (option_and_then (operated path) (options ws)) None (by (options ws)) tt
+  where
+    by : (o : Option Options) → IsBudgeted (option_and_then (operated path) o)
+    by None = tt
+    by (Some given) = either_budgeted given.dry_run (Some (rehearse path given.budget)) None tt tt
+
 resume_budgeted : (ws : List (List ℕ)) → IsBudgeted (form_of_resume ws)
 resume_budgeted [] = omega arith
 resume_budgeted (a ∷ []) = tt
@@ -119,8 +127,11 @@ interruption_budgeted a =
     (either_budgeted (is_word a (codes "abandon")) (Some abandon) None tt tt))
 
 -- the forms of three words or more that come after the first ones
+abbrev operating : (a b : List ℕ) → List (List ℕ) → Option Form
+operating a b ws = cond (is_word a (codes "sessions")) (form_of_sessions b ws) (form_of_plan a b ws)
+
 abbrev checking : (a b : List ℕ) → List (List ℕ) → Option Form
-checking a b ws = cond (is_word a (codes "check-plan")) (form_of_check b ws) (form_of_plan a b ws)
+checking a b ws = cond (is_word a (codes "check-plan")) (form_of_check b ws) (operating a b ws)
 
 abbrev resuming_more : (a b : List ℕ) → List (List ℕ) → Option Form
 resuming_more a b ws = cond (is_word a (codes "resume")) (form_of_resume (b ∷ ws)) (checking a b ws)
@@ -152,4 +163,5 @@ form_is_budgeted (a ∷ b ∷ []) =
 form_is_budgeted (a ∷ b ∷ c ∷ ws) =
     either_budgeted (is_word a (codes "demo")) (form_of_demo b (c ∷ ws)) (resuming_more a b (c ∷ ws)) (demo_budgeted b (c ∷ ws))
     (either_budgeted (is_word a (codes "resume")) (form_of_resume (b ∷ c ∷ ws)) (checking a b (c ∷ ws)) (resume_budgeted (b ∷ c ∷ ws))
-    (either_budgeted (is_word a (codes "check-plan")) (form_of_check b (c ∷ ws)) (form_of_plan a b (c ∷ ws)) (check_budgeted b (c ∷ ws)) (plan_budgeted a b (c ∷ ws))))
+    (either_budgeted (is_word a (codes "check-plan")) (form_of_check b (c ∷ ws)) (operating a b (c ∷ ws)) (check_budgeted b (c ∷ ws))
+    (either_budgeted (is_word a (codes "sessions")) (form_of_sessions b (c ∷ ws)) (form_of_plan a b (c ∷ ws)) (sessions_budgeted b (c ∷ ws)) (plan_budgeted a b (c ∷ ws)))))

@@ -133,6 +133,7 @@ module _ (before : List Config) (s t : State) (output : List ℕ) (start : Confi
   left_of (Some (forms.change from budget)) none left h = absurd none
   left_of (Some (forms.demo seed ports)) none left h = h
   left_of (Some (forms.check_plan patch plan)) none left h = h
+  left_of (Some (forms.rehearse path budget)) none left h = h
   left_of (Some forms.status) none left h = h
   left_of (Some forms.abandon) none left h = h
 
@@ -202,6 +203,7 @@ promised_leads reads now before words s t output start stands all printed_is old
         changes_lead before s t output start stands all printed_is reads (now t.pending t.files) from budget few left
     by (Some (forms.demo seed ports)) few answers left = query (Some (forms.demo seed ports)) tt few answers left
     by (Some (forms.check_plan patch plan)) few answers left = query (Some (forms.check_plan patch plan)) tt few answers left
+    by (Some (forms.rehearse path budget)) few answers left = query (Some (forms.rehearse path budget)) tt few answers left
     by (Some forms.status) few answers left = query (Some forms.status) tt few answers left
     by (Some forms.abandon) few answers left = query (Some forms.abandon) tt few answers left
 

@@ -15,4 +15,5 @@ pub mod Promising
 pub mod Queries
 pub mod Reasons
 pub mod NotedRuns
+pub mod SessionLines
 pub mod WorksTold

@@ -96,7 +96,7 @@ second_later (a ∷ b ∷ es) n k ks sorted e =
 
 -- ---- a first line
 
-characters : (n : List ℕ) → is_good_name n ≡ true → list_all is_name_character n ≡ true
+pub characters : (n : List ℕ) → is_good_name n ≡ true → list_all is_name_character n ≡ true
 characters n good = both_true _ (list_all is_name_character n) good
 
 first_true : (a b : Bool) → (a && b) ≡ true → a ≡ true
@@ -104,16 +104,16 @@ first_true true b e = refl
 first_true false b e = absurd cc
 
 -- no byte of it is this one
-abbrev Lacks : ℕ → List ℕ → Type 0
+abbrev pub Lacks : ℕ → List ℕ → Type 0
 Lacks c [] = Unit {0}
 Lacks c (b ∷ bs) = (b ≢ c) × Lacks c bs
 
-name_lacks : (c : ℕ) → (is_name_character c ≡ true → ⊥) → (n : List ℕ) → list_all is_name_character n ≡ true → Lacks c n
+pub name_lacks : (c : ℕ) → (is_name_character c ≡ true → ⊥) → (n : List ℕ) → list_all is_name_character n ≡ true → Lacks c n
 name_lacks c none [] good = tt
 name_lacks c none (b ∷ n) good =
     (λ is. none (subst (λ d. is_name_character d ≡ true) is (first_true (is_name_character b) _ good)), name_lacks c none n (both_true (is_name_character b) _ good))
 
-no_space : is_name_character 32 ≡ true → ⊥
+pub no_space : is_name_character 32 ≡ true → ⊥
 no_space e = cc
 
 no_end : is_name_character 10 ≡ true → ⊥

@@ -1,5 +1,5 @@
 -- What a command that does no plan was asked, and what it printed: nothing is acknowledged.
-use Rattle.std.proofs.Common.{◌≡◌, ◌≤◌, ◌<◌, ◌^◌, ◌⊎◌, inl, inr, ℕ, List, [], ◌∷◌, ◌++◌, Bool, true, false, length, append-nil, Option, Some, None, Ok, refl, sym, ap, ◌∙◌, subst, arith}
+use Rattle.std.proofs.Common.{◌≡◌, ◌≤◌, ◌<◌, ◌^◌, ◌⊎◌, inl, inr, ℕ, List, [], ◌∷◌, ◌++◌, Bool, true, false, length, append-nil, Option, Some, None, Result, Ok, Err, refl, sym, ap, ◌∙◌, subst, arith}
 use Rattle.std.specs.FinMap.{get}
 use Rattle.host_core.specs.Counts.{Counts}
 use Rattle.host_core.specs.State.{State}
@@ -25,7 +25,12 @@ use Rattle.gcu_requests.specs.IntentAsked.{intent_of}
 use Rattle.gcu_requests.specs.PlanAsked.{planning_asked}
 use Rattle.plan_options.specs.Targets.{Target}
 use Rattle.gcu_requests.specs.Request as request
-use Rattle.gcu_requests.specs.Request.{Planning, Request}
+use Rattle.gcu_requests.specs.Request.{Operating, Planning, Request}
+use Rattle.gcu_requests.specs.SessionsAsked.{operating_asked, script_answer, script_asked}
+use Rattle.session_scripts.proofs.NamedLines.{script_named}
+use Rattle.session_scripts.specs.Scripts.{AreNamed, script}
+use Rattle.session_scripts.specs.declared.script_lines.ScriptLine.{ScriptLine}
+use Rattle.sessions.specs.Worlds.{opened}
 use Rattle.host_core.specs.Answers.{map_ok}
 use Rattle.gcu_engine.specs.Answers.{IsDoneOutput, IsUntouched, LeavesDone, LeavesStopped, Prints, Says}
 use Rattle.gcu_engine.specs.Plannings.{IsPlanFor}
@@ -37,6 +42,7 @@ use Rattle.command_runs.proofs.CompactTold.{heads, tails}
 use Rattle.command_runs.proofs.Fitting.{way_fits}
 use Rattle.command_runs.proofs.LastLines.{last_line_is_quiet}
 use Rattle.command_runs.proofs.PointNames.{points_have_no_steps}
+use Rattle.command_runs.proofs.SessionLines.{told_has_none}
 use Rattle.command_runs.proofs.WorksTold.{HasNoSteps, HasNone, front_of_no_steps, front_of_plan, none_in_front, quiet_has_none, unplanned}
 
 -- ---- what is asked
@@ -53,6 +59,7 @@ pub data Query (s : State) : Request → Type 0 where
   accepts : (count : ℕ) → Query s (request.accept_plan count)
   tells : (intent : Intent) (steps : ℕ) → Query s (request.status intent steps)
   gives_up : Query s request.abandon
+  rehearses : (p : Operating) → AreNamed p.lines → Query s (request.rehearse p)
 
 -- a plan is asked for with the budget of the words
 pub planning_budget : (from : Target) (budget : ℕ) (s : State) (p : Planning) → (planning_asked from budget s).Gives (Ok p) → p.budget ≡ budget
@@ -63,6 +70,25 @@ planning_budget from budget s p (inr (u, gate, inr (ctx, g, inr (start, h, inl n
 planning_budget from budget s p (inr (u, gate, inr (ctx, g, inr (start, h, inr (goal, k, e))))) =
     let same : record { ctx = ctx; start = start; goal = goal; budget = budget } ≡ p = cc in
     sym (ap (λ (q : Planning). q.budget) same)
+
+-- a script that was read has good names
+answer_named : (r : Result (List ScriptLine) ℕ) (lines : List ScriptLine) → script_answer r ≡ Ok lines → r ≡ Ok lines
+answer_named (Ok ls) lines e = let same : ls ≡ lines = cc in ap (λ (x : List ScriptLine). Ok x) same
+answer_named (Err line) lines e = absurd cc
+
+script_is_named : (path : List ℕ) (s : State) (lines : List ScriptLine) → (script_asked path s).Gives (Ok lines) → AreNamed lines
+script_is_named path s lines (inl never) = absurd never
+script_is_named path s lines (inr (bytes, g, e)) = script_named bytes lines (answer_named (script bytes) lines e)
+
+operating_named : (path : List ℕ) (budget : ℕ) (s : State) (p : Operating) → (operating_asked path budget s).Gives (Ok p) → AreNamed p.lines
+operating_named path budget s p (inl never) = absurd never
+operating_named path budget s p (inr (u, gate, inl never)) = absurd never
+operating_named path budget s p (inr (u, gate, inr (ctx, g, inl never))) = absurd never
+operating_named path budget s p (inr (u, gate, inr (ctx, g, inr (start, h, inl never)))) = absurd never
+operating_named path budget s p (inr (u, gate, inr (ctx, g, inr (start, h, inr (lines, k, inl never))))) = absurd never
+operating_named path budget s p (inr (u, gate, inr (ctx, g, inr (start, h, inr (lines, k, inr (patches, l, e)))))) =
+    let same : record { ctx = ctx; start = start; lines = lines; patches = patches; budget = budget } ≡ p = cc in
+    subst AreNamed (ap (λ (q : Operating). q.lines) same) (script_is_named path s lines k)
 
 -- no plan is done, and no checkpoint is put anew
 abbrev pub IsNoChange : Option Form → Type 0
@@ -115,6 +141,9 @@ query_given (Some (forms.demo seed ports)) none few s r (inr (p, g, e)) =
 query_given (Some (forms.check_plan patch plan)) none few s r (inl never) = absurd never
 query_given (Some (forms.check_plan patch plan)) none few s r (inr (p, g, inl never)) = absurd never
 query_given (Some (forms.check_plan patch plan)) none few s r (inr (p, g, inr (ms, h, accepted))) = subst (Query s) (sym accepted.1) (accepts (length ms))
+query_given (Some (forms.rehearse path budget)) none few s r (inl never) = absurd never
+query_given (Some (forms.rehearse path budget)) none few s r (inr (p, g, e)) =
+    let same : request.rehearse p ≡ r = cc in subst (Query s) same (rehearses p (operating_named path budget s p g))
 query_given (Some forms.status) none few s r (inl never) = absurd never
 query_given (Some forms.status) none few s r (inr (c, g, inl never)) = absurd never
 query_given (Some forms.status) none few s r (inr (c, g, inr (found, h, e))) =
@@ -167,6 +196,8 @@ query_told s _ text (demos p ports) (ms, is, e) =
 query_told s _ text (accepts count) out = inl (quiet_has_none text (subst Quiet (sym out) (acked.other 121 _ (omega arith) (omega arith))))
 query_told s _ text (tells intent steps) out = inl (quiet_has_none text (subst Quiet (sym out) (acked.other 105 _ (omega arith) (omega arith))))
 query_told s _ text gives_up out = last_told text Done out
+query_told s _ text (rehearses p named) (told, after, (replies, run, is), e) =
+    inl (subst HasNone (sym (e ∙ ap (λ t. t ++ last_line Done) is)) (told_has_none p.patches p.budget (length after.commits) p.lines replies (opened p.ctx p.start) after named run))
 
 -- ---- what is left before it
 
@@ -181,6 +212,7 @@ leaves_output s now _ (demos p ports) h = ap (λ (t : State). t.output) h
 leaves_output s now _ (accepts count) h = ap (λ (t : State). t.output) h
 leaves_output s now _ (tells intent steps) h = ap (λ (t : State). t.output) h
 leaves_output s now _ gives_up h = ap (λ (t : State). t.output) h
+leaves_output s now _ (rehearses p named) h = ap (λ (t : State). t.output) h
 
 stopped_output : (s now : State) (r : Request) (step : ℕ) → Query s r → LeavesStopped r step s now → now.output ≡ s.output
 stopped_output s now _ step (previews c) h = absurd h
@@ -193,6 +225,7 @@ stopped_output s now _ step (demos p ports) h = absurd h
 stopped_output s now _ step (accepts count) h = absurd h
 stopped_output s now _ step (tells intent steps) h = absurd h
 stopped_output s now _ step gives_up h = h.1.output
+stopped_output s now _ step (rehearses p named) h = absurd h
 
 no_change : (s : State) (p : Planning) (r : Request) → r ≡ request.change p → Query s r → ⊥
 no_change s p _ e (previews c) = cc
@@ -205,6 +238,7 @@ no_change s p _ e (demos q ports) = cc
 no_change s p _ e (accepts count) = cc
 no_change s p _ e (tells intent steps) = cc
 no_change s p _ e gives_up = cc
+no_change s p _ e (rehearses q named) = cc
 
 no_migration : (s : State) (news : List NewFile) (r : Request) → r ≡ request.migrate_checkpoints news → Query s r → ⊥
 no_migration s news _ e (previews c) = cc

@@ -6,7 +6,7 @@ use Rattle.plan_options.specs.Demos.{Demo, demo_of}
 use Rattle.plan_options.specs.Options.{Options, budget_in, budget_word, dry_run_word, options, with_budget}
 use Rattle.plan_options.specs.Targets.{Target, patched, replaced, resumed, rolled_back, target_of}
 use Rattle.plan_options.specs.Words.{is_positional, is_word}
-use Rattle.gcu_requests.specs.Form.{Form, form, form_of_check, form_of_demo, form_of_more, form_of_one, form_of_plan, form_of_resume, form_of_two, planned}
+use Rattle.gcu_requests.specs.Form.{Form, form, form_of_check, form_of_demo, form_of_more, form_of_one, form_of_plan, form_of_resume, form_of_sessions, form_of_two, operated, planned}
 use Rattle.gcu_requests.specs.Form as forms
 use Rattle.gcu_engine.specs.Headline.{IsChangeCommand, first_words}
 
@@ -215,6 +215,13 @@ check_words words [] patch = tt
 check_words words (saved ∷ []) patch = branch words (is_positional patch && is_positional saved) _ _ (λ is. tt) tt
 check_words words (a ∷ b ∷ ws) patch = tt
 
+sessions_words : (words ws : List (List ℕ)) (path : List ℕ) → IfSome (form_of_sessions path ws) (IsFormOf words)
+sessions_words words ws path = branch words (is_positional path) (option_and_then (operated path) (options ws)) None (λ is. by (options ws)) tt
+  where
+    by : (o : Option Options) → IfSome (option_and_then (operated path) o) (IsFormOf words)
+    by None = tt
+    by (Some given) = branch words given.dry_run (Some (forms.rehearse path given.budget)) None (λ is. tt) tt
+
 -- what is behind the name of a command
 behind : (command name : List ℕ) (ws : List (List ℕ)) (o : Option Form) → is_word command name ≡ true → IfSome o (IsFormOf (name ∷ ws)) → IfSome o (IsFormOf (command ∷ ws))
 behind command name ws o is h = subst (λ w. IfSome o (IsFormOf (w ∷ ws))) (sym (same_word command name is)) h
@@ -242,7 +249,8 @@ more_words a b ws =
     branch (a ∷ b ∷ ws) (is_word a (codes "demo")) _ _ (λ is. demo_words (a ∷ b ∷ ws) ws b)
     (branch (a ∷ b ∷ ws) (is_word a (codes "resume")) _ _ (λ is. behind a (codes "resume") (b ∷ ws) (form_of_resume (b ∷ ws)) is (resume_words (b ∷ ws)))
     (branch (a ∷ b ∷ ws) (is_word a (codes "check-plan")) _ _ (λ is. check_words (a ∷ b ∷ ws) ws b)
-    (plan_words a b ws)))
+    (branch (a ∷ b ∷ ws) (is_word a (codes "sessions")) _ _ (λ is. sessions_words (a ∷ b ∷ ws) ws b)
+    (plan_words a b ws))))
 
 pub form_words : (words : List (List ℕ)) → IfSome (form words) (IsFormOf words)
 form_words [] = tt

@@ -63,6 +63,7 @@ plans_print (Some forms.status) from s after old new result is h = absurd cc
 plans_print (Some forms.abandon) from s after old new result is h = absurd cc
 plans_print (Some (forms.demo seed ports)) from s after old new result is h = absurd cc
 plans_print (Some (forms.check_plan patch plan)) from s after old new result is h = absurd cc
+plans_print (Some (forms.rehearse path budget)) from s after old new result is h = absurd cc
 
 -- ---- no order
 
@@ -100,6 +101,7 @@ none_of (Some (forms.preview path)) s r (c, same) h = absurd (unsolved (request.
 none_of (Some forms.status) s r (intent, count, same) h = absurd (unsolved (request.status intent count) r same h)
 none_of (Some forms.abandon) s r same h = absurd (unsolved request.abandon r same h)
 none_of (Some (forms.check_plan patch plan)) s r (count, same) h = absurd (unsolved (request.accept_plan count) r same h)
+none_of (Some (forms.rehearse path budget)) s r (p, same) h = absurd (unsolved (request.rehearse p) r same h)
 none_of (Some forms.check) s r same h = absurd (unsolved request.check r same h)
 none_of (Some forms.list_checkpoints) s r (names, same) h = absurd (unsolved (request.list_checkpoints names) r same h)
 none_of (Some forms.migrate_checkpoints) s r same h = absurd (unsolved (request.migrate_checkpoints (migration s.files)) r same h)
@@ -307,6 +309,7 @@ one_change (Some forms.abandon) s now r left files same h =
     let writing = subst (λ (q : Request). LeftWriting q now left) (sym same) h in inl (either_points now.files left.files writing.files ∙ ap points files)
 one_change (Some forms.status) s now r left files (intent, count, same) h = absurd (subst (λ (q : Request). LeftWriting q now left) (sym same) h)
 one_change (Some (forms.check_plan patch plan)) s now r left files (count, same) h = absurd (subst (λ (q : Request). LeftWriting q now left) (sym same) h)
+one_change (Some (forms.rehearse path budget)) s now r left files (p, same) h = absurd (subst (λ (q : Request). LeftWriting q now left) (sym same) h)
 one_change (Some forms.check) s now r left files same h = absurd (subst (λ (q : Request). LeftWriting q now left) (sym same) h)
 one_change (Some forms.list_checkpoints) s now r left files (names, same) h = absurd (subst (λ (q : Request). LeftWriting q now left) (sym same) h)
 one_change (Some forms.migrate_checkpoints) s now r left files same h = absurd (subst (λ (q : Request). LeftWriting q now left) (sym same) h)

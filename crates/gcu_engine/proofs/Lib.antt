@@ -30,6 +30,7 @@ mod PlanPrints
 mod PlanSaying
 mod ReadyChanges
 mod ReadyOrNot
+mod RehearseSaying
 mod Requests
 mod Resuming
 mod RightPlans

@@ -27,7 +27,8 @@ use Rattle.gcu_requests.specs.Form.{Form, form}
 use Rattle.gcu_requests.specs.Form as forms
 use Rattle.gcu_requests.specs.PlanAsked.{dry_run_asked}
 use Rattle.gcu_requests.specs.Request as request
-use Rattle.gcu_requests.specs.Request.{Planning, Request}
+use Rattle.gcu_requests.specs.SessionsAsked.{rehearse_asked}
+use Rattle.gcu_requests.specs.Request.{Operating, Planning, Request}
 use Rattle.gcu_engine.specs.Contents.{IsContextIn}
 use Rattle.gcu_engine.proofs.Naming.{named_is}
 use Rattle.gcu_engine.proofs.Contents.{context_in}
@@ -65,6 +66,7 @@ IsRequestOf (Some (forms.save_checkpoint name)) s r = (c : Config) × (stored s.
 IsRequestOf (Some (forms.delete_checkpoint name)) s r = request.delete_checkpoint name ≡ r
 IsRequestOf (Some (forms.preview path)) s r = (c : Config) × (request.preview c ≡ r)
 IsRequestOf (Some (forms.check_plan patch plan)) s r = (count : ℕ) × (request.accept_plan count ≡ r)
+IsRequestOf (Some (forms.rehearse path budget)) s r = (p : Operating) × (request.rehearse p ≡ r)
 IsRequestOf (Some forms.status) s r = (intent : Intent) × (steps : ℕ) × (request.status intent steps ≡ r)
 IsRequestOf (Some forms.abandon) s r = request.abandon ≡ r
 IsRequestOf (Some forms.check) s r = request.check ≡ r
@@ -141,6 +143,10 @@ accept_given patch plan s r (inl never) = absurd never
 accept_given patch plan s r (inr (p, read, inl never)) = absurd never
 accept_given patch plan s r (inr (p, read, inr (ms, held, (is_plan, same)))) = (length ms, sym same)
 
+rehearse_given : (path : List ℕ) (budget : ℕ) (s : State) (r : Request) → (rehearse_asked path budget s).Gives (Ok r) → (p : Operating) × (request.rehearse p ≡ r)
+rehearse_given path budget s r (inl never) = absurd never
+rehearse_given path budget s r (inr (p, given, e)) = (p, request_is (request.rehearse p) r _ refl e)
+
 list_given : (s : State) (r : Request) → (list_asked s).Gives (Ok r) → IsRequestOf (Some forms.list_checkpoints) s r
 list_given s r (inl never) = absurd never
 list_given s r (inr (u, gate, e)) = (numbered_points s.files, request_is (request.list_checkpoints (numbered_points s.files)) r _ refl e)
@@ -170,6 +176,7 @@ requested (Some (forms.save_checkpoint name)) s r given = save_given name s r gi
 requested (Some (forms.delete_checkpoint name)) s r given = delete_given name s r given
 requested (Some (forms.preview path)) s r given = preview_given path s r given
 requested (Some (forms.check_plan patch plan)) s r given = accept_given patch plan s r given
+requested (Some (forms.rehearse path budget)) s r given = rehearse_given path budget s r given
 requested (Some forms.check) s r given = check_given s r given
 requested (Some forms.list_checkpoints) s r given = list_given s r given
 requested (Some forms.migrate_checkpoints) s r given = migrate_given s r given

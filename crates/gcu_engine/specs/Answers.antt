@@ -19,7 +19,9 @@ use Rattle.gcu_output.specs.declared.outcomes.Outcome.{Outcome}
 use Rattle.gcu_output.specs.declared.outcomes.Outcome.TheVariants.{Done, Memory, Usage, InputFault, DiskFault, PrintFault, ServiceFault, Unorderable, Budget}
 use Rattle.gcu_requests.specs.Asked.{asked}
 use Rattle.gcu_requests.specs.Asking.{Asking, an_input, a_file, a_settling}
-use Rattle.gcu_requests.specs.Request.{Planning, Request, abandon, accept_plan, change, check, delete_checkpoint, demo, list_checkpoints, migrate_checkpoints, plan, preview, save_checkpoint, status}
+use Rattle.gcu_requests.specs.Request.{Planning, Request, abandon, accept_plan, change, check, delete_checkpoint, demo, list_checkpoints, migrate_checkpoints, plan, preview, save_checkpoint, status, rehearse}
+use Rattle.operators.specs.Runs.{IsOperated}
+use Rattle.sessions.specs.Worlds.{WorldState}
 use Rattle.gcu_engine.specs.Changing.{AreAcknowledged, IsChanged, IsCutShort, IsHalted, closed}
 use Rattle.gcu_engine.specs.Migrating.{AreTold, IsMigrated, IsMigrationStopped}
 use Rattle.gcu_engine.specs.Plannings.{IsPlanFor, IsUnsolved}
@@ -91,14 +93,19 @@ done_output (status intent steps) = status_text intent steps ++ last_line Done
 done_output abandon = last_line Done
 done_output (demo p ports) = last_line Done
 done_output (accept_plan count) = yes_line count ++ last_line Done
+done_output (rehearse p) = last_line Done
 
--- the same with the text of some plan, where one is requested, or with how many moves it has
+-- the same with the text of some plan, where one is requested, with how many moves it has, or with what
+-- operators are told
 abbrev pub IsDoneOutput : Request → List ℕ → Type 0
 IsDoneOutput (plan p) output =
     (ms : List Move) × IsPlanFor p ms × (output ≡ plan_text ms ++ done_output (plan p))
 IsDoneOutput (demo p ports) output =
     (ms : List Move) × IsPlanFor p ms
     × (output ≡ summary ports (length ms) ++ done_output (demo p ports))
+IsDoneOutput (rehearse p) output =
+    (told : List ℕ) × (after : WorldState) × IsOperated p told after
+    × (output ≡ told ++ done_output (rehearse p))
 IsDoneOutput other output = output ≡ done_output other
 
 -- a plan is requested, and none is found for that reason
@@ -190,6 +197,7 @@ Finishes (status intent steps) result = result ≡ Done
 Finishes abandon result = result ≡ Done
 Finishes (demo p ports) result = (result ≡ Done) ⊎ IsUnsolved (demo p ports) result
 Finishes (accept_plan count) result = result ≡ Done
+Finishes (rehearse p) result = result ≡ Done
 
 -- the answers where nothing failed: for want of memory, the refusal, or what the request says
 abbrev pub Complete : Asking Request → Outcome → Type 0

@@ -17,3 +17,4 @@ pub mod Doing
 pub mod FaultLines
 pub mod MigrationEnds
 pub mod PlanCommands
+pub mod Rehearsing

@@ -12,6 +12,7 @@ mod fault_lines;
 mod kit_lists;
 mod list_checkpoints;
 mod migrate_checkpoints;
+mod rehearse;
 mod run_command;
 mod run_form;
 mod save_checkpoint;

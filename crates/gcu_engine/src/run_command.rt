@@ -30,7 +30,8 @@ use std::alloc::Global;
 /// `list-checkpoints` prints the names of all checkpoints, `delete-checkpoint NAME` deletes one, and
 /// `migrate-checkpoints` puts those of the old format anew. `demo SEED N` plans between two generated
 /// configurations with `N` ports, and counts the steps. `check-plan PATCH PLAN` says whether the moves in an
-/// input are a plan for the patch, and where they aren't.
+/// input are a plan for the patch, and where they aren't. `sessions SCRIPT --dry-run` says what several
+/// operators do by a script.
 pub fn run<H: Host>(alloc: Global, words: &[Txt], kit: &mut Kit, host: &mut H) -> Outcome
     requires longest { longest_scoped_name ≤ H.longest_name }
     requires kinds { ⟦<Kit as Boxes>⟧.HasKinds kit.old }

@@ -25,6 +25,7 @@ use crate::demo::demo;
 use crate::dry_run::dry_run;
 use crate::list_checkpoints::list_checkpoints;
 use crate::migrate_checkpoints::migrate_checkpoints;
+use crate::rehearse::rehearse;
 use crate::save_checkpoint::save_checkpoint;
 use crate::status::status;
 use gcu_output::{say, show};
@@ -90,6 +91,7 @@ pub(crate) fn run_form<H: Host>(
         Form::Abandon => abandon(alloc, host),
         Form::Demo { size } => demo(alloc, size, kit, host),
         Form::CheckPlan { patch, plan } => check_plan(alloc, patch, plan, host),
+        Form::Rehearse { script, options } => rehearse(alloc, script, options.budget, kit, host),
     }
 }
 

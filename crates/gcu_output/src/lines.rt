@@ -146,6 +146,7 @@ fn said(alloc: Global, outcome: &Outcome) -> Result<String, AllocError>
             let why = no_why_name(*why);
             numbered(alloc, "no plan ", *step as usize, why)
         }
+        Outcome::BadScript { line } => format!(in alloc; "bad script {line}"),
     }
 }
 

@@ -87,6 +87,8 @@ pub enum Outcome {
     BadPlan { path: Txt, line: u32 },
     /// The moves of the file are no plan: this step, counted from 1, is the first at fault, and why.
     PlanRejected { step: u32, why: NoWhy },
+    /// The script of several operators isn't of its form: this line, counted from 1, is the first at fault.
+    BadScript { line: u32 },
 }
 
 impl Outcome {
@@ -127,6 +129,7 @@ impl Outcome {
             Outcome::SequenceFull => 29,
             Outcome::BadPlan { .. } => 30,
             Outcome::PlanRejected { .. } => 31,
+            Outcome::BadScript { .. } => 34,
         }
     }
 }

@@ -9,4 +9,5 @@ mod OneAnswer
 mod OnePlanAnswer
 mod PlanCheckFinding
 mod PlanFinding
+mod SessionFinding
 mod Words

@@ -13,9 +13,11 @@ use Rattle.yang_model.specs.Readers.{AreTrue, Readers}
 use Rattle.conf_check.specs.declared.violations.Rule.{Rule}
 use Rattle.move_core.specs.declared.contexts.Ctx.{Ctx}
 use Rattle.goal_checks.specs.Targets.{AgreeAt, DifferAt, HasKeysAt, IsEmptyAt, IsFirst}
+use Rattle.patch_core.specs.Operation.{Operation}
 use Rattle.plan_options.specs.Options.{default_budget}
 use Rattle.plan_options.specs.Targets.{Target, patched, replaced, resumed, rolled_back}
 use Rattle.plan_texts.specs.PlanTexts.{most_bytes}
+use Rattle.session_scripts.specs.declared.script_lines.ScriptLine.{ScriptLine}
 use Rattle.gcu_output.specs.declared.outcomes.Outcome.{Outcome}
 use Rattle.gcu_output.specs.declared.outcomes.Outcome.TheVariants.{BadModels, CurrentInvalid, TargetInvalid, NoModel, EmptyTable}
 use Rattle.gcu_requests.specs.Asked.{delete_asked, form_asked, list_asked, migrate_asked, preview_asked, save_asked, target_asked}
@@ -33,8 +35,9 @@ use Rattle.gcu_requests.specs.PatchAsked.{patch_asked}
 use Rattle.gcu_requests.specs.PlanAsked.{HasKeys, IsElsewhereAs, IsValidOr, dry_run_asked, goal_asked, judged_asked, made_asked, needs_asked, planning_asked, start_asked, target_answer}
 use Rattle.gcu_requests.specs.PlanCheckAsked.{check_plan_asked, moves_asked}
 use Rattle.gcu_requests.specs.PointAsked.{name_answer}
-use Rattle.gcu_requests.specs.Request.{Request}
+use Rattle.gcu_requests.specs.Request.{Patched, Request}
 use Rattle.gcu_requests.specs.RulesAsked.{ctx_asked, rules_limit, rules_path, settings_asked}
+use Rattle.gcu_requests.specs.SessionsAsked.{file_of, line_asked, patch_at, patches_asked, rehearse_asked, operating_asked, script_asked, script_limit, unread_asked}
 use Rattle.gcu_requests.specs.StoredAsked.{stored_asked}
 use Rattle.gcu_requests.proofs.FirstBreaches.{invalid_one}
 use Rattle.gcu_requests.proofs.OnePlanAnswer.{PlanLaws, accepted_same, plan_same}
@@ -203,6 +206,23 @@ goal_one from ctx start s = chain_one (made_asked from start s) _ (made_one from
 start_one : (ctx : Ctx) (s : State) → HasOneAnswer (start_asked ctx s)
 start_one ctx s = chain_one (stored_asked s) _ (stored_one s) (λ stored. valid_one CurrentInvalid ctx stored)
 
+-- ---- scripts
+
+script_one : (path : List ℕ) (s : State) → HasOneAnswer (script_asked path s)
+script_one path s = chain_one (bytes_asked path script_limit s) _ (asks_one _ _) (λ bytes. follows_one _)
+
+unread_one : (found : List Patched) (path : List ℕ) (ops : Option (List Operation)) (s : State) → HasOneAnswer (unread_asked found path ops s)
+unread_one found path (Some ops) s = follows_one _
+unread_one found path None s = chain_one (patch_asked path s) _ (asks_one _ _) (λ ops. follows_one _)
+
+line_one : (found : List Patched) (file : Option (List ℕ)) (s : State) → HasOneAnswer (line_asked found file s)
+line_one found None s = follows_one _
+line_one found (Some path) s = unread_one found path (patch_at path found) s
+
+patches_one : (found : List Patched) (lines : List ScriptLine) (s : State) → HasOneAnswer (patches_asked found lines s)
+patches_one found [] s = follows_one _
+patches_one found (line ∷ lines) s = chain_one (line_asked found (file_of line) s) _ (line_one found (file_of line) s) (λ more. patches_one more lines s)
+
 -- what holds of readers of models, and of plans
 module _ (one : (files : List (List Declaration)) (a b : ModelSet) → AreModelsOf files a → AreModelsOf files b → a ≡ b) (some : (readers : Readers) × AreTrue readers) (laws : PlanLaws) where
   -- files with models have no fault
@@ -279,6 +299,16 @@ module _ (one : (files : List (List Declaration)) (a b : ModelSet) → AreModels
       chain_one (planning_asked (patched patch) default_budget s) _ (planning_one (patched patch) default_budget s)
       (λ p. chain_one (moves_asked plan s) _ (moves_one plan s) (λ ms. record { same = accepted_same laws p ms }))
 
+  operating_one : (path : List ℕ) (budget : ℕ) (s : State) → HasOneAnswer (operating_asked path budget s)
+  operating_one path budget s =
+      chain_one (uninterrupted s) _ (uninterrupted_one s)
+      (λ u. chain_one (ctx_asked s) _ (ctx_one s)
+      (λ ctx. chain_one (start_asked ctx s) _ (start_one ctx s)
+      (λ start. chain_one (script_asked path s) _ (script_one path s) (λ lines. chain_one (patches_asked [] lines s) _ (patches_one [] lines s) (λ patches. follows_one _)))))
+
+  rehearse_one : (path : List ℕ) (budget : ℕ) (s : State) → HasOneAnswer (rehearse_asked path budget s)
+  rehearse_one path budget s = chain_one (operating_asked path budget s) _ (operating_one path budget s) (λ p. follows_one _)
+
   form_one : (f : Option Form) (s : State) → HasOneAnswer (form_asked f s)
   form_one None s = follows_one _
   form_one (Some (forms.preview path)) s = preview_one path s
@@ -293,6 +323,7 @@ module _ (one : (files : List (List Declaration)) (a b : ModelSet) → AreModels
   form_one (Some forms.abandon) s = abandon_one s
   form_one (Some (forms.demo seed ports)) s = demo_one seed ports s
   form_one (Some (forms.check_plan patch plan)) s = check_plan_one patch plan s
+  form_one (Some (forms.rehearse path budget)) s = rehearse_one path budget s
 
   pub asked_one : AskedIsOne
   asked_one words s = form_one (form words) s

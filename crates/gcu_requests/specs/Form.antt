@@ -26,6 +26,8 @@ pub data Form : Type 0 where
   demo : ℕ → ℕ → Form
   -- with the paths of a patch and of a plan for it
   check_plan : List ℕ → List ℕ → Form
+  -- with the path of a script and the budget of each plan, where what operators do is only told
+  rehearse : List ℕ → ℕ → Form
 
 -- a change that was stopped is to be finished: it takes no other option than a budget
 abbrev pub form_of_resume : List (List ℕ) → Option Form
@@ -71,12 +73,22 @@ form_of_check patch (saved ∷ []) =
     if is_positional patch && is_positional saved then Some (check_plan patch saved) else None
 form_of_check patch other = None
 
+-- what operators do is only told
+abbrev pub operated : List ℕ → Options → Option Form
+operated path given = if given.dry_run then Some (rehearse path given.budget) else None
+
+-- the script of several operators that a path and options are
+abbrev pub form_of_sessions : List ℕ → List (List ℕ) → Option Form
+form_of_sessions path ws =
+    if is_positional path then option_and_then (operated path) (options ws) else None
+
 -- the command that a word, a second one and more are
 abbrev pub form_of_more : List ℕ → List ℕ → List (List ℕ) → Option Form
 form_of_more command word ws =
     if is_word command (codes "demo") then form_of_demo word ws
     else if is_word command (codes "resume") then form_of_resume (word ∷ ws)
     else if is_word command (codes "check-plan") then form_of_check word ws
+    else if is_word command (codes "sessions") then form_of_sessions word ws
     else form_of_plan command word ws
 
 -- the command that two words are

@@ -3,7 +3,7 @@ use Rattle.std.specs.Prelude.{Option, Some, None}
 use Rattle.plan_options.specs.Views.{target_view}
 use Rattle.gcu_requests.specs.Form as words
 use Rattle.gcu_requests.specs.declared.form.Form.{Form}
-use Rattle.gcu_requests.specs.declared.form.Form.TheVariants.{Unknown, Preview, Check, ListCheckpoints, MigrateCheckpoints, SaveCheckpoint, DeleteCheckpoint, Plan, Change, Status, Abandon, Demo, CheckPlan}
+use Rattle.gcu_requests.specs.declared.form.Form.TheVariants.{Unknown, Preview, Check, ListCheckpoints, MigrateCheckpoints, SaveCheckpoint, DeleteCheckpoint, Plan, Change, Status, Abandon, Demo, CheckPlan, Rehearse}
 
 -- the command that it is, or None for words that are no command
 abbrev pub form_view : Form → Option words.Form
@@ -20,3 +20,4 @@ form_view Status = Some words.status
 form_view Abandon = Some words.abandon
 form_view (Demo size) = Some (words.demo size.seed size.ports)
 form_view (CheckPlan patch plan) = Some (words.check_plan patch.now plan.now)
+form_view (Rehearse script options) = Some (words.rehearse script.now options.budget)

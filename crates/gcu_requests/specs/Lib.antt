@@ -17,9 +17,11 @@ pub mod PlanCheckAsked
 pub mod PointAsked
 pub mod Preparing
 pub mod ReadPlannings
+pub mod ReadScripts
 pub mod Request
 pub mod RulesAsked
 pub mod ScopeForm
+pub mod SessionsAsked
 pub mod StoredAsked
 pub mod Trees
 -- what only private clauses cite

@@ -3,6 +3,8 @@ use Rattle.std.specs.Prelude.{ℕ, List, Option}
 use Rattle.conf_doc.specs.declared.configuration.Config.{Config}
 use Rattle.checkpoints.specs.Migrations.{NewFile}
 use Rattle.move_core.specs.declared.contexts.Ctx.{Ctx}
+use Rattle.patch_core.specs.Operation.{Operation}
+use Rattle.session_scripts.specs.declared.script_lines.ScriptLine.{ScriptLine}
 use Rattle.gcu_output.specs.declared.statuses.Intent.{Intent}
 
 -- by which models and settings to plan, from where to where, and how many configurations may be met
@@ -10,6 +12,19 @@ pub record Planning : Type 0 where
   pub ctx : Ctx
   pub start : Config
   pub goal : Config
+  pub budget : ℕ
+
+-- a path, and the operations of the patch that was found there
+abbrev pub Patched : Type 0
+Patched = List ℕ × List Operation
+
+-- by which models and settings several operators plan, from where, what they ask, and how many configurations
+-- may be met for each plan
+pub record Operating : Type 0 where
+  pub ctx : Ctx
+  pub start : Config
+  pub lines : List ScriptLine
+  pub patches : List Patched
   pub budget : ℕ
 
 -- a command with all that it needs
@@ -38,3 +53,5 @@ pub data Request : Type 0 where
   demo : Planning → ℕ → Request
   -- say that moves are a plan, of so many steps
   accept_plan : ℕ → Request
+  -- say what several operators do
+  rehearse : Operating → Request

@@ -2,7 +2,7 @@
 ghost use Rattle.std.specs.Prelude.{◌≡◌, ◌∷◌, [], Some};
 ghost use Rattle.plan_options.specs.Targets.{resumed as resume_target};
 ghost use Rattle.plan_options.specs.Views.{options_view, target_view};
-ghost use Rattle.gcu_requests.specs.Form.{change as change_of, form, form_of_check, form_of_demo, form_of_interruption, form_of_more, form_of_one, form_of_plan, form_of_resume, form_of_two, planned};
+ghost use Rattle.gcu_requests.specs.Form.{change as change_of, form, form_of_check, form_of_demo, form_of_interruption, form_of_more, form_of_one, form_of_plan, form_of_resume, form_of_sessions, form_of_two, operated, planned};
 ghost use Rattle.gcu_requests.specs.FormView.{form_view};
 
 use host_core::Txt;
@@ -56,6 +56,11 @@ pub enum Form<'a> {
     CheckPlan {
         patch: &'a Txt,
         plan: &'a Txt,
+    },
+    /// Says what several operators do by a script.
+    Rehearse {
+        script: &'a Txt,
+        options: Options,
     },
 }
 
@@ -161,6 +166,9 @@ fn form_of_more<'a>(command: &'a Txt, word: &'a Txt, words: &'a [Txt]) -> Form<'
     if command.as_str() == "check-plan" {
         return form_of_check(word, words);
     }
+    if command.as_str() == "sessions" {
+        return form_of_sessions(word, words);
+    }
     form_of_plan(command, word, words)
 }
 
@@ -193,6 +201,29 @@ fn check_of_two<'a>(patch: &'a Txt, plan: &'a Txt) -> Form<'a>
 {
     if is_positional(patch) && is_positional(plan) {
         return Form::CheckPlan { patch, plan };
+    }
+    Form::Unknown
+}
+
+/// The script of several operators that a path and options are.
+fn form_of_sessions<'a>(script: &'a Txt, words: &[Txt]) -> Form<'a>
+    ensures { form_view result ≡ form_of_sessions script.now words.now }
+{
+    if !is_positional(script) {
+        return Form::Unknown;
+    }
+    match read_options(words) {
+        Some(options) => operated(script, options),
+        None => Form::Unknown,
+    }
+}
+
+/// What operators do is only told.
+fn operated(script: &Txt, options: Options) -> Form<'_>
+    ensures { form_view result ≡ operated script.now (options_view options) }
+{
+    if options.dry_run {
+        return Form::Rehearse { script, options };
     }
     Form::Unknown
 }

@@ -2,6 +2,7 @@
 //! first refusal.
 #![tactic(auto)]
 
+mod aiming;
 mod checking;
 mod checkpoint_goal;
 mod demo_planning;
@@ -21,8 +22,11 @@ mod planning;
 mod previewing;
 mod rules;
 mod scope_form;
+mod session_patches;
+mod session_preparing;
 mod stored;
 
+pub use aiming::aim;
 pub use checking::judge_stored;
 pub use demo_planning::prepare_demo;
 pub use form::{Form, read_form};
@@ -34,3 +38,5 @@ pub use plan_goal::test_target;
 pub use planning::{Planning, prepare};
 pub use previewing::preview;
 pub use scope_form::{ScopeForm, read_scope_form};
+pub use session_patches::{Patches, patch_at};
+pub use session_preparing::{Operating, prepare_script};

@@ -38,7 +38,7 @@ pub(crate) fn patch_goal<H: Host>(
 }
 
 /// The configuration after the patch.
-fn patch_start(alloc: Global, patch: &Patch, start: &Config) -> Result<Config, Outcome>
+pub(crate) fn patch_start(alloc: Global, patch: &Patch, start: &Config) -> Result<Config, Outcome>
     ensures answer { Gives (λ c. c) refusal result (target (operations patch.now) start.now) }
     ensures cause { IfErr result RefusesAlways }
 {

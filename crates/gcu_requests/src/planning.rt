@@ -115,7 +115,7 @@ fn read_needs<H: Host>(
 }
 
 /// What the folder stands for, where that is valid.
-fn read_start<H: Host>(alloc: Global, ctx: &Ctx, host: &mut H) -> Result<Stored, Outcome>
+pub(crate) fn read_start<H: Host>(alloc: Global, ctx: &Ctx, host: &mut H) -> Result<Stored, Outcome>
     requires { longest_plain_name ≤ H.longest_name }
     ensures answer { Finds (H.told host.old) (λ what. what.config) result (start_asked ctx.now) }
     ensures stands { IfOk result

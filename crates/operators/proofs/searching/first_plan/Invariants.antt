@@ -1,4 +1,4 @@
-use Rattle.gcu_engine.proofs.solving.find_plan.Given as goal
+use Rattle.operators.proofs.searching.first_plan.Given as goal
 
 abbrev pub ghosts-count_steps : goal.ghosts-count_steps
 ghosts-count_steps g a = record { name = a.blank.name; parts = a.blank.parts }

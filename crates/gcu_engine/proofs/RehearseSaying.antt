@@ -1,0 +1,44 @@
+-- What is said of a script that is only told.
+use Rattle.std.proofs.Common.{◌≡◌, inl, inr, ℕ, Global, List, refl, sym, subst, Vec, Option, Some, None, Result, Ok, Err, IfErr, IfOk, IfSome}
+use Rattle.host_core.specs.Counts.{Counts}
+use Rattle.host_core.specs.State.{State}
+use Rattle.gcu_output.specs.Lines.{last_line}
+use Rattle.gcu_output.specs.declared.outcomes.Outcome.{Outcome}
+use Rattle.gcu_output.specs.declared.outcomes.Outcome.TheVariants.{Memory}
+use Rattle.gcu_requests.specs.Preparing.{Finds, Found, Refuses}
+use Rattle.gcu_requests.specs.ReadScripts.{operating_of}
+use Rattle.gcu_requests.specs.Request as request
+use Rattle.gcu_requests.specs.Request.{Request}
+use Rattle.gcu_requests.specs.SessionsAsked.{operating_asked, rehearse_asked}
+use Rattle.gcu_requests.specs.declared.session_preparing.Operating as code
+use Rattle.gcu_requests.proofs.Finding.{first_refused}
+use Rattle.gcu_engine.specs.Rehearsing.{IsRehearsed, SaysText}
+use Rattle.gcu_engine.proofs.Answering.{refused_says}
+
+abbrev telling : code.Operating → Request
+telling p = request.rehearse (operating_of p)
+
+module _ (path : List ℕ) (budget : ℕ) where
+  text_said : (s : State) (p : code.Operating) (r : Result (Vec ℕ Global) Outcome) → (rehearse_asked path budget s).Gives (Ok (telling p))
+      → IfOk r (λ text. IsRehearsed p text.items) → IfErr r (λ e. e ≡ Memory) → SaysText (rehearse_asked path budget s) s r
+  text_said s p (Ok text) given h oom = (telling p, given, refl, h)
+  text_said s p (Err e) given h oom = subst (λ (x : Outcome). SaysText (rehearse_asked path budget s) s (Err x)) (sym oom) (inl refl, refl)
+
+  -- what the operators are told is what is asked for
+  pub text_says : (o : Option State) (p : code.Operating) (r : Result (Vec ℕ Global) Outcome) → Finds o operating_of (Ok p) (operating_asked path budget)
+      → IfOk r (λ text. IsRehearsed p text.items) → IfErr r (λ e. e ≡ Memory) → IfSome o (λ s. SaysText (rehearse_asked path budget s) s r)
+  text_says None p r h told oom = tt
+  text_says (Some s) p r h told oom = text_said s p r (inr (operating_of p, h.gives, refl)) told oom
+
+  -- what is refused is refused of the question
+  pub script_refused : (o : Option State) (e : Outcome) (old new : Counts) → Refuses old new e
+      → Finds {X = code.Operating} o operating_of (Err e) (operating_asked path budget) → IfSome o (λ s. SaysText (rehearse_asked path budget s) s (Err e))
+  script_refused None e old new h f = tt
+  script_refused (Some s) e old new h f =
+      let refused : Found telling (Err e) (rehearse_asked path budget s) = first_refused operating_of telling e (operating_asked path budget s) _ f in
+      refused_says (rehearse_asked path budget s) s e old new h refused.stands refused.gives
+
+-- want of memory is refused
+pub memory_refuses : {X : Type 0} (r : Result X Outcome) (old new : Counts) → IfErr r (λ e. e ≡ Memory) → IfErr r (Refuses old new)
+memory_refuses (Ok x) old new h = tt
+memory_refuses (Err e) old new h = subst (λ (x : Outcome). Refuses old new x) (sym h) tt

@@ -1,0 +1,19 @@
+use Rattle.std.proofs.lemmas.Result.{err_from_is_err_and}
+use Rattle.gcu_requests.proofs.Finding.{always_refuses}
+use Rattle.gcu_requests.proofs.SessionFinding.{no_script, script_found}
+use Rattle.gcu_requests.proofs.session_preparing.input_script.Goals as goal
+
+-- there are no bytes
+pub returns-in_err-bytes-clause-answer : goal.returns-in_err-bytes-clause-answer
+returns-in_err-bytes-clause-answer g c =
+    let p = err_from_is_err_and c.from_residual.result c.from_residual.ensures.1 in
+    rw (p.1, p.2) (no_script (g.H.Host.told c.args.host.now) c.args.path.now c.in_err-bytes.field-0.0 c.in_err-bytes.ensures.answer)
+
+-- what they hold
+pub returns-clause-answer : goal.returns-clause-answer
+returns-clause-answer g c =
+    script_found (g.H.Host.told c.args.host.now) c.args.path.now c.in_ok-bytes.bytes c.script_in.result
+    c.in_ok-bytes.ensures.answer (rw c.items.ensures at c.script_in.ensures.answer) c.script_in.ensures.cause
+
+pub returns-clause-cause : goal.returns-clause-cause
+returns-clause-cause g c = always_refuses c.script_in.result (g.H.Host.counts c.args.host.now) (g.H.Host.counts c.input_bytes.new.host) c.script_in.ensures.cause

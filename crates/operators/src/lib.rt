@@ -1,0 +1,14 @@
+//! Several operators at once, in memory: each line of a script in turn, on the stored configuration.
+#![tactic(auto)]
+
+mod aims;
+mod laws;
+mod lines;
+mod operating;
+mod replies;
+mod searching;
+mod turns;
+
+pub use laws::{scripts_keep_worlds, scripts_run_worlds};
+pub use operating::{Operated, operate};
+pub use searching::first_plan;
