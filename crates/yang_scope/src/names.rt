@@ -41,7 +41,8 @@ impl<'a> Model for Names<'a> {
 
     ghost view = { λ n. n.set };
 
-    ghost invariant = { λ n. IsBehind n.set most_typedefs n.links × n.containers ≡ containers_of n.set };
+    ghost invariant = { λ n. IsBehind n.set most_typedefs n.links
+        × n.containers ≡ containers_of n.set };
 }
 
 impl<'a> Names<'a> {
