@@ -1,11 +1,9 @@
 -- How the sentences on a list of statements go with the list.
-use Rattle.std.proofs.Common.{◌≡◌, ◌<◌, ◌≤◌, ◌||◌, ℕ, zero, suc, Bool, List, [], ◌∷◌, ◌++◌, ◌+◌, map, take, length, get_or, Option, refl, ap, ◌∙◌, sym, arith}
+use Rattle.std.proofs.Common.{◌≡◌, ◌<◌, ◌||◌, ℕ, Bool, List, [], ◌∷◌, ◌++◌, ◌+◌, map, take, length, get_or, Option, refl, ap, ◌∙◌, sym}
 use Rattle.std.specs.List.{flat_map, list_any}
 use Rattle.std.proofs.lemmas.List.Sums.{fold-append}
 use Rattle.yang_faults.proofs.Steps.{flat_map-one_more}
-use Rattle.yang_text.specs.Declarations.{Declaration, block_of, weight, total_weight}
-use Rattle.yang_text.specs.Statements.{declaration}
-use Rattle.yang_text.specs.declared.statements.Statement.{Statement}
+use Rattle.yang_text.specs.Declarations.{Declaration, block_of}
 use Rattle.yang_scope.specs.Faults.{lesser, least_of}
 use Rattle.yang_faults.specs.Walks.{block_faults, below_faults}
 use Rattle.yang_scope.specs.declared.faults.Fault.{Fault}
@@ -34,12 +32,6 @@ least_of-six old a b c d e f u v w x y z p q r s t last =
     (least_of-two b c f w (x ++ (y ++ z)) r
     (least_of-two c d f x (y ++ z) s
     (least_of-two d e f y z t last))))
-
--- a statement weighs no more than the list it stands in
-pub weight-at : (ss : List Statement) (i : ℕ) (s : Statement) → i < length ss → s ≡ get_or ss i s → weight (declaration s) ≤ total_weight (map declaration ss)
-weight-at [] i s within is = absurd (omega arith)
-weight-at (x ∷ ss) zero s within is = rw is (omega arith)
-weight-at (x ∷ ss) (suc i) s within is = omega (arith, weight-at ss i s (omega arith) is)
 
 -- the faults of one more element come last
 pub least-more : {X Y : Type 0} (v : X → Y) (f : Y → List Fault) (xs : List X) (i : ℕ) (x : X) (within : i < length xs) (is : x ≡ get_or xs i x) (old a b : Option Fault)

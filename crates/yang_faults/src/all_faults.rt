@@ -11,7 +11,8 @@ use crate::walks::note_statement;
 use host_core::{Memory, Txt};
 use std::alloc::Global;
 use yang_scope::{Fault, Names};
-use yang_text::{Statement, Statements};
+use yang_text::Statements;
+use yang_values::Endings;
 
 /// What is wrong with what stands outermost in the files, and with the names of modules and tables.
 /// There are at most 256 files.
@@ -35,9 +36,10 @@ fn note_module(
     alloc: Global,
     least: &mut Option<Fault>,
     names: &Names,
-    most: u64,
+    endings: &Endings,
     number: usize,
 ) -> Result<(), Memory>
+    requires { endings.now ≡ names.now }
     ensures { OnOk result (Notes least.old least.new
         (faults_of_module names.now number (slice_get names.now number))) }
 {
@@ -45,9 +47,9 @@ fn note_module(
         Some((file, statement)) => {
             let scope = ModuleScope {
                 names,
+                endings,
                 file,
                 number,
-                most,
             };
             note_statement(alloc, least, &scope, file, Kind::Module, statement)
         }
@@ -55,38 +57,17 @@ fn note_module(
     }
 }
 
-/// How many statements there are among some, nested ones included.
-fn count_statements(statements: &[Statement]) -> u64 {
-    let mut count: u64 = 0;
-    for statement in statements {
-        let inner = count_statements(statement.block.items());
-        count = count.saturating_add(inner).saturating_add(1);
-    }
-    count
-}
-
-/// How many statements there are in the files: a way over type statements that is longer goes round in a
-/// circle.
-fn count_all(files: &[(Txt, Statements)]) -> u64 {
-    let mut count: u64 = 0;
-    for file in files {
-        count = count.saturating_add(count_statements(file.1.items()));
-    }
-    count
-}
-
 /// What is wrong with the modules and all that stands in them.
 pub fn note_module_faults(
     alloc: Global,
     least: &mut Option<Fault>,
     names: &Names,
-    files: &[(Txt, Statements)],
 ) -> Result<(), Memory>
     ensures { OnOk result (Notes least.old least.new (all_module_faults names.now)) }
 {
-    let most = count_all(files).saturating_add(1);
+    let endings = Endings::new(alloc, names)?;
     for number in 0..names.len() {
-        note_module(alloc, least, names, most, number)?;
+        note_module(alloc, least, names, &endings, number)?;
     }
     Ok(())
 }

@@ -32,8 +32,7 @@ fn note_default_of(
     note_default(
         alloc,
         least,
-        scope.names,
-        scope.most,
+        scope.endings,
         scope.file,
         scope.number,
         ty,

@@ -17,7 +17,7 @@ use yang_scope::{
     Base, Fault, Meaning, Names, note_bad_patterns, note_unknown_type, note_wrong_paths,
 };
 use yang_text::Statement;
-use yang_values::{note_bad_bounds, note_if_circle};
+use yang_values::{Endings, note_bad_bounds, note_if_circle};
 
 /// A module by its number, in the file that has it, among the names of all modules.
 #[derive(Clone, Copy)]
@@ -25,8 +25,9 @@ pub(crate) struct ModuleScope<'n, 'a> {
     pub(crate) names: &'n Names<'a>,
     pub(crate) file: u32,
     pub(crate) number: usize,
-    /// How many steps a way over type statements may have.
-    pub(crate) most: u64,
+    /// What is known of the type statements of all modules.
+    pub(crate) endings: &'n Endings<'n, 'a>,
+    ghost same: { endings.now ≡ names.now },
 }
 
 /// What kind a type is that typedefs lead to.
@@ -137,8 +138,7 @@ impl<'n, 'a> ModuleScope<'n, 'a> {
         note_if_circle(
             alloc,
             least,
-            self.names,
-            self.most,
+            self.endings,
             self.file,
             self.number,
             statement,

@@ -33,7 +33,7 @@ fn least_fault(
 {
     let mut least = None;
     note_file_faults(alloc, &mut least, files)?;
-    note_module_faults(alloc, &mut least, names, files)?;
+    note_module_faults(alloc, &mut least, names)?;
     note_musts(alloc, &mut least, tree)?;
     Ok(least)
 }

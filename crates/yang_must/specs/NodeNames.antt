@@ -1,14 +1,9 @@
--- The names of nodes, and how a node is told from others.
-use Rattle.std.specs.Prelude.{ℕ, List, refl}
+-- How a node of the models is told from others.
+use Rattle.std.specs.Prelude.{ℕ, refl}
 use Rattle.std.specs.Coded.{Coded, code_by, coded×, coded_ℕ}
 use Rattle.yang_text.specs.Coding.{coded_declaration}
-use Rattle.yang_text.specs.Declarations.{Declaration, argument}
-use Rattle.yang_scope.specs.Statements.{Entry, name_entry}
+use Rattle.yang_text.specs.Declarations.{Declaration}
 use Rattle.yang_must.specs.Spots.{ModelContainer}
-
--- a node has the argument of its statement as its name
-abbrev pub node_entry : ℕ → Declaration → List Entry
-node_entry place d = name_entry place (argument d)
 
 -- a module's container is its three parts
 abbrev pub coded_container : Coded ModelContainer

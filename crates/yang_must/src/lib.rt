@@ -10,7 +10,6 @@ mod must_faults;
 mod must_values;
 mod name_sets;
 mod name_tables;
-mod node_lists;
 mod nodes;
 mod prefixes;
 mod routes;

@@ -7,13 +7,12 @@ ghost use Rattle.yang_scope.specs.Paths.{is_named, is_prefix};
 ghost use Rattle.yang_scope.specs.Statements.{is_keyword, each_from};
 ghost use Rattle.yang_must.specs.Spots.{container_at, containers_in, containers_of};
 
-use crate::node_lists::NodeList;
 use crate::nodes::ContainerNode;
 use crate::prefixes::ModulePrefixes;
 use host_core::Memory;
 use std::alloc::Global;
 use std::marker::Model;
-use yang_scope::Names;
+use yang_scope::{Names, NodeList};
 use yang_text::Statement;
 
 /// The nodes of the models, found by their names. Contracts see the list of the modules.

@@ -6,10 +6,10 @@ ghost use Rattle.yang_scope.specs.Paths.{is_named};
 ghost use Rattle.yang_scope.specs.Statements.{is_keyword};
 ghost use Rattle.yang_must.specs.Spots.{is_leaf, is_shape, leaves_of, shapes_of, tables_of};
 
-use crate::node_lists::{ModelNode, NodeList};
 use host_core::Memory;
 use std::alloc::Global;
 use std::marker::Model;
+use yang_scope::{ModelNode, NodeList};
 use yang_text::Statement;
 
 /// A leaf or a leaf-list. Contracts see the statement.

@@ -4,3 +4,5 @@ pub mod Blocks
 pub mod Colons
 pub mod FaultLists
 pub mod FirstGiven
+pub mod Named
+pub mod Finding

@@ -4,6 +4,7 @@ pub mod Faults
 pub mod Identifiers
 pub mod Meanings
 pub mod Modules
+pub mod Nodes
 pub mod Paths
 pub mod Pieces
 pub mod Statements

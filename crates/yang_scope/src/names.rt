@@ -2,13 +2,16 @@
 ghost use Rattle.std.specs.Prelude.{◌≡◌, ◌<◌, ◌^◌, length, map, slice_get, option_map, IfOk};
 ghost use Rattle.yang_scope.specs.Meanings.{base_of, type_meaning, is_module};
 ghost use Rattle.yang_scope.specs.Modules.{modules_of};
+ghost use Rattle.yang_scope.specs.Nodes.{list_named};
 ghost use Rattle.yang_scope.specs.Paths.{container_named, path_end};
 
 use crate::bases::Base;
-use crate::key_leaves::{container_named, leaf_at_end};
+use crate::key_leaves::{leaf_at_end, list_named};
 use crate::links::{Links, all_links, link_behind};
 use crate::meanings::Meaning;
 use crate::module_sets::ModuleSet;
+use crate::node_lists::NodeList;
+use crate::nodes::{ContainerNode, all_containers};
 use crate::pieces::pieces;
 use host_core::{Memory, Txt};
 use std::alloc::Global;
@@ -20,15 +23,17 @@ use yang_text::{Statement, Statements};
 pub struct Names<'a> {
     set: ModuleSet<'a>,
     links: Links,
+    containers: NodeList<ContainerNode<'a>>,
 }
 
 impl<'a> Model for Names<'a> {
-    ghost use Rattle.std.specs.Prelude.{List};
+    ghost use Rattle.std.specs.Prelude.{◌≡◌, List};
     ghost use Rattle.std.specs.Coded.{coded_list};
     ghost use Rattle.yang_scope.specs.Coding.{coded_module};
     ghost use Rattle.yang_scope.specs.Links.{IsBehind};
     ghost use Rattle.yang_scope.specs.Meanings.{most_typedefs};
     ghost use Rattle.yang_scope.specs.Modules.{Module};
+    ghost use Rattle.yang_scope.specs.Nodes.{containers_of};
 
     ghost Value = { List Module };
 
@@ -36,7 +41,8 @@ impl<'a> Model for Names<'a> {
 
     ghost view = { λ n. n.set };
 
-    ghost invariant = { λ n. IsBehind n.set most_typedefs n.links };
+    ghost invariant = { λ n. IsBehind n.set most_typedefs n.links
+        × n.containers ≡ containers_of n.set };
 }
 
 impl<'a> Names<'a> {
@@ -50,7 +56,12 @@ impl<'a> Names<'a> {
     {
         let set = ModuleSet::new(alloc, files)?;
         let links = all_links(alloc, &set)?;
-        Ok(Names { set, links })
+        let containers = all_containers(alloc, set.items())?;
+        Ok(Names {
+            set,
+            links,
+            containers,
+        })
     }
 
     /// How many modules there are.
@@ -101,7 +112,27 @@ impl<'a> Names<'a> {
         ensures { option_map (λ c. (c.0, declaration c.1.now)) result
             ≡ container_named self.now name.now }
     {
-        container_named(&self.set, name)
+        match self.containers.named(name) {
+            Some(container) => Some((container.number(), container.statement())),
+            None => None,
+        }
+    }
+
+    /// A list of a table of a container of a module, by their names, with the number of the list among
+    /// the lists and fixed containers of its table.
+    pub fn list_named(
+        &self,
+        container: &str,
+        table: &str,
+        list: &str,
+    ) -> Option<(usize, &'a Statement)>
+        ensures { option_map (λ l. (l.0, declaration l.1.now)) result
+            ≡ list_named self.now container.now table.now list.now }
+    {
+        match list_named(&self.containers, container, table, list) {
+            Some(list) => Some((list.number(), list.statement())),
+            None => None,
+        }
     }
 
     /// The key leaf that a path in a module leads to, with the number of its module.
@@ -115,6 +146,6 @@ impl<'a> Names<'a> {
             ≡ path_end self.now number path.now) }
     {
         let steps = pieces(alloc, '/', path)?;
-        leaf_at_end(alloc, &self.set, number, steps.as_slice())
+        leaf_at_end(alloc, &self.set, &self.containers, number, steps.as_slice())
     }
 }

@@ -3,7 +3,7 @@ ghost use Rattle.std.specs.Prelude.{◌≡◌, ◌&&◌, List, ℕ, length, map,
 ghost use Rattle.std.specs.List.{list_all};
 ghost use Rattle.yang_text.specs.Declarations.{Declaration};
 ghost use Rattle.yang_text.specs.Statements.{declaration};
-ghost use Rattle.yang_scope.specs.Paths.{is_step, step_name, are_steps, is_path, is_named, child_named, is_key_of, key_leaf_in};
+ghost use Rattle.yang_scope.specs.Paths.{is_step, step_name, are_steps, is_path, is_named, child_named, is_key_of};
 ghost use Rattle.yang_scope.specs.Pieces.{texts};
 ghost use Rattle.yang_scope.specs.Statements.{is_keyword};
 
@@ -94,7 +94,7 @@ pub fn child_named<'a>(word: &str, name: &str, statement: &'a Statement) -> Opti
 }
 
 /// Whether the key of a list has a name.
-fn is_key_of(alloc: Global, list: &Statement, name: &str) -> Result<bool, Memory>
+pub(crate) fn is_key_of(alloc: Global, list: &Statement, name: &str) -> Result<bool, Memory>
     ensures { IfOk result (λ found. found ≡ is_key_of (declaration list.now) name.now) }
 {
     match first_of("key", list.block.items()) {
@@ -103,21 +103,5 @@ fn is_key_of(alloc: Global, list: &Statement, name: &str) -> Result<bool, Memory
             None => Ok(false),
         },
         None => Ok(false),
-    }
-}
-
-/// A leaf of a list that is a key leaf.
-pub(crate) fn key_leaf_in<'a>(
-    alloc: Global,
-    name: &str,
-    list: &'a Statement,
-) -> Result<Option<&'a Statement>, Memory>
-    ensures { IfOk result (λ leaf. option_map (λ s. declaration s.now) leaf
-        ≡ key_leaf_in name.now (declaration list.now)) }
-{
-    if is_key_of(alloc, list, name)? {
-        Ok(child_named("leaf", name, list))
-    } else {
-        Ok(None)
     }
 }

@@ -1,4 +1,4 @@
--- A type whose typedefs lead to a base that leads no further is on no circle.
+-- Where typedefs lead to a base that leads no further, all ways end.
 use Rattle.std.proofs.Common.{◌≡◌, ℕ, zero, suc, true, false, List, [], Contains, Option, Some, None, option_and_then, codes, sym, subst, arith}
 use Rattle.std.specs.Option.{option_map_or, option_to_list}
 use Rattle.yang_text.specs.Declarations.{Declaration, argument}
@@ -10,10 +10,8 @@ use Rattle.yang_scope.specs.declared.bases.Base.{Base}
 use Rattle.yang_scope.specs.declared.bases.Base.TheVariants.{Text, Number, Enumeration, Truth, Leafref, Union, Builtin}
 use Rattle.yang_scope.specs.declared.meanings.Meaning.{Meaning}
 use Rattle.yang_scope.specs.declared.meanings.Meaning.TheVariants.{Ends, Goes, Nothing}
-use Rattle.yang_values.specs.Circles.{IsOnCircle}
-use Rattle.yang_values.specs.Endings.{EndsIn, leads_on}
+use Rattle.yang_values.specs.Endings.{EndsIn, DoesEnd, leads_on}
 use Rattle.yang_values.specs.TypeValues.{next_by, placed_in}
-use Rattle.yang_values.proofs.Ends.{off_circle}
 
 nothing_there : {X : Type 0} (x : X) → Contains [] x → ⊥
 nothing_there x within = omega (arith, within.1)
@@ -60,10 +58,10 @@ module _ (modules : List Module) (base : Base) (plain : leads_on (Some base) ≡
       outer n k (λ t h r inside. ends_by n k t (type_meaning modules k (argument t)) h r inside) (statement_at modules k place) is q within
   ends_by (suc n) m d Nothing is q within = absurd (nothing_there q within)
 
-  based : (most m : ℕ) (d : Declaration) → base_within modules most (type_meaning modules m (argument d)) ≡ Some base → IsOnCircle modules (m, d) → ⊥
-  based most m d is = off_circle modules (suc (suc most)) (m, d) (λ q within. ends_by most m d (type_meaning modules m (argument d)) is q within)
+  based : (most m : ℕ) (d : Declaration) → base_within modules most (type_meaning modules m (argument d)) ≡ Some base → DoesEnd modules (m, d)
+  based most m d is = (suc (suc most), λ q within. ends_by most m d (type_meaning modules m (argument d)) is q within)
 
 -- a base that leads no further
-pub leads_nowhere : (modules : List Module) (m : ℕ) (d : Declaration) (o : Option Base) → o ≡ base_of modules m (argument d) → leads_on o ≡ false → IsOnCircle modules (m, d) → ⊥
-leads_nowhere modules m d None is plain = absurd (cc)
-leads_nowhere modules m d (Some base) is plain = based modules base plain most_typedefs m d (sym is)
+pub ends_at_base : (modules : List Module) (m : ℕ) (d : Declaration) (o : Option Base) → o ≡ base_of modules m (argument d) → leads_on o ≡ false → DoesEnd modules (m, d)
+ends_at_base modules m d None is plain = absurd (cc)
+ends_at_base modules m d (Some base) is plain = based modules base plain most_typedefs m d (sym is)

@@ -1,16 +1,16 @@
 -- A type statement from which all ways end is on no circle.
-use Rattle.std.proofs.Common.{◌≡◌, ◌+◌, ℕ, zero, suc, List, [], ◌∷◌, ◌++◌, All, map, reverse, length, refl, sym, subst, arith}
-use Rattle.std.proofs.lemmas.List.{length-append, get_or_append_left, get_or-append-add, reverse-append}
-use Rattle.std.proofs.lemmas.List.Elements.{All-nil, All-cons, All-head, All-tail, All-same, All-push, All-map}
+use Rattle.std.proofs.Common.{◌≡◌, ◌<◌, ◌≤◌, ◌+◌, ℕ, zero, suc, List, [], ◌∷◌, ◌++◌, All, map, take, length, get_or, refl, sym, subst, inl, inr, arith}
+use Rattle.std.specs.Prelude.{Contains}
+use Rattle.std.proofs.lemmas.List.{take_more}
+use Rattle.std.proofs.lemmas.List.Elements.{All-head, All-tail, All-same, All-push, All-map, Contains-append_cases}
 use Rattle.yang_scope.specs.Modules.{Module}
 use Rattle.yang_scope.specs.Paths.{Placed}
 use Rattle.yang_values.specs.Circles.{LeadsIn, IsOnCircle}
-use Rattle.yang_values.specs.Endings.{EndsIn}
+use Rattle.yang_values.specs.Endings.{EndsIn, DoesEnd}
 use Rattle.yang_values.specs.TypeValues.{next}
 use Rattle.yang_values.specs.Walks.{placed}
 use Rattle.yang_values.specs.declared.walks.Place.{Place}
-use Rattle.yang_values.specs.declared.walks.Step.{Step}
-use Rattle.yang_values.proofs.Visits.{reverse_twice}
+use Rattle.yang_values.proofs.Reached.{no_element, only}
 
 module _ (modules : List Module) where
   -- no way is so long
@@ -34,40 +34,44 @@ module _ (modules : List Module) where
       let way = endless p round.0 round.1 n zero p refl in
       no_way n p way.0 ends way.1
 
-module _ {X : Type 0} (P : X → Type 0) where
-  all_left : (xs ys : List X) → All P (xs ++ ys) → All P xs
-  all_left xs ys h k d lt = subst P (get_or_append_left xs ys d k lt) (h k d (omega (arith, length-append xs ys)))
+  -- it ends before more steps too
+  later : (n m : ℕ) → n ≤ m → (p : Placed) → EndsIn modules n p → EndsIn modules m p
+  later zero m within p ends = absurd ends
+  later (suc n) zero within p ends = absurd (omega arith)
+  later (suc n) (suc m) within p ends = λ q c. later n m (omega arith) q (ends q c)
 
-  all_right : (xs ys : List X) → All P (xs ++ ys) → All P ys
-  all_right xs ys h k d lt = subst P (get_or-append-add xs ys k d) (h (length xs + k) d (omega (arith, length-append xs ys)))
+  -- where each of some ends, all end before some number of steps
+  all_end : (qs : List Placed) → All (DoesEnd modules) qs → (m : ℕ) × ((q : Placed) → Contains qs q → EndsIn modules m q)
+  all_end [] h = (0, λ q c. absurd (no_element q c))
+  all_end (r ∷ qs) h =
+      let here : DoesEnd modules r = All-head (DoesEnd modules) r qs h in
+      let rest = all_end qs (All-tail (DoesEnd modules) r qs h) in
+      let P : Placed → Type 0 = λ x. EndsIn modules (here.0 + rest.0) x in (
+        here.0 + rest.0,
+        λ q c. elim (Contains-append_cases (r ∷ []) qs q c) [
+          | inl m ↦ subst P (only r q m) (later here.0 (here.0 + rest.0) (omega arith) r here.1)
+          | inr m ↦ later rest.0 (here.0 + rest.0) (omega arith) q (rest.1 q m)
+        ],
+      )
 
-  to_reverse : (xs : List X) → All P xs → All P (reverse xs)
-  to_reverse [] h = All-nil P
-  to_reverse (x ∷ xs) h =
-      All-same P (reverse (x ∷ xs)) (reverse xs ++ x ∷ []) (reverse-append (x ∷ []) xs)
-      (All-push P (reverse xs) x (to_reverse xs (All-tail P x xs h)) (All-head P x xs h))
+  -- where all ways end from the statements that one leads to, they end from that one
+  pub ends_by_next : (p : Placed) (places : List Place) → map placed places ≡ next modules p → All (λ r. DoesEnd modules (placed r)) places → DoesEnd modules p
+  ends_by_next p places leads all =
+      let after : All (DoesEnd modules) (next modules p) = All-same (DoesEnd modules) (next modules p) (map placed places) (sym leads) (All-map (DoesEnd modules) placed places all) in
+      let most = all_end (next modules p) after in
+      (suc most.0, λ q c. most.1 q c)
 
-  from_reverse : (xs : List X) → All P (reverse xs) → All P xs
-  from_reverse xs h = All-same P xs (reverse (reverse xs)) (sym (reverse_twice xs)) (to_reverse (reverse xs) h)
+  -- one of some of which this is known
+  pub ends_among : (places : List Place) → All (λ r. DoesEnd modules (placed r)) places → (p : Placed) → Contains (map placed places) p → DoesEnd modules p
+  ends_among places all p there =
+      let each : All (DoesEnd modules) (map placed places) = All-map (DoesEnd modules) placed places all in
+      subst (λ x. DoesEnd modules x) there.2 (each there.0 p there.1)
 
-  all_mapped : {Y : Type 0} (f : Y → X) (ys : List Y) → All P (map f ys) → All (λ y. P (f y)) ys
-  all_mapped f [] h = All-nil (λ y. P (f y))
-  all_mapped f (y ∷ ys) h = All-cons (λ z. P (f z)) y ys (All-head P (f y) (map f ys) h) (all_mapped f ys (All-tail P (f y) (map f ys) h))
+  -- none of which this is known is on a circle
+  pub off_circles : (p : Placed) → DoesEnd modules p → IsOnCircle modules p → ⊥
+  off_circles p ends = off_circle ends.0 p ends.1
 
--- where all ways end from the statements that one leads to, they end from that one
-pub ends_more : (modules : List Module) (n : ℕ) (old new : List Step) (step : Step) (places : List Place)
-    → step.most ≡ suc n → map placed places ≡ next modules (placed step.place)
-    → reverse new ≡ map (λ (p : Place). record { most = n; place = p }) (reverse places) ++ reverse old
-    → All (λ (s : Step). EndsIn modules s.most (placed s.place)) new
-    → All (λ (s : Step). EndsIn modules s.most (placed s.place)) (old ++ step ∷ [])
-ends_more modules n old new step places most leads are all =
-    let P : Step → Type 0 = λ s. EndsIn modules s.most (placed s.place) in
-    let mk : Place → Step = λ p. record { most = n; place = p } in
-    let Q : Placed → Type 0 = λ q. EndsIn modules n q in
-    let both : All P (map mk (reverse places) ++ reverse old) = All-same P (map mk (reverse places) ++ reverse old) (reverse new) (sym are) (to_reverse P new all) in
-    let before : All P old = from_reverse P old (all_right P (map mk (reverse places)) (reverse old) both) in
-    let here : All (λ p. P (mk p)) places = from_reverse (λ p. P (mk p)) places (all_mapped P mk (reverse places) (all_left P (map mk (reverse places)) (reverse old) both)) in
-    let after : All Q (next modules (placed step.place)) = All-same Q (next modules (placed step.place)) (map placed places) (sym leads) (All-map Q placed places here) in
-    let R : ℕ → Type 0 = λ k. EndsIn modules k (placed step.place) in
-    let ends : R (suc n) = λ q within. subst Q within.2 (after within.0 q within.1) in
-    All-push P old step before (subst R (sym most) ends)
+-- all of some, and one more
+pub all_more : {X : Type 0} (P : X → Type 0) (xs : List X) (i : ℕ) (x : X) → i < length xs → x ≡ get_or xs i x → All P (take i xs) → P x → All P (take (i + 1) xs)
+all_more P xs i x within is before here =
+    All-same P (take (i + 1) xs) (take i xs ++ get_or xs i x ∷ []) (take_more xs i x within) (All-push P (take i xs) (get_or xs i x) before (subst P is here))

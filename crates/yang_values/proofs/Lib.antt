@@ -4,12 +4,14 @@ pub mod Ends
 pub mod Given
 pub mod Holding
 pub mod Narrow
+pub mod Numbered
 pub mod Places
 pub mod Plain
 pub mod Reached
 pub mod Alike
 pub mod Taken
 pub mod Visits
+pub mod Weights
 pub mod Without
 pub mod Ways
 pub mod Nested

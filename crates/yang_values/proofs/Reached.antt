@@ -82,10 +82,10 @@ get_or-left (x ∷ xs) ys zero d w = refl
 get_or-left (x ∷ xs) ys (suc k) d w = get_or-left xs ys k d (omega arith)
 
 -- the first ones
-pub reached_first : (modules : List Module) (p : Placed) (qs : List Placed) → qs ≡ next modules p → AreReachedUpTo modules 0 p qs
-reached_first modules p qs is = record {
-  reached = λ q c. (0, (q, subst (λ (rs : List Placed). Contains rs q) is c, refl));
-  first = λ q c. subst (λ (rs : List Placed). Contains rs q) (sym is) c;
+pub reached_first : (modules : List Module) (p : Placed) (first qs : List Placed) → first ≡ next modules p → IsAdded [] first qs → AreReachedUpTo modules 0 p qs
+reached_first modules p first qs is added = record {
+  reached = λ q c. (0, (q, subst (λ (rs : List Placed). Contains rs q) is (added.from q (subst (λ (rs : List Placed). Contains rs q) added.behind c)), refl));
+  first = λ q c. added.there q (subst (λ (rs : List Placed). Contains rs q) (sym is) c);
   closed = λ j q below c. absurd (omega arith);
 }
 

@@ -11,6 +11,10 @@ abbrev pub EndsIn : List Module → ℕ → Placed → Type 0
 EndsIn modules zero p = ⊥
 EndsIn modules (suc most) p = (q : Placed) → Contains (next modules p) q → EndsIn modules most q
 
+-- each way on from a type statement ends, the longest too
+abbrev pub DoesEnd : List Module → Placed → Type 0
+DoesEnd modules p = (most : ℕ) × EndsIn modules most p
+
 -- a type with this base may lead to others, round a circle too
 abbrev pub leads_on : Option Base → Bool
 leads_on None = true

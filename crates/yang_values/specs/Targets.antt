@@ -4,7 +4,7 @@ use Rattle.std.specs.Str.{bytes_eq}
 use Rattle.yang_text.specs.Declarations.{Declaration, argument, block}
 use Rattle.yang_types.specs.declared.types.Target.{Target}
 use Rattle.yang_scope.specs.Modules.{Module}
-use Rattle.yang_scope.specs.Paths.{step_name, is_named, child_named, container_named}
+use Rattle.yang_scope.specs.Paths.{Placed, step_name, is_named, child_named, container_named}
 use Rattle.yang_scope.specs.Pieces.{pieces}
 use Rattle.yang_scope.specs.Statements.{is_keyword, first_child}
 
@@ -72,3 +72,8 @@ target_of_pieces modules _ = None
 -- of a path
 abbrev pub target_of : List Module → List ℕ → Option Target
 target_of modules s = target_of_pieces modules (pieces slash s)
+
+-- the key part that a leaf of a list is, where that is there with its number among the shapes
+abbrev pub target_in : List ℕ → List ℕ → Option Placed → Option Target
+target_in table leaf list =
+    option_and_then (λ l. target table (Some l.0) (part_in leaf l.1)) list

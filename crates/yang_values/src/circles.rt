@@ -2,11 +2,12 @@
 ghost use Rattle.std.specs.Prelude.{◌≡◌, ◌↔◌, IsTrue, [], ◌∷◌, Bool, map, Contains, IfOk};
 ghost use Rattle.yang_text.specs.Statements.{declaration};
 ghost use Rattle.yang_scope.specs.Faults.{lesser, least_of};
-ghost use Rattle.yang_text.specs.declared.errors.ModelWhy.{ModelWhy};
+ghost use Rattle.yang_text.specs.declared.errors.ModelWhy.TheVariants.{Circle};
 ghost use Rattle.yang_scope.specs.Paths.{Placed};
 ghost use Rattle.yang_values.specs.Circles.{IsOnCircle, DecidesCircles, circle, is_plain};
 ghost use Rattle.yang_values.specs.Walks.{placed, IsAdded, AreReached};
 
+use crate::place_lists::Places;
 use crate::sameness::same_declaration;
 use crate::walks::{Place, next};
 use host_core::Memory;
@@ -33,21 +34,21 @@ fn is_among(places: &[Place], place: &Place) -> bool
     false
 }
 
-/// Adds a type statement that isn't there.
-fn push_if_new<'a>(places: &mut Vec<Place<'a>>, place: &Place<'a>) -> Result<(), Memory>
-    ensures { IfOk result (λ _. IsAdded (map placed places.old.items) (placed place.now ∷ [])
-        (map placed places.new.items)) }
+/// Adds a type statement, where it isn't found among those that are there.
+fn push_if_new<'a>(places: &mut Places<'a>, place: &Place<'a>) -> Result<(), Memory>
+    ensures { IfOk result (λ _. IsAdded (map placed places.old.items.items) (placed place.now ∷ [])
+        (map placed places.new.items.items)) }
 {
-    if !is_among(places.as_slice(), place) {
-        places.push(*place)?;
+    if places.has(place) {
+        return Ok(());
     }
-    Ok(())
+    places.push(place)
 }
 
-/// Adds those type statements that aren't there.
-fn push_new<'a>(places: &mut Vec<Place<'a>>, others: &[Place<'a>]) -> Result<(), Memory>
-    ensures { IfOk result (λ _. IsAdded (map placed places.old.items) (map placed others.now)
-        (map placed places.new.items)) }
+/// Adds those type statements that aren't found there.
+fn push_new<'a>(places: &mut Places<'a>, others: &[Place<'a>]) -> Result<(), Memory>
+    ensures { IfOk result (λ _. IsAdded (map placed places.old.items.items) (map placed others.now)
+        (map placed places.new.items.items)) }
 {
     for other in others {
         push_if_new(places, other)?;
@@ -60,16 +61,18 @@ pub(crate) fn reached<'a>(
     alloc: Global,
     names: &Names<'a>,
     place: Place<'a>,
-) -> Result<Vec<Place<'a>>, Memory>
+) -> Result<Places<'a>, Memory>
     ensures { IfOk result
-        (λ places. AreReached names.now (placed place.entry) (map placed places.items)) }
+        (λ places. AreReached names.now (placed place.entry) (map placed places.items.items)) }
 {
-    let mut places = next(alloc, names, place)?;
+    let first = next(alloc, names, place)?;
+    let mut places = Places::new(alloc);
+    push_new(&mut places, first.as_slice())?;
     for i in 0..usize::MAX {
-        if i >= places.len() {
+        if i >= places.items.len() {
             return Ok(places);
         }
-        let others = next(alloc, names, places[i])?;
+        let others = next(alloc, names, places.items[i])?;
         push_new(&mut places, others.as_slice())?;
     }
     Err(Memory)
@@ -95,16 +98,22 @@ fn is_on_circle<'a>(alloc: Global, names: &Names<'a>, place: Place<'a>) -> Resul
         return Ok(false);
     }
     let places = reached(alloc, names, place)?;
-    Ok(is_among(places.as_slice(), &place))
+    Ok(is_among(places.items.as_slice(), &place))
 }
 
-/// Whether a fault so far is answered before any on a line.
+/// Whether a fault so far is answered before a circle on a line, or is one there.
 fn is_settled(least: &Option<Fault>, file: u32, line: u32) -> bool
-    ensures { IsTrue result → (why : ModelWhy)
-        → lesser least.now (record { file = file; line = line; why = why }) ≡ least.now }
+    ensures { IsTrue result
+        → lesser least.now (record { file = file; line = line; why = Circle }) ≡ least.now }
 {
     match least {
-        Some(first) => first.file < file || (first.file == file && first.line < line),
+        Some(first) => {
+            first.file < file
+                || (first.file == file && first.line < line)
+                || (first.file == file
+                    && first.line == line
+                    && matches!(first.why, ModelWhy::Circle))
+        }
         None => false,
     }
 }

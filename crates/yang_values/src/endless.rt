@@ -1,6 +1,6 @@
 //! Defaults, also at types that lead to circles of typedefs and leafrefs: of these it is found out, one
 //! step after another, what a type of so many steps makes of the text, until a step changes nothing.
-ghost use Rattle.std.specs.Prelude.{◌≡◌, ◌+◌, ◌∷◌, Bool, List, ℕ, All, Contains, IsTrue, map, false, IfOk};
+ghost use Rattle.std.specs.Prelude.{◌≡◌, ◌+◌, ◌∷◌, Bool, List, ℕ, All, Contains, IsTrue, map, false, IfOk, IfSome};
 ghost use Rattle.std.specs.List.{AllZip};
 ghost use Rattle.yang_text.specs.Statements.{declaration};
 ghost use Rattle.yang_types.specs.DataTypes.{data_type};
@@ -15,7 +15,8 @@ ghost use Rattle.yang_values.specs.Walks.{placed};
 
 use crate::circles::{is_same, reached};
 use crate::defaults::{has_leafref, note_bad_default};
-use crate::endings::does_end;
+use crate::endings::Endings;
+use crate::place_lists::Numbers;
 use crate::restrictions::type_by;
 use crate::type_values::type_value;
 use crate::walks::{MOST_STEPS, Place, next};
@@ -76,8 +77,24 @@ fn stand_in(alloc: Global, taste: Taste) -> Result<Ty, Memory>
     Ok(Ty::Ref(target, inner))
 }
 
-/// What is known of a type statement.
-fn find_taste(known: &[Known], place: &Place) -> Taste
+/// What is known of a type statement, where it is at an index.
+fn taste_at(known: &[Known], index: Option<usize>, place: &Place) -> Option<Taste>
+    ensures { IfSome result
+        (λ taste. Contains (map known_of known.now) (placed place.now, taste)) }
+{
+    match index {
+        Some(i) => {
+            if i < known.len() && is_same(&known[i].place, place) {
+                return Some(known[i].taste);
+            }
+            None
+        }
+        None => None,
+    }
+}
+
+/// What is known of a type statement, found by going over all.
+fn search_taste(known: &[Known], place: &Place) -> Taste
     requires { Contains (map place_of known.now) (placed place.now) }
     ensures { Contains (map known_of known.now) (placed place.now, result) }
 {
@@ -92,15 +109,40 @@ fn find_taste(known: &[Known], place: &Place) -> Taste
     }
 }
 
+/// What is known of a type statement.
+fn find_taste(known: &[Known], numbers: &Numbers, place: &Place) -> Taste
+    requires { Contains (map place_of known.now) (placed place.now) }
+    ensures { Contains (map known_of known.now) (placed place.now, result) }
+{
+    match taste_at(known, numbers.get(place), place) {
+        Some(taste) => taste,
+        None => search_taste(known, place),
+    }
+}
+
+/// The numbers of those that something is known of.
+fn numbers_of(alloc: Global, known: &[Known]) -> Result<Numbers, Memory> {
+    let mut numbers = Numbers::new(alloc);
+    for (number, entry) in known.iter().enumerate() {
+        numbers.put(&entry.place, number)?;
+    }
+    Ok(numbers)
+}
+
 /// Types that stand for those of some statements.
-fn stand_ins(alloc: Global, known: &[Known], places: &[Place]) -> Result<Vec<Ty>, Memory>
+fn stand_ins(
+    alloc: Global,
+    known: &[Known],
+    numbers: &Numbers,
+    places: &[Place],
+) -> Result<Vec<Ty>, Memory>
     requires { All (Contains (map place_of known.now)) (map placed places.now) }
     ensures { IfOk result (λ types. AllZip (StandsFor (map known_of known.now))
         (map placed places.now) (map data_type types.items)) }
 {
     let mut types = Vec::new(alloc);
     for place in places {
-        let taste = find_taste(known, place);
+        let taste = find_taste(known, numbers, place);
         types.push(stand_in(alloc, taste)?)?;
     }
     Ok(types)
@@ -112,6 +154,7 @@ fn next_taste<'a>(
     names: &Names<'a>,
     text: &str,
     known: &[Known<'a>],
+    numbers: &Numbers,
     place: Place<'a>,
 ) -> Result<Taste, Memory>
     requires there { Contains (map place_of known.now) (placed place) }
@@ -122,7 +165,7 @@ fn next_taste<'a>(
         (type_within is_pattern names.now (most + 1) (placed place.entry)) taste) }
 {
     let places = next(alloc, names, place)?;
-    let types = stand_ins(alloc, known, places.as_slice())?;
+    let types = stand_ins(alloc, known, numbers, places.as_slice())?;
     let ty = type_by(alloc, names, place.number, place.statement, types)?;
     let taste = taste_of(&ty, text);
     drop(ty);
@@ -141,6 +184,7 @@ fn next_round<'a>(
     names: &Names<'a>,
     text: &str,
     known: &[Known<'a>],
+    numbers: &Numbers,
 ) -> Result<Round<'a>, Memory>
     requires closed { AreClosed names.now (map place_of known.now) }
     ensures places { IfOk result (λ r. map place_of r.known.items ≡ map place_of known.now) }
@@ -152,7 +196,7 @@ fn next_round<'a>(
     let mut more = Vec::new(alloc);
     let mut changed = false;
     for entry in known {
-        let taste = next_taste(alloc, names, text, known, entry.place)?;
+        let taste = next_taste(alloc, names, text, known, numbers, entry.place)?;
         let same = is_same_taste(taste, entry.taste);
         changed = changed | !same;
         more.push(Known {
@@ -172,6 +216,7 @@ fn settle<'a>(
     names: &Names<'a>,
     text: &str,
     known: Vec<Known<'a>>,
+    numbers: &Numbers,
 ) -> Result<Vec<Known<'a>>, Memory>
     requires closed { AreClosed names.now (map place_of known.items) }
     requires right { (is_pattern : List ℕ → Bool)
@@ -182,7 +227,7 @@ fn settle<'a>(
 {
     let mut known = known;
     for steps in 0..MOST_STEPS {
-        let round = next_round(alloc, names, text, known.as_slice())?;
+        let round = next_round(alloc, names, text, known.as_slice(), numbers)?;
         if !round.changed {
             return Ok(known);
         }
@@ -227,9 +272,10 @@ fn endless_taste<'a>(
         (type_within is_pattern names.now most_steps (placed place.entry)) taste) }
 {
     let places = reached(alloc, names, place)?;
-    let known = begin(alloc, place, places.as_slice())?;
-    let known = settle(alloc, names, text, known)?;
-    Ok(find_taste(known.as_slice(), &place))
+    let known = begin(alloc, place, places.items.as_slice())?;
+    let numbers = numbers_of(alloc, known.as_slice())?;
+    let known = settle(alloc, names, text, known, &numbers)?;
+    Ok(find_taste(known.as_slice(), &numbers, &place))
 }
 
 /// A text that a type statement's type doesn't take as a default, whether that leads to a circle or not.
@@ -257,13 +303,12 @@ fn note_endless<'a>(
     Ok(())
 }
 
-/// A default that the type of a type statement beside it doesn't take. Where that leads to no circle, no
-/// way on from it is as long as `most` steps, and its type is looked at as a value.
-pub fn note_default<'a>(
+/// A default that the type of a type statement beside it doesn't take. Where it is known that each way on
+/// from that ends, its type is looked at as a value.
+pub fn note_default<'n, 'a>(
     alloc: Global,
     least: &mut Option<Fault>,
-    names: &Names<'a>,
-    most: u64,
+    endings: &Endings<'n, 'a>,
     file: u32,
     number: usize,
     statement: &'a Statement,
@@ -272,19 +317,27 @@ pub fn note_default<'a>(
     ensures { IfOk result (λ _. (is_pattern : List ℕ → Bool) → DecidesPatterns is_pattern
         → (accepts : DataType → List ℕ → Bool) → DecidesTexts accepts
         → least.new ≡ least_of least.old (bad_default accepts file
-        (type_value is_pattern names.now number (declaration statement.now))
+        (type_value is_pattern endings.now number (declaration statement.now))
         (declaration default.now))) }
 {
-    if does_end(alloc, names, most, number, statement)? {
-        let ty = type_value(alloc, names, number, statement)?;
+    let place = Place { number, statement };
+    if endings.does_end(&place) {
+        let ty = type_value(alloc, endings.names(), number, statement)?;
         note_bad_default(least, &ty, file, default);
         drop(ty);
         return Ok(());
     }
     match &default.argument {
         Some(text) => {
-            let place = Place { number, statement };
-            note_endless(alloc, least, names, file, place, default, text.as_str())
+            note_endless(
+                alloc,
+                least,
+                endings.names(),
+                file,
+                place,
+                default,
+                text.as_str(),
+            )
         }
         None => Ok(()),
     }

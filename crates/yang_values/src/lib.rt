@@ -11,6 +11,7 @@ mod laws;
 mod named_types;
 mod numbers;
 mod parts;
+mod place_lists;
 mod restrictions;
 mod sameness;
 mod statements;
@@ -20,7 +21,7 @@ mod values;
 mod walks;
 
 pub use bound_faults::note_bad_bounds;
-pub use endings::note_if_circle;
+pub use endings::{Endings, note_if_circle};
 pub use endless::note_default;
 pub use laws::circles_are_decided;
 pub use type_values::type_value;

@@ -1,53 +1,17 @@
 //! What a leafref's path leads to, as a key part of a shape of a table.
-ghost use Rattle.std.specs.Prelude.{◌≡◌, ◌+◌, ◌<◌, ◌^◌, ℕ, List, Option, cond, map, filter, IfOk};
+ghost use Rattle.std.specs.Prelude.{◌≡◌, ◌+◌, ◌<◌, ◌^◌, ℕ, List, Option, cond, map, filter, option_map, option_and_then, IfOk};
 ghost use Rattle.std.specs.Str.{bytes_eq};
 ghost use Rattle.yang_text.specs.Statements.{declaration};
+ghost use Rattle.yang_scope.specs.Paths.{container_named};
 ghost use Rattle.yang_scope.specs.Pieces.{texts};
-ghost use Rattle.yang_values.specs.Targets.{place_from, is_shape, is_list_named, shape_of, is_filled, part_of_key, part_in, part_below, target, target_below, target_of_pieces, target_of};
+ghost use Rattle.yang_values.specs.Targets.{place_from, is_filled, part_of_key, part_in, target, target_in, target_below, target_of_pieces, target_of};
 
-use crate::statements::{first_child, is_keyword};
+use crate::statements::first_child;
 use host_core::{Memory, Txt};
 use std::alloc::Global;
-use yang_scope::{Names, child_named, split_pieces, step_name};
+use yang_scope::{Names, split_pieces, step_name};
 use yang_text::Statement;
 use yang_types::Target;
-
-/// Whether a statement is a list or a fixed container of a table.
-fn is_shape(statement: &Statement) -> bool
-    ensures { result ≡ is_shape (declaration statement.now) }
-{
-    is_keyword("list", statement) || is_keyword("container", statement)
-}
-
-/// Whether a statement is the list of a name.
-fn is_list_named(name: &str, statement: &Statement) -> bool
-    ensures { result ≡ is_list_named name.now (declaration statement.now) }
-{
-    if !is_keyword("list", statement) {
-        return false;
-    }
-    match &statement.argument {
-        Some(argument) => name == argument.as_str(),
-        None => false,
-    }
-}
-
-/// The number of a list among the shapes of its table.
-fn shape_of(name: &str, table: &Statement) -> Option<usize>
-    ensures { result ≡ shape_of name.now (declaration table.now) }
-{
-    let mut before = 0;
-    for statement in table.block.items() {
-        if !is_shape(statement) {
-            continue;
-        }
-        if is_list_named(name, statement) {
-            return Some(before);
-        }
-        before += 1;
-    }
-    None
-}
 
 /// The number of a name among those that are not empty.
 fn place_in(name: &str, pieces: &[&str]) -> Option<usize>
@@ -112,40 +76,40 @@ fn target(
     }
 }
 
-/// The number of a leaf among the names of the key of a list of a table.
-fn part_below(
+/// The key part of a table that a leaf of a list is, where that is there with its number.
+fn target_in(
     alloc: Global,
-    list: &str,
+    table: &str,
     leaf: &str,
-    table: &Statement,
-) -> Result<Option<usize>, Memory>
-    ensures { IfOk result
-        (λ found. found ≡ part_below list.now leaf.now (declaration table.now)) }
+    list: Option<(usize, &Statement)>,
+) -> Result<Option<Target>, Memory>
+    ensures { IfOk result (λ found. found ≡ target_in table.now leaf.now
+        (option_map (λ l. (l.0, declaration l.1.now)) list.entry)) }
 {
-    match child_named("list", list, table) {
-        Some(list) => part_in(alloc, leaf, list),
+    match list {
+        Some((number, list)) => {
+            let part = part_in(alloc, leaf, list)?;
+            target(alloc, table, Some(number), part)
+        }
         None => Ok(None),
     }
 }
 
-/// The key part of the names of a table, a list and a leaf in a container.
-fn target_below(
+/// The key part that the names of a container, a table, a list and a leaf lead to.
+fn target_named(
     alloc: Global,
+    names: &Names,
+    container: &str,
     table: &str,
     list: &str,
     leaf: &str,
-    container: &Statement,
 ) -> Result<Option<Target>, Memory>
     ensures { IfOk result (λ found. found
-        ≡ target_below table.now list.now leaf.now (declaration container.now)) }
+        ≡ option_and_then (λ d. target_below table.now list.now leaf.now d.1)
+        (container_named names.now container.now)) }
 {
-    match child_named("container", table, container) {
-        Some(found) => {
-            let part = part_below(alloc, list, leaf, found)?;
-            target(alloc, table, shape_of(list, found), part)
-        }
-        None => Ok(None),
-    }
+    let found = names.list_named(container, table, list);
+    target_in(alloc, table, leaf, found)
 }
 
 /// The key part that the pieces of a path lead to.
@@ -153,12 +117,16 @@ fn target_of_pieces(alloc: Global, names: &Names, pieces: &[&str]) -> Result<Opt
     ensures { IfOk result (λ found. found ≡ target_of_pieces names.now (texts pieces.now)) }
 {
     match pieces {
-        [_, c, t, l, k] => match names.container_named(step_name(c)) {
-            Some((_, container)) => {
-                target_below(alloc, step_name(t), step_name(l), step_name(k), container)
-            }
-            None => Ok(None),
-        },
+        [_, c, t, l, k] => {
+            target_named(
+                alloc,
+                names,
+                step_name(c),
+                step_name(t),
+                step_name(l),
+                step_name(k),
+            )
+        }
         _ => Ok(None),
     }
 }

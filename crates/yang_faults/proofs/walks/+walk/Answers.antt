@@ -6,7 +6,8 @@ use Rattle.yang_text.specs.Statements.{declaration}
 use Rattle.yang_scope.specs.Faults.{least_of}
 use Rattle.yang_faults.specs.Own.{sentence_faults}
 use Rattle.yang_faults.specs.Walks.{below_faults, block_faults}
-use Rattle.yang_faults.proofs.FaultLists.{block_faults-flat, least_of-two, least-more, weight-at}
+use Rattle.yang_faults.proofs.FaultLists.{block_faults-flat, least_of-two, least-more}
+use Rattle.yang_values.proofs.Weights.{weight-at}
 use Rattle.yang_faults.proofs.walks.+walk.Goals as goal
 
 pub note_block-note_below-requires : goal.note_block-note_below-requires

@@ -6,7 +6,7 @@ use Rattle.yang_scope.specs.Statements.{is_keyword}
 use Rattle.yang_scope.proofs.Blocks.{block-is}
 use Rattle.yang_scope.proofs.Tables.{take_end}
 use Rattle.yang_must.specs.Spots.{container_at}
-use Rattle.yang_must.proofs.Filters.{map-filter-next}
+use Rattle.yang_scope.proofs.Finding.{map-filter-next}
 use Rattle.yang_must.proofs.model_tree.with_containers.Goals as goal
 
 pub loop-statement-preserved : goal.loop-statement-preserved

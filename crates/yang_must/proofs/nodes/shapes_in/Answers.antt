@@ -3,7 +3,7 @@ use Rattle.std.specs.List.{filter}
 use Rattle.yang_text.specs.Statements.{declaration}
 use Rattle.yang_scope.proofs.Tables.{take_end}
 use Rattle.yang_must.specs.Spots.{is_shape}
-use Rattle.yang_must.proofs.Filters.{filter-next}
+use Rattle.yang_scope.proofs.Finding.{filter-next}
 use Rattle.yang_must.proofs.nodes.shapes_in.Goals as goal
 
 pub loop-statement-preserved : goal.loop-statement-preserved

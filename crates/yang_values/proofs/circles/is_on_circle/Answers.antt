@@ -15,7 +15,7 @@ returns c =
     let p : Placed = placed c.args.place in
     let same = ap (map placed) c.as_slice.ensures.value in (
       λ h. c.in_ok-places.ensures.reached p (subst (λ (qs : List Placed). Contains qs p) same (c.is_among.ensures.0 h)),
-      λ r. c.is_among.ensures.1 (subst (λ (qs : List Placed). Contains qs p) (sym same) (reached_there c.args.names.now p (map placed c.in_ok-places.places.items) c.in_ok-places.ensures p r)),
+      λ r. c.is_among.ensures.1 (subst (λ (qs : List Placed). Contains qs p) (sym same) (reached_there c.args.names.now p (map placed c.in_ok-places.places.items.items) c.in_ok-places.ensures p r)),
     )
 
 pub returns-then-is_plain : goal.returns-then-is_plain

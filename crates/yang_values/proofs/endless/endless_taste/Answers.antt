@@ -20,9 +20,9 @@ pub settle-requires-clause-closed : goal.settle-requires-clause-closed
 settle-requires-clause-closed c =
     let p : Placed = placed c.args.place in
     let others : List Placed = map placed c.as_slice.result.now in
-    let same : others ≡ map placed c.in_ok-places.places.items = ap (map placed) c.as_slice.ensures.value in
+    let same : others ≡ map placed c.in_ok-places.places.items.items = ap (map placed) c.as_slice.ensures.value in
     subst (AreClosed c.args.names.now) (ap (λ qs. p ∷ qs) (sym same) ∙ sym (begun c.in_ok-known.known.items (p ∷ others) c.in_ok-known.ensures))
-    (reached_closed c.args.names.now p (map placed c.in_ok-places.places.items) c.in_ok-places.ensures)
+    (reached_closed c.args.names.now p (map placed c.in_ok-places.places.items.items) c.in_ok-places.ensures)
 
 pub settle-requires-clause-right : goal.settle-requires-clause-right
 settle-requires-clause-right c = λ is_pattern.
@@ -36,12 +36,12 @@ find_taste-requires c =
     let ps : List Placed = p ∷ map placed c.as_slice.result.now in
     let first : Contains ps p = (0, omega arith, refl) in
     subst (λ (qs : List Placed). Contains qs p)
-    (sym (ap (map place_of) c.as_slice-2.ensures.value ∙ c.in_ok-known-2.ensures.places ∙ begun c.in_ok-known.known.items ps c.in_ok-known.ensures))
+    (sym (ap (map place_of) c.as_slice-3.ensures.value ∙ c.in_ok-known-2.ensures.places ∙ begun c.in_ok-known.known.items ps c.in_ok-known.ensures))
     first
 
 pub returns : goal.returns
 returns c = λ is_pattern decides.
     let known : List (Placed × Taste) = map known_of c.in_ok-known-2.known.items in
     let there : Contains known (placed c.args.place, c.find_taste.result) =
-    subst (λ (ks : List (Placed × Taste)). Contains ks (placed c.args.place, c.find_taste.result)) (ap (map known_of) c.as_slice-2.ensures.value) c.find_taste.ensures in
+    subst (λ (ks : List (Placed × Taste)). Contains ks (placed c.args.place, c.find_taste.result)) (ap (map known_of) c.as_slice-3.ensures.value) c.find_taste.ensures in
     c.in_ok-known-2.ensures.right is_pattern decides (placed c.args.place) c.find_taste.result there

@@ -3,7 +3,8 @@ use Rattle.yang_text.specs.Declarations.{block}
 use Rattle.yang_text.specs.Statements.{declaration}
 use Rattle.yang_scope.specs.Meanings.{prefix_giver}
 use Rattle.yang_scope.proofs.Blocks.{block-is}
-use Rattle.yang_must.proofs.Filters.{copied-item, some-copied, some-mapped}
+use Rattle.yang_scope.proofs.Finding.{copied-item}
+use Rattle.yang_must.proofs.Filters.{some-copied, some-mapped}
 use Rattle.yang_must.proofs.prefixes.ModulePrefixes.gives.Goals as goal
 
 pub returns-in-Some : goal.returns-in-Some

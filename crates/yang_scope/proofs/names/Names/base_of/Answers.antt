@@ -8,7 +8,7 @@ pub returns-in-Ends : goal.returns-in-Ends
 returns-in-Ends c =
     ap (base_by (λ m place. None)) (sym c.in-Ends.is ∙ c.link_behind.ensures ∙ ap (λ ls. link_behind ls c.type_meaning.result) c.items.ensures)
     ∙ ap (λ meaning. base_by (λ m place. None) (link_behind c.self.inside.links meaning)) c.type_meaning.ensures
-    ∙ sym (base_behind c.self.inside.set most_typedefs c.self.inside.links _ c.self.invariant)
+    ∙ sym (base_behind c.self.inside.set most_typedefs c.self.inside.links _ c.self.invariant.0)
     ∙ ap (λ modules. base_of modules c.args.number c.args.name.now) c.self.view_is
 
 pub returns-in-Goes : goal.returns-in-Goes
@@ -21,5 +21,5 @@ returns-in-Goes c =
     none
     ∙ ap (base_by (λ m place. None)) (c.link_behind.ensures ∙ ap (λ ls. link_behind ls c.type_meaning.result) c.items.ensures)
     ∙ ap (λ meaning. base_by (λ m place. None) (link_behind c.self.inside.links meaning)) c.type_meaning.ensures
-    ∙ sym (base_behind c.self.inside.set most_typedefs c.self.inside.links _ c.self.invariant)
+    ∙ sym (base_behind c.self.inside.set most_typedefs c.self.inside.links _ c.self.invariant.0)
     ∙ ap (λ modules. base_of modules c.args.number c.args.name.now) c.self.view_is

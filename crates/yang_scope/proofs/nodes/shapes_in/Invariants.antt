@@ -1,0 +1,9 @@
+use Rattle.std.proofs.Common.{◌≡◌, map, take, Bor}
+use Rattle.std.specs.List.{filter}
+use Rattle.yang_text.specs.Statements.{declaration}
+use Rattle.yang_text.specs.declared.statements.Statement.{Statement}
+use Rattle.yang_scope.specs.Nodes.{is_shape}
+use Rattle.yang_scope.proofs.nodes.shapes_in.Given as goal
+
+abbrev pub invariant-loop-statement : goal.invariant-loop-statement
+invariant-loop-statement l = map (λ (s : Bor Statement). declaration s.now) l.shapes.items ≡ filter is_shape (map declaration (take l.statement-index l.statements))
