@@ -520,6 +520,5 @@ returns-in-Demo-clause-only_usage g c none = told_usage c.args.command _ c.demo.
 pub returns-in-CheckPlan-clause-only_usage : goal.returns-in-CheckPlan-clause-only_usage
 returns-in-CheckPlan-clause-only_usage g c none = told_usage c.args.command _ c.check_plan.result c.in-CheckPlan.is refl none
 
-
 pub returns-in-Rehearse-clause-only_usage : goal.returns-in-Rehearse-clause-only_usage
 returns-in-Rehearse-clause-only_usage g c none = told_usage c.args.command _ c.rehearse.result c.in-Rehearse.is refl none
