@@ -251,6 +251,7 @@ no_migration s news _ e (demos q ports) = cc
 no_migration s news _ e (accepts count) = cc
 no_migration s news _ e (tells intent steps) = cc
 no_migration s news _ e gives_up = cc
+no_migration s news _ e (rehearses p named) = cc
 
 module _ (s now : State) (asking : Asking Request) (query : (r : Request) → asking.Gives (Ok r) → Query s r) where
   untouched_output : IsUntouched asking s now → now.output ≡ s.output
