@@ -1,9 +1,8 @@
 -- A change without steps that closes one that was stopped.
-use Rattle.std.proofs.Common.{◌≡◌, ◌≤◌, ◌<◌, inl, inr, ℕ, suc, List, length, [], ◌∷◌, ◌++◌, Bool, true, false, append-nil, refl, sym, ap, ◌∙◌, subst, arith, Option, Some, None, Result, Ok, Err, IfSome, option_map}
-use Rattle.std.specs.Prelude.{IsSome}
+use Rattle.std.proofs.Common.{◌≡◌, ◌<◌, inl, inr, ℕ, suc, List, length, [], ◌∷◌, ◌++◌, true, false, append-nil, refl, sym, ap, ◌∙◌, subst, arith, Option, Some, None, Result, Ok, IfSome, option_map}
 use Rattle.std.specs.FinMap.{get}
 use Rattle.host_core.specs.Counts.{Counts, NoneFell, Rose}
-use Rattle.host_core.specs.Crashes.{Elapses, Image, Left, LeavesOnly, MayLeave, MayLeaveInPrint, MayLeaveNow}
+use Rattle.host_core.specs.Crashes.{Elapses, Left, LeavesOnly, MayLeaveInPrint}
 use Rattle.host_core.specs.State.{CanMove, Files, State, printed, settled, with_file}
 use Rattle.host_core.proofs.Runs as runs
 use Rattle.conf_doc.specs.declared.configuration.Config.{Config}
@@ -11,18 +10,17 @@ use Rattle.conf_store.specs.Changes.{AreLeft, Changes, IsSettled, Leads, Settles
 use Rattle.conf_store.specs.Files.{intent_file, scratch}
 use Rattle.conf_store.specs.Folds.{StandsFor}
 use Rattle.conf_store.specs.Stored.{stored}
-use Rattle.conf_store.specs.declared.loaded.Stored.{Stored}
 use Rattle.conf_store.proofs.FileMaps.{get_there}
 use Rattle.move_core.specs.Plans.{conf}
 use Rattle.move_core.specs.declared.moves.Move.{Move}
 use Rattle.change_apply.specs.Acknowledgements.{ack, acks}
-use Rattle.change_apply.specs.Change.{Change, conf_at, goal, restarted, restarts_at, steps}
+use Rattle.change_apply.specs.Change.{Change, conf_at, restarted, restarts_at, steps}
 use Rattle.change_apply.specs.Crashes.{IsLeft}
 use Rattle.change_apply.specs.Ends.{IsStopped}
-use Rattle.change_apply.specs.Intents.{IsClosed, IsClosedOrNot, KeepsIntent, without_intent}
+use Rattle.change_apply.specs.Intents.{IsClosed, IsClosedOrNot, KeepsIntent}
 use Rattle.gcu_output.specs.Lines.{last_line}
 use Rattle.gcu_output.specs.declared.outcomes.Outcome.{Outcome}
-use Rattle.gcu_output.specs.declared.outcomes.Outcome.TheVariants.{DiskFault, PrintFault}
+use Rattle.gcu_output.specs.declared.outcomes.Outcome.TheVariants.{DiskFault}
 use Rattle.gcu_engine.specs.Changing.{IsBegun, IsLast, closed}
 use Rattle.gcu_engine.specs.Crashes.{LeftChanged, LeftSince}
 use Rattle.gcu_engine.specs.FaultLines.{line_at}

@@ -1,5 +1,5 @@
 -- What is asked holds in the inputs: the models, the settings, and what the target makes of the stored configuration.
-use Rattle.std.proofs.Common.{◌≡◌, inl, inr, ℕ, List, [], ◌∷◌, ◌++◌, map, length, append_assoc, append-nil, nat_lt, Bool, true, false, if◌then◌else◌, refl, sym, ap, ◌∙◌, subst, Option, Some, None, Result, Ok, Err}
+use Rattle.std.proofs.Common.{◌≡◌, inl, inr, ℕ, List, [], ◌∷◌, ◌++◌, length, append_assoc, append-nil, nat_lt, Bool, true, false, if◌then◌else◌, refl, sym, ap, ◌∙◌, subst, Option, Some, None, Result, Ok, Err}
 use Rattle.std.specs.Prelude.{⊤}
 use Rattle.std.specs.FinMap.{get}
 use Rattle.host_core.specs.Answers.{◌>>=◌}
@@ -25,7 +25,6 @@ use Rattle.patch_core.specs.declared.errors.ApplyError.{ApplyError}
 use Rattle.patch_core.specs.declared.errors.ApplyError.TheVariants as failed
 use Rattle.patch_core.specs.declared.errors.PatchError.{PatchError}
 use Rattle.model_list.specs.Lists.{paths_of}
-use Rattle.yang_text.specs.Declarations.{Declaration}
 use Rattle.yang_text.specs.Reading.{reading}
 use Rattle.yang_text.specs.declared.faults.Fault.{Fault}
 use Rattle.yang_model.specs.ModelSets.{ModelSet}
@@ -37,15 +36,15 @@ use Rattle.move_core.specs.declared.errors.RulesError.TheVariants as wrong
 use Rattle.move_core.specs.declared.settings.Settings.{Settings}
 use Rattle.plan_options.specs.Targets.{Target, patched, replaced, resumed, rolled_back}
 use Rattle.gcu_output.specs.declared.outcomes.Outcome.{Outcome}
-use Rattle.gcu_requests.specs.IntentAsked.{held_answer as intent_held, intended_answer, intended_asked}
+use Rattle.gcu_requests.specs.IntentAsked.{held_answer as intent_held, intended_asked}
 use Rattle.gcu_requests.specs.FileAsked.{config_answer, document_answer, file_asked, file_limit}
-use Rattle.gcu_requests.specs.ModelFiles.{AreModels, File, Text, bytes_asked, bytes_in, files_asked, list_limit, list_path, model_limit, models_asked, paths_asked, statements_of, text_answer, texts_asked, texts_in}
+use Rattle.gcu_requests.specs.ModelFiles.{File, Text, bytes_asked, bytes_in, files_asked, list_limit, list_path, model_limit, models_asked, paths_asked, statements_of, text_answer, texts_in}
 use Rattle.gcu_requests.specs.PatchAsked.{patch_answer, patch_in, patch_limit, target, target_shape}
 use Rattle.gcu_requests.specs.PatchAsked as patches
 use Rattle.gcu_requests.specs.PlanAsked.{made_asked}
 use Rattle.gcu_requests.specs.PointAsked.{held_answer}
 use Rattle.gcu_requests.specs.RulesAsked.{ctx_asked, rules_answer, rules_limit, rules_path, settings_asked}
-use Rattle.gcu_engine.specs.Contents.{AreModelsIn, HoldFiles, Holds, HoldsConfig, HoldsIntent, IsContextIn, IsMade, Patches}
+use Rattle.gcu_engine.specs.Contents.{AreModelsIn, HoldFiles, Holds, HoldsConfig, HoldsIntent, IsContextIn, IsMade}
 
 -- ---- bytes
 

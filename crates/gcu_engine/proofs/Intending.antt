@@ -1,5 +1,5 @@
 -- The file `intent` at each moment of a command that does a plan.
-use Rattle.std.proofs.Common.{◌≡◌, ◌≢◌, ◌≤◌, ◌<◌, ◌⊎◌, inl, inr, ℕ, suc, List, [], ◌∷◌, ◌++◌, length, refl, sym, ap, ◌∙◌, subst, arith, Option, Some, None, Ok, IfSome}
+use Rattle.std.proofs.Common.{◌≡◌, ◌≤◌, ◌<◌, ◌⊎◌, inl, inr, ℕ, suc, List, [], ◌∷◌, ◌++◌, length, refl, sym, ap, ◌∙◌, subst, arith, Option, Some, None, Ok, IfSome}
 use Rattle.std.specs.FinMap.{get}
 use Rattle.host_core.specs.Crashes.{Left, LeavesOnly}
 use Rattle.host_core.specs.State.{Files, State}
@@ -15,18 +15,17 @@ use Rattle.move_core.specs.Plans.{conf}
 use Rattle.move_core.specs.declared.moves.Move.{Move}
 use Rattle.change_apply.specs.Acknowledgements.{acks}
 use Rattle.change_apply.specs.Change.{Change, conf_at, goal, steps}
-use Rattle.change_apply.specs.Crashes.{IsLeft, StandAt}
+use Rattle.change_apply.specs.Crashes.{StandAt}
 use Rattle.change_apply.specs.Intents.{HoldsGoal, IsOver as IsGone, KeepsIntent}
 use Rattle.change_apply.proofs.IntentNames.{intent_not_scratch}
 use Rattle.plan_options.specs.Targets.{Target}
 use Rattle.gcu_requests.specs.ChangeAsked.{change_asked}
-use Rattle.gcu_requests.specs.Form.{Form, form}
-use Rattle.gcu_requests.specs.Form as forms
+use Rattle.gcu_requests.specs.Form.{Form}
 use Rattle.gcu_requests.specs.Request as request
 use Rattle.gcu_requests.specs.Request.{Planning}
 use Rattle.gcu_engine.specs.Changing.{IsBegun, IsChangeFor, acknowledged, begun}
 use Rattle.gcu_engine.specs.Crashes.{LeftByForm, LeftChanged, LeftMeanwhile, LeftOfChange}
-use Rattle.gcu_engine.specs.Headline.{IsNoneWhole, IsRightPlan}
+use Rattle.gcu_engine.specs.Headline.{IsNoneWhole}
 use Rattle.gcu_engine.specs.Intending as intending
 use Rattle.gcu_engine.specs.Intending.{HasIntent, HoldsText, IsIntended, IsKept, IsOver}
 use Rattle.gcu_engine.proofs.Acknowledged.{acked_is}

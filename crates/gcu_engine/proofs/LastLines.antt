@@ -18,7 +18,7 @@ use Rattle.plan_check.specs.declared.errors.NoWhy.{NoWhy}
 use Rattle.plan_check.specs.declared.errors.NoWhy.TheVariants as plans
 use Rattle.yang_text.specs.declared.errors.ModelWhy.{ModelWhy}
 use Rattle.yang_text.specs.declared.errors.ModelWhy.TheVariants as models
-use Rattle.gcu_output.specs.Lines.{fail_why, last_line, line_feed, model_why, no_why, number, numbered_line, patch_why, point_why, quoted, refused_line, rule_name, rules_why, said, service_line, space, stored_why}
+use Rattle.gcu_output.specs.Lines.{fail_why, last_line, model_why, no_why, number, numbered_line, patch_why, point_why, quoted, refused_line, rule_name, rules_why, said, service_line, space, stored_why}
 use Rattle.gcu_output.specs.declared.outcomes.Outcome.{Outcome}
 use Rattle.gcu_output.specs.declared.outcomes.Outcome.TheVariants.{Done, Memory, Usage, InputFault, DiskFault, PrintFault, ServiceFault, NoInput, TooBig, BadJson, BadConfig, BadModels, BadRules, BadPatch, PatchFailed, TargetShape, CurrentInvalid, TargetInvalid, NoModel, EmptyTable, Unorderable, Budget, NoCheckpoint, CheckpointExists, BadName, BadStored, Interrupted, NoIntent, BadIntent, SequenceFull, BadPlan, PlanRejected, BadScript}
 use Rattle.gcu_output.specs.declared.outcomes.PointWhy.{PointWhy}

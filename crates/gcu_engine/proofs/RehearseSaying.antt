@@ -2,7 +2,6 @@
 use Rattle.std.proofs.Common.{◌≡◌, inl, inr, ℕ, Global, List, refl, sym, subst, Vec, Option, Some, None, Result, Ok, Err, IfErr, IfOk, IfSome}
 use Rattle.host_core.specs.Counts.{Counts}
 use Rattle.host_core.specs.State.{State}
-use Rattle.gcu_output.specs.Lines.{last_line}
 use Rattle.gcu_output.specs.declared.outcomes.Outcome.{Outcome}
 use Rattle.gcu_output.specs.declared.outcomes.Outcome.TheVariants.{Memory}
 use Rattle.gcu_requests.specs.Preparing.{Finds, Found, Refuses}

@@ -2,7 +2,7 @@
 use Rattle.std.proofs.Common.{◌≡◌, inl, inr, ℕ, List, length, refl, sym, subst, Bool, true, false, if◌then◌else◌, Option, Some, None, Result, Ok, Err}
 use Rattle.std.specs.FinMap.{get}
 use Rattle.host_core.specs.Answers.{map_ok}
-use Rattle.host_core.specs.State.{State, printed}
+use Rattle.host_core.specs.State.{State}
 use Rattle.conf_doc.specs.declared.configuration.Config.{Config}
 use Rattle.conf_store.specs.Applied.{applied}
 use Rattle.conf_store.specs.Stored.{stored}

@@ -2,15 +2,13 @@
 use Rattle.std.proofs.Common.{◌≡◌, inl, inr, ℕ, List, refl, sym, ap, subst, Option, Some, None, Result, Ok, Err, IfSome}
 use Rattle.host_core.specs.Counts.{Counts, NoneRose}
 use Rattle.host_core.specs.State.{State}
-use Rattle.move_core.specs.Contexts.{IsValidIn}
 use Rattle.move_core.specs.Plans.{conf}
 use Rattle.plan_options.specs.Targets.{resumed}
 use Rattle.gcu_output.specs.declared.outcomes.Outcome.{Outcome}
-use Rattle.gcu_output.specs.declared.outcomes.Outcome.TheVariants.{Done, Memory, Unorderable, Budget}
+use Rattle.gcu_output.specs.declared.outcomes.Outcome.TheVariants.{Unorderable, Budget}
 use Rattle.gcu_requests.specs.Asked.{asked, form_asked}
 use Rattle.gcu_requests.specs.ChangeAsked.{change_asked}
 use Rattle.gcu_requests.specs.Form.{Form, form}
-use Rattle.gcu_requests.specs.Form as forms
 use Rattle.gcu_requests.specs.IntentAsked.{held_answer, interrupted}
 use Rattle.gcu_requests.specs.OneAnswer.{AskedIsOne, HasOneAnswer}
 use Rattle.gcu_requests.specs.PlanAsked.{goal_asked, planning_asked, start_asked}

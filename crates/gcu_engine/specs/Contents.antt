@@ -1,5 +1,5 @@
 -- What the inputs of a command hold, where they can be read, and what a target makes of the stored configuration.
-use Rattle.std.specs.Prelude.{◌≡◌, ⊤, ℕ, List, [], ◌∷◌, codes, Option, Some, None, Result, Ok}
+use Rattle.std.specs.Prelude.{◌≡◌, ⊤, ℕ, List, [], ◌∷◌, codes, Some, Result, Ok}
 use Rattle.std.specs.FinMap.{get}
 use Rattle.host_core.specs.State.{State}
 use Rattle.conf_doc.specs.Configuration.{tree}

@@ -1,4 +1,4 @@
-use Rattle.std.proofs.Common.{◌≡◌, Bool, true, false, rules, subst, IfSome}
+use Rattle.std.proofs.Common.{◌≡◌, true, false, rules, subst, IfSome}
 use Rattle.gcu_engine.specs.Doing.{ClosesAs}
 use Rattle.gcu_engine.proofs.Closing.{opened_ends, opened_leaves}
 use Rattle.gcu_engine.proofs.change.finish_change.Goals as goal
