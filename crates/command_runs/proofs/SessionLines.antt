@@ -1,11 +1,10 @@
 -- What operators are told begins with no plan: a name has no space, and no reply begins with a digit.
 use Rattle.std.proofs.Common.{◌≡◌, ◌≤◌, ◌<◌, ◌+◌, ◌/◌, ◌%◌, ℕ, zero, suc, List, [], ◌∷◌, ◌++◌, true, false, cond, length, append_assoc, refl, sym, ap, ◌∙◌, subst, arith}
-use Rattle.std.specs.Prelude.{codes, decimal, nat_lt, ◌==◌}
+use Rattle.std.specs.Prelude.{codes, decimal, ◌==◌}
 use Rattle.std.specs.Fmt.{digits, digits_onto, digit_glyph}
 use Rattle.std.proofs.lemmas.Bool.{le-leb}
 use Rattle.checkpoints.specs.Names.{is_good_name}
-use Rattle.move_core.specs.Operations.{plan_lines, plan_text}
-use Rattle.move_core.specs.declared.moves.Move.{Move}
+use Rattle.move_core.specs.Operations.{plan_lines}
 use Rattle.operators.specs.Replies.{commits_line, reply_line, said}
 use Rattle.session_scripts.specs.Scripts.{AreNamed, name_of}
 use Rattle.session_scripts.specs.declared.script_lines.ScriptLine.{ScriptLine}
