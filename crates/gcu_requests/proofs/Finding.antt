@@ -20,6 +20,11 @@ use Rattle.gcu_requests.specs.Asking.{Asking, follows, follows_by, ◌>>>◌}
 use Rattle.gcu_requests.specs.Preparing.{FailsIn, Finds, Found, IsGiven, IsRightBy, Refuses, RefusesAlways, StandsIn, refusal}
 use Rattle.gcu_requests.specs.Trees.{patched_document, stored_document, target_document, through}
 
+-- a refusal that is right by itself is right of what is asked
+pub refusal_is_right : {Y : Type 0} (o : Option Outcome) (asking : Asking Y) → IfSome o (λ e. asking.Gives (Err e)) → FailsIn o asking
+refusal_is_right None asking h = tt
+refusal_is_right (Some e) asking h = h
+
 -- ---- what is asked one after the other
 
 pub stands_first : {X Y : Type 0} (first : Asking X) (next : X → Asking Y) (e : Outcome) → StandsIn first e → StandsIn (first >>> next) e

@@ -1,8 +1,12 @@
--- How the start and the goal of a plan are refused.
-use Rattle.std.specs.Prelude.{ℕ, List}
+-- How what is stored and the goal of a plan are refused.
+use Rattle.std.specs.Prelude.{ℕ, List, IfSome}
+use Rattle.conf_doc.specs.declared.configuration.Config.{Config}
 use Rattle.conf_check.specs.declared.violations.Rule.{Rule}
+use Rattle.yang_model.specs.ModelSets.{ModelSet}
 use Rattle.gcu_output.specs.declared.outcomes.Outcome.{Outcome}
 use Rattle.gcu_output.specs.declared.outcomes.Outcome.TheVariants.{CurrentInvalid, TargetInvalid}
+use Rattle.gcu_requests.specs.Checking.{IsInvalidAs}
+use Rattle.gcu_requests.specs.Preparing.{refusal}
 use Rattle.gcu_requests.specs.declared.judging.End.{End}
 use Rattle.gcu_requests.specs.declared.judging.End.TheVariants.{Start, Goal}
 
@@ -10,3 +14,8 @@ use Rattle.gcu_requests.specs.declared.judging.End.TheVariants.{Start, Goal}
 abbrev pub answer_of : End → List ℕ → Rule → Outcome
 answer_of Start place rule = CurrentInvalid place rule
 answer_of Goal place rule = TargetInvalid place rule
+
+-- of that end the first violation is told, unless memory is wanting
+abbrev pub TellsFirst : End → ModelSet → Config → Outcome → Type 0
+TellsFirst end models config e =
+    IfSome (refusal e) (IsInvalidAs (answer_of end) models config)

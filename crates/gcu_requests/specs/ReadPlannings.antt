@@ -1,8 +1,9 @@
 -- What is read for a plan.
-use Rattle.std.specs.Prelude.{◌≡◌, ◌<◌, true, ⊤}
+use Rattle.std.specs.Prelude.{◌≡◌, ◌<◌, false, true, ⊤, []}
 use Rattle.std.specs.List.{AllPass}
 use Rattle.conf_doc.specs.WellFormed.{IsConfig}
 use Rattle.conf_store.specs.Files.{is_step_name}
+use Rattle.conf_store.specs.declared.loaded.Stored.{Stored}
 use Rattle.checkpoints.specs.Names.{is_good_name}
 use Rattle.move_core.specs.Contexts.{AgreeElsewhere, IsNamed, IsValidIn}
 use Rattle.plan_options.specs.Targets.{Target, rolled_back}
@@ -28,3 +29,7 @@ pub record IsReadyToSearch (p : Planning) : Type 0 where
   pub goal : IsValidIn p.ctx p.goal
   pub elsewhere : AgreeElsewhere p.ctx p.stored.config p.goal
   pub budget : 0 < p.budget
+
+-- it was made and not loaded, so that there is nothing to fold
+abbrev pub HasNothingToFold : Stored → Type 0
+HasNothingToFold stored = (stored.steps ≡ []) × (stored.folded ≡ false)

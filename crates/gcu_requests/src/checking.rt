@@ -3,22 +3,20 @@ ghost use Rattle.std.specs.Prelude.{◌≡◌, ◌≤◌, IfErr, IfOk, Ok};
 ghost use Rattle.host_core.specs.Counts.{NoneFell};
 ghost use Rattle.host_core.specs.Crashes.{Elapses, MayLeaveNow};
 ghost use Rattle.host_core.specs.Names.{longest_plain_name};
-ghost use Rattle.conf_check.specs.Validity.{IsFirstViolation};
-ghost use Rattle.gcu_requests.specs.Asking.{follows_by};
 ghost use Rattle.gcu_requests.specs.Checking.{IsJudged, check_asked, judging_asked};
-ghost use Rattle.gcu_requests.specs.Preparing.{FailsIn, Finds, IsRightBy, Refuses, RefusesAlways, refusal};
+ghost use Rattle.gcu_requests.specs.Preparing.{Finds, IsRightBy, Refuses, RefusesAlways};
 ghost use Rattle.gcu_requests.specs.Request.{check as check_of};
 ghost use Rattle.gcu_requests.specs.StoredAsked.{stored_asked};
 
 use crate::intent::test_uninterrupted;
+use crate::judging::{End, invalid};
 use crate::models::input_models;
 use crate::stored::read_config;
-use conf_check::{Violation, check as check_config};
+use conf_check::check as check_config;
 use conf_doc::Config;
 use gcu_output::Outcome;
 use host_core::Host;
 use std::alloc::Global;
-use violation_places::{place_of, rule_numbered};
 use yang_model::Models;
 
 /// The stored configuration, where it is valid and no change was stopped before its end.
@@ -60,21 +58,6 @@ fn judge(alloc: Global, models: &Models, config: &Config) -> Result<(), Outcome>
 {
     match check_config(models, config) {
         Ok(()) => Ok(()),
-        Err(violation) => Err(invalid(alloc, models, config, &violation)),
-    }
-}
-
-/// The refusal of a violation.
-fn invalid(alloc: Global, models: &Models, config: &Config, violation: &Violation) -> Outcome
-    requires { IsFirstViolation models.now config.now violation.now }
-    ensures answer { FailsIn (refusal result) (follows_by (IsJudged models.now config.now)) }
-    ensures cause { RefusesAlways result }
-{
-    match (
-        place_of(alloc, models, config, violation),
-        rule_numbered(violation.rule),
-    ) {
-        (Ok(place), Some(rule)) => Outcome::CurrentInvalid { place, rule },
-        _ => Outcome::Memory,
+        Err(violation) => Err(invalid(alloc, End::Start, models, config, &violation)),
     }
 }

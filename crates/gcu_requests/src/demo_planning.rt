@@ -5,7 +5,7 @@ ghost use Rattle.host_core.specs.Crashes.{Elapses, MayLeaveNow};
 ghost use Rattle.host_core.specs.Names.{longest_plain_name};
 ghost use Rattle.move_core.specs.Contexts.{IsNamed};
 ghost use Rattle.gcu_requests.specs.DemoAsked.{demo_planning_asked, generated_asked, generating_asked};
-ghost use Rattle.gcu_requests.specs.ReadPlannings.{IsReadyToSearch, planning_of};
+ghost use Rattle.gcu_requests.specs.ReadPlannings.{HasNothingToFold, IsReadyToSearch, planning_of};
 ghost use Rattle.gcu_requests.specs.Preparing.{Finds, Found, Refuses, RefusesAlways};
 
 use crate::intent::test_uninterrupted;
@@ -27,6 +27,7 @@ pub fn prepare_demo<H: Host>(alloc: Global, size: Demo, host: &mut H) -> Result<
     ensures answer { Finds (H.told host.old) planning_of result
         (demo_planning_asked size.seed size.ports) }
     ensures ready { IfOk result IsReadyToSearch }
+    ensures made { IfOk result (λ p. HasNothingToFold p.stored) }
     ensures told { H.told host.new ≡ H.told host.old }
     ensures counts { NoneFell (H.counts host.old) (H.counts host.new) }
     ensures cause { IfErr result (Refuses (H.counts host.old) (H.counts host.new)) }
@@ -42,6 +43,7 @@ fn read_demo<H: Host>(alloc: Global, size: Demo, host: &mut H) -> Result<Plannin
     ensures answer { Finds (H.told host.old) planning_of result
         (generating_asked size.seed size.ports) }
     ensures ready { IfOk result IsReadyToSearch }
+    ensures made { IfOk result (λ p. HasNothingToFold p.stored) }
     ensures told { H.told host.new ≡ H.told host.old }
     ensures counts { NoneFell (H.counts host.old) (H.counts host.new) }
     ensures cause { IfErr result (Refuses (H.counts host.old) (H.counts host.new)) }
@@ -57,6 +59,7 @@ fn generate(alloc: Global, ctx: Ctx, size: Demo) -> Result<Planning, Outcome>
     requires named { IsNamed ctx }
     ensures answer { Found planning_of result (generated_asked size.seed size.ports ctx) }
     ensures ready { IfOk result IsReadyToSearch }
+    ensures made { IfOk result (λ p. HasNothingToFold p.stored) }
     ensures cause { IfErr result RefusesAlways }
 {
     let (start, goal) = make(alloc, size.seed, size.ports)?;

@@ -1,11 +1,10 @@
-//! Whether the start and the goal of a plan are valid, and where they aren't.
+//! Whether what is stored and the goal of a plan are valid, and where they aren't.
 ghost use Rattle.std.specs.Prelude.{◌≡◌, IfErr, IfOk};
 ghost use Rattle.conf_check.specs.Validity.{IsFirstViolation};
 ghost use Rattle.move_core.specs.Contexts.{IsValidIn};
-ghost use Rattle.gcu_requests.specs.Asking.{follows_by};
-ghost use Rattle.gcu_requests.specs.Judging.{answer_of};
+ghost use Rattle.gcu_requests.specs.Judging.{TellsFirst, answer_of};
 ghost use Rattle.gcu_requests.specs.PlanAsked.{IsValidOr};
-ghost use Rattle.gcu_requests.specs.Preparing.{FailsIn, IsRightBy, RefusesAlways, refusal};
+ghost use Rattle.gcu_requests.specs.Preparing.{IsRightBy, RefusesAlways};
 
 use conf_check::{Rule, Violation, check};
 use conf_doc::Config;
@@ -14,11 +13,12 @@ use host_core::Txt;
 use move_core::Ctx;
 use std::alloc::Global;
 use violation_places::{place_of, rule_numbered};
+use yang_model::Models;
 
 /// Which configuration is judged.
 #[derive(Clone, Copy)]
 pub(crate) enum End {
-    /// The one that a plan begins with.
+    /// The one that is stored, or that a plan begins with.
     Start,
     /// The one that it leads to.
     Goal,
@@ -32,19 +32,24 @@ pub(crate) fn judge(alloc: Global, end: End, ctx: &Ctx, config: Config) -> Resul
 {
     match check(&ctx.models, &config) {
         Ok(()) => Ok(config),
-        Err(violation) => Err(invalid(alloc, end, ctx, &config, &violation)),
+        Err(violation) => Err(invalid(alloc, end, &ctx.models, &config, &violation)),
     }
 }
 
 /// The refusal of a violation.
-fn invalid(alloc: Global, end: End, ctx: &Ctx, config: &Config, violation: &Violation) -> Outcome
-    requires { IsFirstViolation ctx.now.models config.now violation.now }
-    ensures answer { FailsIn (refusal result)
-        (follows_by (IsValidOr (answer_of end) ctx.now config.now)) }
+pub(crate) fn invalid(
+    alloc: Global,
+    end: End,
+    models: &Models,
+    config: &Config,
+    violation: &Violation,
+) -> Outcome
+    requires { IsFirstViolation models.now config.now violation.now }
+    ensures answer { TellsFirst end models.now config.now result }
     ensures cause { RefusesAlways result }
 {
     match (
-        place_of(alloc, &ctx.models, config, violation),
+        place_of(alloc, models, config, violation),
         rule_numbered(violation.rule),
     ) {
         (Ok(place), Some(rule)) => answer(end, place, rule),

@@ -16,6 +16,7 @@ mod laws;
 mod model_files;
 mod models;
 mod patch_goal;
+mod patch_input;
 mod plan_checking;
 mod plan_goal;
 mod planning;

@@ -11,7 +11,7 @@ ghost use Rattle.gcu_requests.specs.PatchAsked.{target, target_in, target_shape}
 ghost use Rattle.gcu_requests.specs.PlanAsked.{made_asked};
 ghost use Rattle.gcu_requests.specs.Preparing.{Finds, Refuses, RefusesAlways, refusal};
 
-use crate::previewing::input_patch;
+use crate::patch_input::input_patch;
 use conf_doc::{Config, ShapeError, Tree, config_of_tree, tree_of};
 use gcu_output::Outcome;
 use host_core::{Host, Txt};

@@ -1,27 +1,23 @@
 //! `gcu preview PATCH`: what the patch would make of the stored configuration.
 ghost use Rattle.std.specs.Prelude.{◌≡◌, ◌≤◌, IfErr};
 ghost use Rattle.host_core.specs.Answers.{Gives};
-ghost use Rattle.host_core.specs.Counts.{InputMayRise, NoneFell};
+ghost use Rattle.host_core.specs.Counts.{NoneFell};
 ghost use Rattle.host_core.specs.Crashes.{Elapses, MayLeaveNow};
 ghost use Rattle.host_core.specs.Names.{longest_plain_name};
 ghost use Rattle.conf_doc.specs.Trees.{document};
 ghost use Rattle.patch_core.specs.Operation.{operations};
-ghost use Rattle.patch_core.specs.Reading.{patch as patch_of};
-ghost use Rattle.gcu_requests.specs.PatchAsked.{patch_asked, patch_in, patch_answer};
 ghost use Rattle.gcu_requests.specs.Preparing.{Finds, Refuses, RefusesAlways, refusal};
 ghost use Rattle.gcu_requests.specs.Trees.{document_shape, patched_document, preview_document, target_document};
 
 use crate::intent::test_uninterrupted;
+use crate::patch_input::input_patch;
 use crate::stored::read_stored;
 use conf_doc::{ShapeError, Tree, config_of_tree};
 use conf_store::is_configuration;
 use gcu_output::Outcome;
-use host_core::{Host, HostError, Input, Txt};
-use patch_core::{ApplyError, Patch, PatchError, apply_owned, read_patch};
+use host_core::{Host, Txt};
+use patch_core::{ApplyError, Patch, apply_owned};
 use std::alloc::Global;
-
-/// How many bytes a patch may have.
-pub(crate) const PATCH_LIMIT: u64 = 1_048_576;
 
 /// The tree of the configuration that the patch would leave.
 pub fn preview<H: Host>(alloc: Global, path: &Txt, host: &mut H) -> Result<Tree, Outcome>
@@ -50,58 +46,6 @@ fn patch_stored<H: Host>(alloc: Global, path: &Txt, host: &mut H) -> Result<Tree
     let start = read_stored(alloc, host)?;
     let patch = input_patch(alloc, path, host)?;
     patched_tree(alloc, &patch, start)
-}
-
-/// The patch that an input holds.
-pub(crate) fn input_patch<H: Host>(
-    alloc: Global,
-    path: &Txt,
-    host: &mut H,
-) -> Result<Patch, Outcome>
-    ensures answer { Finds (H.told host.old) operations result (patch_asked path.now) }
-    ensures told { H.told host.new ≡ H.told host.old }
-    ensures counts { InputMayRise (H.counts host.old) (H.counts host.new) }
-    ensures cause { IfErr result (Refuses (H.counts host.old) (H.counts host.new)) }
-    ensures time { Elapses H.moment H.left_since host.old host.new (MayLeaveNow (H.told host.new)) }
-    ensures goes { H.goes_on host.old host.new }
-{
-    match host.input(alloc, path.as_str(), PATCH_LIMIT) {
-        Ok(input) => patch_of_input(alloc, path, input),
-        Err(HostError::Failed) => Err(Outcome::InputFault),
-        Err(HostError::Memory) => Err(Outcome::Memory),
-    }
-}
-
-/// The patch that was found at a path.
-fn patch_of_input(alloc: Global, path: &Txt, input: Input) -> Result<Patch, Outcome>
-    ensures answer { Gives operations refusal result (patch_in path.now input) }
-    ensures cause { IfErr result RefusesAlways }
-{
-    match input {
-        Input::Absent => Err(Outcome::NoInput {
-            path: path.copy(alloc)?,
-        }),
-        Input::TooBig => Err(Outcome::TooBig {
-            path: path.copy(alloc)?,
-            limit: PATCH_LIMIT,
-        }),
-        Input::Bytes(bytes) => patch_of_bytes(alloc, path, bytes.items()),
-    }
-}
-
-/// The patch that an input's bytes hold.
-fn patch_of_bytes(alloc: Global, path: &Txt, bytes: &[u8]) -> Result<Patch, Outcome>
-    ensures answer { Gives operations refusal result (patch_answer path.now (patch_of bytes.now)) }
-    ensures cause { IfErr result RefusesAlways }
-{
-    match read_patch(alloc, bytes) {
-        Ok(patch) => Ok(patch),
-        Err(PatchError::BadJson) => Err(Outcome::BadJson {
-            path: path.copy(alloc)?,
-        }),
-        Err(PatchError::BadPatch { index, why }) => Err(Outcome::BadPatch { index, why }),
-        Err(PatchError::Memory) => Err(Outcome::Memory),
-    }
 }
 
 /// The tree of the configuration after the patch.

@@ -7,7 +7,7 @@ ghost use Rattle.gcu_requests.specs.Preparing.{Finds, Refuses};
 ghost use Rattle.gcu_requests.specs.ReadScripts.{AreFound, GoesOn, IsFound, patched_all};
 ghost use Rattle.gcu_requests.specs.SessionsAsked.{file_of, line_asked, patch_at, patches_asked, unread_asked};
 
-use crate::previewing::input_patch;
+use crate::patch_input::input_patch;
 use gcu_output::Outcome;
 use host_core::{Host, Sequence, Txt};
 use patch_core::Patch;

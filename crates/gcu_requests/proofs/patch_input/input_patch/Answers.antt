@@ -1,5 +1,5 @@
 use Rattle.gcu_requests.proofs.Finding.{always_refuses, found_input}
-use Rattle.gcu_requests.proofs.previewing.input_patch.Goals as goal
+use Rattle.gcu_requests.proofs.patch_input.input_patch.Goals as goal
 
 -- the input was read
 pub returns-in-Ok-clause-answer : goal.returns-in-Ok-clause-answer
