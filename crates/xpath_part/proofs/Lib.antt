@@ -5,5 +5,6 @@ pub mod ReadNesting
 pub mod ReadSteps
 pub mod Spelling
 pub mod Tallies
+pub mod WaysBack
 pub mod Weights
 pub mod WordTexts

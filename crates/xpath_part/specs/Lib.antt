@@ -11,6 +11,7 @@ pub mod Coding
 pub mod Falls
 -- What only private clauses cite.
 pub mod Characters
+pub mod Detours
 pub mod Following
 pub mod Lexing
 pub mod Nesting

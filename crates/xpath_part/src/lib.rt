@@ -2,6 +2,7 @@
 #![tactic(auto)]
 
 mod comparisons;
+mod detours;
 mod errors;
 mod expressions;
 mod following;

@@ -1,12 +1,14 @@
 //! What an expression says of nodes, by a walk that takes no memory and stops at the first node that
 //! decides.
-ghost use Rattle.std.specs.Prelude.{◌≡◌, ◌<◌, [], ◌∷◌, length, map, min, Some, slice_get};
+ghost use Rattle.std.specs.Prelude.{◌≡◌, ◌<◌, [], ◌∷◌, length, map, min, Some, IfSome, IsTrue, slice_get};
 ghost use Rattle.std.specs.List.{list_any};
+ghost use Rattle.xpath_part.specs.Detours.{ComesBack, ComeBack, IsDetour};
 ghost use Rattle.xpath_part.specs.Expression.{predicates_of};
 ghost use Rattle.xpath_part.specs.Expressions.{expression, term_of, path_of};
 ghost use Rattle.xpath_part.specs.Sought.{how_many, is_sought, relates, IsSoughtAtNodes, walk_of, found_below};
 ghost use Rattle.xpath_part.specs.Truth.{truth, value, term_value, texts, some_pair, selected, passes, compare_numbers};
 
+use crate::detours::{Detour, split_detour};
 use crate::nodes::{ITEM, LEAF};
 use crate::sought::{Relation, Sought};
 use crate::{Cmp, Expr, Node, Nodes, Operand, Origin, Step, Walk};
@@ -165,7 +167,7 @@ fn count_selected<N: Nodes>(
 }
 
 /// The same of the nodes to which steps lead from a node. The walk goes on in a loop where a step leads to
-/// one node at most.
+/// one node at most, and where one node is counted and steps come back to it.
 #[cycle(truth)]
 fn count_along<N: Nodes>(
     steps: &[Step],
@@ -186,6 +188,7 @@ fn count_along<N: Nodes>(
     let mut here = at;
     let mut ahead = steps;
     while let Some((step, rest)) = ahead.split_first() {
+        ahead = rest;
         match step {
             Step::Up => {
                 if here == nodes.root() {
@@ -195,21 +198,141 @@ fn count_along<N: Nodes>(
             }
             Step::Stay => {}
             Step::Child { name, tests, .. } => {
-                return count_below(
-                    name.as_str(),
-                    tests.items(),
-                    rest,
-                    nodes,
-                    current,
-                    here,
-                    sought,
-                    limit,
-                );
+                let name = name.as_str();
+                let tests = tests.items();
+                match detour(limit, name, tests, rest, nodes, current, here) {
+                    Detour::Back(tail) => ahead = tail,
+                    Detour::Nowhere => return 0,
+                    Detour::Unknown => {
+                        return count_below(name, tests, rest, nodes, current, here, sought, limit);
+                    }
+                }
             }
         }
-        ahead = rest;
     }
     count_node(nodes, current, here, sought)
+}
+
+/// What comes of steps from those children of a node that have a name and pass tests, where one node is
+/// counted.
+#[cycle(truth)]
+fn detour<'s, N: Nodes>(
+    limit: usize,
+    name: &str,
+    tests: &[Expr],
+    steps: &'s [Step],
+    nodes: &N,
+    current: Node,
+    at: Node,
+) -> Detour<'s>
+    requires current { N.is_node nodes.now current }
+    requires at { N.is_node nodes.now at }
+    ensures { let tree = N.tree nodes.now in IsDetour tree current limit tests.now steps.now
+        (tree.children at name.now) at result }
+{
+    if limit != 1 {
+        return Detour::Unknown;
+    }
+    match split_detour(steps) {
+        None => Detour::Unknown,
+        Some((inner, tail)) => match come_back(name, tests, inner, nodes, current, at) {
+            Some(true) => Detour::Back(tail),
+            Some(false) => Detour::Nowhere,
+            None => Detour::Unknown,
+        },
+    }
+}
+
+/// Whether some of those children of a node that have a name and pass tests come back to it by steps and
+/// one up. None where one of them may lead elsewhere.
+#[cycle(truth)]
+fn come_back<N: Nodes>(
+    name: &str,
+    tests: &[Expr],
+    steps: &[Step],
+    nodes: &N,
+    current: Node,
+    at: Node,
+) -> Option<bool>
+    requires current { N.is_node nodes.now current }
+    requires at { N.is_node nodes.now at }
+    ensures { let tree = N.tree nodes.now in
+        IfSome result (ComeBack tree current tests.now steps.now (tree.children at name.now) at) }
+{
+    let mut some = false;
+    let mut i = 0;
+    let mut next = nodes.first(at, name);
+    while let Some(child) = next {
+        let back = child_comes_back(child, tests, steps, nodes, current, at)?;
+        some |= back;
+        next = nodes.next(at, name, i, child);
+        i += 1;
+    }
+    Some(some)
+}
+
+/// The same of a child.
+#[cycle(truth)]
+fn child_comes_back<N: Nodes>(
+    child: Node,
+    tests: &[Expr],
+    steps: &[Step],
+    nodes: &N,
+    current: Node,
+    at: Node,
+) -> Option<bool>
+    requires current { N.is_node nodes.now current }
+    requires child { N.is_node nodes.now child }
+    ensures { IfSome result
+        (ComeBack (N.tree nodes.now) current tests.now steps.now (child ∷ []) at) }
+{
+    if !pass(tests, nodes, current, child) {
+        return Some(false);
+    }
+    match comes_back(steps, nodes, current, child) {
+        Some(true) => {
+            if is_child(child, nodes, at) {
+                Some(true)
+            } else {
+                None
+            }
+        }
+        Some(false) => Some(false),
+        None => None,
+    }
+}
+
+/// Whether a node is below another one.
+fn is_child<N: Nodes>(child: Node, nodes: &N, at: Node) -> bool
+    requires { N.is_node nodes.now child }
+    ensures { IsTrue result → (N.tree nodes.now).parent child ≡ Some at }
+{
+    child != nodes.root() && nodes.parent(child) == at
+}
+
+/// Whether steps lead from a node to itself. None where they may lead elsewhere.
+#[cycle(truth)]
+fn comes_back<N: Nodes>(steps: &[Step], nodes: &N, current: Node, at: Node) -> Option<bool>
+    requires current { N.is_node nodes.now current }
+    requires at { N.is_node nodes.now at }
+    ensures { IfSome result (ComesBack (N.tree nodes.now) current steps.now at) }
+{
+    let mut ahead = steps;
+    while let Some((step, rest)) = ahead.split_first() {
+        ahead = rest;
+        match step {
+            Step::Up => return None,
+            Step::Stay => {}
+            Step::Child { name, tests, .. } => {
+                match detour(1, name.as_str(), tests.items(), rest, nodes, current, at) {
+                    Detour::Back(tail) => ahead = tail,
+                    Detour::Nowhere => return Some(false),
+                    Detour::Unknown => return None,
+                }
+            }
+        }
+    }
+    Some(true)
 }
 
 /// The same of the nodes to which steps lead from those children of a node that have a name and pass

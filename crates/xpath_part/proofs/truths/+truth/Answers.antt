@@ -1,12 +1,14 @@
-use Rattle.std.proofs.Common.{rules, ◌≡◌, List, ◌<◌, [], ◌∷◌, length, map, min, nat_lt, drop, suc, ◌+◌, ◌-◌, sym, ap, ◌∙◌, arith}
+use Rattle.std.proofs.Common.{rules, ◌≡◌, List, ◌<◌, [], ◌∷◌, length, map, min, nat_lt, drop, suc, ◌+◌, ◌-◌, ◌&&◌, refl, sym, ap, ◌∙◌, arith}
 use Rattle.std.specs.List.{list_any}
 use Rattle.std.proofs.lemmas.Option.{slice_get_within}
-use Rattle.xpath_part.specs.Expression.{Strides, stride, term_weight, path_weight, strides_of, predicates_of}
+use Rattle.xpath_part.specs.Detours.{finds, finds_below}
+use Rattle.xpath_part.specs.Expression.{term_weight, path_weight, strides_of, predicates_of}
 use Rattle.xpath_part.specs.Expressions.{expression, term_of, path_of, step_of}
-use Rattle.xpath_part.specs.Sought.{how_many, is_sought, relates, sought_below}
-use Rattle.xpath_part.specs.Truth.{value, term_value, texts, some_pair, selected, walk, compare_numbers}
+use Rattle.xpath_part.specs.Sought.{is_sought, relates, sought_below}
+use Rattle.xpath_part.specs.Truth.{value, term_value, texts, some_pair, selected, compare_numbers}
 use Rattle.xpath_part.specs.declared.expressions.Step.{Step}
 use Rattle.xpath_part.proofs.Tallies.{any_counted, some_counted, all_counted, compare_up_to, any_texts, below_step, drop_here, drop_end, next_count, last_count, no_more_count}
+use Rattle.xpath_part.proofs.WaysBack.{failing_child, lost_child, child_back, next_found, all_found, cut_weight, count_back, count_nowhere, child_count, child_finds, child_weight}
 use Rattle.xpath_part.proofs.Weights.{strides_weigh, predicates_weigh, test_lighter}
 use Rattle.xpath_part.proofs.truths.+truth.Goals as goal
 
@@ -83,17 +85,135 @@ count_below-returns g t c =
     no_more_count c.args.limit c.loop-next.found _ c.loop-next.invariant.room
     (ap (λ ns. min c.args.limit (c.loop-next.found + below ns)) (sym none) ∙ c.loop-next.invariant.count)
 
-pub count_along-returns-in-Child : goal.count_along-returns-in-Child
-count_along-returns-in-Child g t c =
+pub child_comes_back-pass-requires : goal.child_comes_back-pass-requires
+child_comes_back-pass-requires g t c κs within = (omega (arith, strides_weigh (strides_of (map step_of c.args.steps.now))), search rules)
+
+pub child_comes_back-comes_back-requires : goal.child_comes_back-comes_back-requires
+child_comes_back-comes_back-requires g t c κs within = (omega (arith, predicates_weigh (predicates_of (map expression c.args.tests.now))), search rules)
+
+pub child_comes_back-returns-then-not-pass : goal.child_comes_back-returns-then-not-pass
+child_comes_back-returns-then-not-pass g t c =
+    failing_child (g.N.Nodes.tree c.args.nodes.now) c.args.current c.args.tests.now c.args.steps.now c.args.child c.args.at (sym c.pass.ensures ∙ c.if-not-pass.true)
+
+pub child_comes_back-returns-then-is_child : goal.child_comes_back-returns-then-is_child
+child_comes_back-returns-then-is_child g t c =
+    child_back (g.N.Nodes.tree c.args.nodes.now) c.args.current c.args.tests.now c.args.steps.now c.args.child c.args.at (sym c.pass.ensures ∙ c.if-not-pass.false)
+    (λ test. c.in-Some-true.ensures test ∙ ap (λ b. b && test c.args.child) c.in-Some-true.field-0-test) (c.is_child.ensures c.if-is_child.true)
+
+pub child_comes_back-returns-in-Some-false : goal.child_comes_back-returns-in-Some-false
+child_comes_back-returns-in-Some-false g t c =
+    lost_child (g.N.Nodes.tree c.args.nodes.now) c.args.current c.args.tests.now c.args.steps.now c.args.child c.args.at
+    (λ test. c.in-Some-false.ensures test ∙ ap (λ b. b && test c.args.child) c.in-Some-false.field-0-test)
+
+pub come_back-loop-next-init : goal.come_back-loop-next-init
+come_back-loop-next-init g t c =
+    record { found = λ test tail. refl; here = c.first-next.ensures.first; node = c.first-next.ensures.node; fits = c.first-next.ensures.fits }
+
+pub come_back-overflow_add-i : goal.come_back-overflow_add-i
+come_back-overflow_add-i g t c =
     let tree = g.N.Nodes.tree c.args.nodes.now in
-    let leads = λ (ss : Strides). min c.args.limit (how_many (is_sought tree c.args.current c.args.sought) (walk tree c.args.current ss c.loop-step.here)) in
-    let rest = strides_of (map step_of c.in-Some.rest.now) in
-    c.count_below.ensures
-    ∙ ap (λ es. min c.args.limit (sought_below tree c.args.current c.args.sought (predicates_of es) rest (tree.children c.loop-step.here c.as_str.result.now))) c.items.ensures
-    ∙ ap (λ name. min c.args.limit (sought_below tree c.args.current c.args.sought (predicates_of c.in-Child.tests) rest (tree.children c.loop-step.here name))) c.as_str.ensures.text
-    ∙ ap (λ s. leads (stride (step_of s) rest)) (sym c.in-Child.is)
-    ∙ ap (λ (ss : List Step). leads (strides_of (map step_of ss))) (sym c.in-Some.ensures.cases.0)
-    ∙ ap (λ ns. min c.args.limit (how_many (is_sought tree c.args.current c.args.sought) ns)) c.loop-step.invariant.same
+    let within = slice_get_within (tree.children c.args.at c.args.name.now) c.loop-next.i c.in-Some.child (sym c.loop-next.invariant.here ∙ c.in-Some.is) in
+    omega (arith, within, c.loop-next.invariant.fits)
+
+pub come_back-loop-next-smaller : goal.come_back-loop-next-smaller
+come_back-loop-next-smaller g t c =
+    let tree = g.N.Nodes.tree c.args.nodes.now in
+    let within = slice_get_within (tree.children c.args.at c.args.name.now) c.loop-next.i c.in-Some.child (sym c.loop-next.invariant.here ∙ c.in-Some.is) in
+    omega (arith, within)
+
+pub come_back-loop-next-preserved : goal.come_back-loop-next-preserved
+come_back-loop-next-preserved g t c =
+    let tree = g.N.Nodes.tree c.args.nodes.now in
+    let children = tree.children c.args.at c.args.name.now in
+    record {
+      found = next_found tree c.args.current c.args.tests.now c.args.steps.now _ c.in-Some.child (drop (c.loop-next.i + 1) children) children c.args.at c.loop-next.some c.in_ok-back.back
+          (drop_here children c.loop-next.i c.in-Some.child (sym c.loop-next.invariant.here ∙ c.in-Some.is)) c.in_ok-back.ensures c.loop-next.invariant.found;
+      here = c.next-next.ensures.next;
+      node = c.next-next.ensures.node;
+      fits = c.loop-next.invariant.fits;
+    }
+
+pub come_back-returns : goal.come_back-returns
+come_back-returns g t c =
+    let tree = g.N.Nodes.tree c.args.nodes.now in
+    let children = tree.children c.args.at c.args.name.now in
+    all_found tree c.args.current c.args.tests.now c.args.steps.now _ children c.args.at c.loop-next.some
+    (drop_end children c.loop-next.i (sym c.loop-next.invariant.here ∙ c.in_default.is)) c.loop-next.invariant.found
+
+pub comes_back-loop-step-preserved : goal.comes_back-loop-step-preserved
+comes_back-loop-step-preserved g t c =
+    let tree = g.N.Nodes.tree c.args.nodes.now in
+    let back = c.in-Back.ensures in
+    let weigh = child_weight _ _ _ _ c.in-Some.rest.now _ (ap step_of c.in-Child.is) c.in-Some.ensures.cases.0 in
+    record {
+      same = λ test. sym (back.same test)
+          ∙ child_finds tree c.args.current test c.args.at c.as_str.result.now _ c.items.result.now _ _ _ c.in-Some.rest.now _ _
+          c.as_str.ensures.text c.items.ensures (ap step_of c.in-Child.is) c.in-Some.ensures.cases.0 (c.loop-step.invariant.same test);
+      within = omega (arith, back.less, weigh, c.loop-step.invariant.within);
+    }
+
+pub comes_back-returns-in-Nowhere : goal.comes_back-returns-in-Nowhere
+comes_back-returns-in-Nowhere g t c = λ test.
+    let tree = g.N.Nodes.tree c.args.nodes.now in
+    sym (child_finds tree c.args.current test c.args.at c.as_str.result.now _ c.items.result.now _ _ _ c.in-Some.rest.now _ _
+    c.as_str.ensures.text c.items.ensures (ap step_of c.in-Child.is) c.in-Some.ensures.cases.0 (c.loop-step.invariant.same test))
+    ∙ c.in-Nowhere.ensures.none test
+
+pub count_along-loop-step-preserved : goal.count_along-loop-step-preserved
+count_along-loop-step-preserved g t c =
+    let tree = g.N.Nodes.tree c.args.nodes.now in
+    let sought = is_sought tree c.args.current c.args.sought in
+    let children = tree.children c.loop-step.here c.as_str-name.result.now in
+    let back = c.in-Back.ensures in
+    let weigh = child_weight _ _ _ _ c.in-Some.rest.now _ (ap step_of c.in-Child.is) c.in-Some.ensures.cases.0 in
+    record {
+      same = sym (count_back tree c.args.current c.args.limit c.items-tests.result.now c.in-Some.rest.now c.in-Back.tail.now children c.loop-step.here sought back)
+          ∙ child_count tree c.args.current c.args.limit sought c.loop-step.here c.as_str-name.result.now _ c.items-tests.result.now _ _ _ c.in-Some.rest.now _ _
+          c.as_str-name.ensures.text c.items-tests.ensures (ap step_of c.in-Child.is) c.in-Some.ensures.cases.0 c.loop-step.invariant.same;
+      node = c.loop-step.invariant.node;
+      within = omega (arith, back.less, weigh, c.loop-step.invariant.within);
+    }
+
+pub count_along-returns-in-Nowhere : goal.count_along-returns-in-Nowhere
+count_along-returns-in-Nowhere g t c =
+    let tree = g.N.Nodes.tree c.args.nodes.now in
+    let below = child_count tree c.args.current c.args.limit (is_sought tree c.args.current c.args.sought) c.loop-step.here c.as_str-name.result.now _ c.items-tests.result.now _ _ _ c.in-Some.rest.now _ _
+    c.as_str-name.ensures.text c.items-tests.ensures (ap step_of c.in-Child.is) c.in-Some.ensures.cases.0 c.loop-step.invariant.same in
+    sym (count_nowhere tree c.args.current c.args.limit c.items-tests.result.now c.in-Some.rest.now (tree.children c.loop-step.here c.as_str-name.result.now) (is_sought tree c.args.current c.args.sought) c.in-Nowhere.ensures) ∙ below
+
+pub count_along-returns-in-Unknown : goal.count_along-returns-in-Unknown
+count_along-returns-in-Unknown g t c =
+    let tree = g.N.Nodes.tree c.args.nodes.now in
+    let below = child_count tree c.args.current c.args.limit (is_sought tree c.args.current c.args.sought) c.loop-step.here c.as_str-name.result.now _ c.items-tests.result.now _ _ _ c.in-Some.rest.now _ _
+    c.as_str-name.ensures.text c.items-tests.ensures (ap step_of c.in-Child.is) c.in-Some.ensures.cases.0 c.loop-step.invariant.same in
+    c.count_below.ensures ∙ below
+
+pub detour-come_back-requires : goal.detour-come_back-requires
+detour-come_back-requires g t c κs within =
+    let cut = cut_weight c.args.steps.now c.in-Some.inner.now c.in-Some.tail.now c.in-Some.ensures in
+    (omega (arith, cut, strides_weigh (strides_of (map step_of c.in-Some.tail.now))), search rules)
+
+pub detour-returns-in-Some-true : goal.detour-returns-in-Some-true
+detour-returns-in-Some-true g t c =
+    let tree = g.N.Nodes.tree c.args.nodes.now in
+    let cut = cut_weight c.args.steps.now c.in-Some.inner.now c.in-Some.tail.now c.in-Some.ensures in
+    record {
+      one = omega (arith, c.if-limit-ne1.false);
+      same = λ test. ap (λ (l : List Step). finds_below tree c.args.current test c.args.tests.now l (tree.children c.args.at c.args.name.now)) c.in-Some.ensures
+          ∙ c.in-Some-true.ensures test c.in-Some.tail.now
+          ∙ ap (λ b. b && finds tree c.args.current test c.in-Some.tail.now c.args.at) c.in-Some-true.field-0-test;
+      less = omega (arith, cut);
+    }
+
+pub detour-returns-in-Some-false : goal.detour-returns-in-Some-false
+detour-returns-in-Some-false g t c =
+    let tree = g.N.Nodes.tree c.args.nodes.now in
+    record {
+      one = omega (arith, c.if-limit-ne1.false);
+      none = λ test. ap (λ (l : List Step). finds_below tree c.args.current test c.args.tests.now l (tree.children c.args.at c.args.name.now)) c.in-Some.ensures
+          ∙ c.in-Some-false.ensures test c.in-Some.tail.now
+          ∙ ap (λ b. b && finds tree c.args.current test c.in-Some.tail.now c.args.at) c.in-Some-false.field-0-test;
+    }
 
 pub count_child-pass-requires : goal.count_child-pass-requires
 count_child-pass-requires g t c κs within = (omega (arith, strides_weigh (strides_of (map step_of c.args.rest.now))), search rules)

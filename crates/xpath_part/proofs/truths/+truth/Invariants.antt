@@ -1,8 +1,11 @@
-use Rattle.std.proofs.Common.{◌≡◌, ◌<◌, ◌≤◌, drop, length, map, min, slice_get, ◌+◌, ◌-◌, ◌^◌, IfSome}
+use Rattle.std.proofs.Common.{◌≡◌, ◌<◌, ◌≤◌, Bool, drop, length, map, min, slice_get, ◌+◌, ◌-◌, ◌^◌, IfSome}
+use Rattle.xpath_part.specs.Detours.{finds}
 use Rattle.xpath_part.specs.Expression.{weight, term_weight, path_weight, strides_weight, predicates_weight, strides_of, predicates_of}
 use Rattle.xpath_part.specs.Expressions.{expression, term_of, path_of, step_of}
-use Rattle.xpath_part.specs.Sought.{sought_below, walk_of}
+use Rattle.xpath_part.specs.Sought.{how_many, is_sought, sought_below, walk_of}
 use Rattle.xpath_part.specs.Truth.{value, passes}
+use Rattle.xpath_part.specs.declared.nodes.Node.{Node}
+use Rattle.xpath_part.proofs.WaysBack.{Found}
 use Rattle.xpath_part.proofs.Weights.{sought_weight}
 use Rattle.xpath_part.proofs.truths.+truth.Given as goal
 
@@ -68,10 +71,48 @@ decreases-count_below-loop-next g l = length ((g.N.Nodes.tree l.nodes).children 
 
 abbrev pub invariant-count_along-loop-step : goal.invariant-count_along-loop-step
 invariant-count_along-loop-step g l = let tree = g.N.Nodes.tree l.nodes in record {
-  same : walk_of tree l.current l.ahead l.here ≡ walk_of tree l.current l.fn.steps l.fn.at;
+  same : min l.limit (how_many (is_sought tree l.current l.sought) (walk_of tree l.current l.ahead l.here))
+      ≡ min l.limit (how_many (is_sought tree l.current l.sought) (walk_of tree l.current l.fn.steps l.fn.at));
   node : g.N.Nodes.is_node l.nodes l.here;
   within : strides_weight (strides_of (map step_of l.ahead)) ≤ strides_weight (strides_of (map step_of l.fn.steps));
 }
 
 abbrev pub decreases-count_along-loop-step : goal.decreases-count_along-loop-step
 decreases-count_along-loop-step g l = strides_weight (strides_of (map step_of l.ahead))
+
+abbrev pub decreases-detour : goal.decreases-detour
+decreases-detour g l =
+    predicates_weight (predicates_of (map expression l.tests.now)) + strides_weight (strides_of (map step_of l.steps.now)) + 1
+
+abbrev pub decreases-come_back : goal.decreases-come_back
+decreases-come_back g l =
+    predicates_weight (predicates_of (map expression l.tests.now)) + strides_weight (strides_of (map step_of l.steps.now)) + 1
+
+abbrev pub decreases-child_comes_back : goal.decreases-child_comes_back
+decreases-child_comes_back g l =
+    predicates_weight (predicates_of (map expression l.tests.now)) + strides_weight (strides_of (map step_of l.steps.now))
+
+abbrev pub decreases-comes_back : goal.decreases-comes_back
+decreases-comes_back g l = strides_weight (strides_of (map step_of l.steps.now))
+
+abbrev pub invariant-come_back-loop-next : goal.invariant-come_back-loop-next
+invariant-come_back-loop-next g l =
+    let tree = g.N.Nodes.tree l.nodes in
+    let children = tree.children l.at l.name in record {
+      found : Found tree l.current l.tests l.steps (drop l.i children) children l.at l.some;
+      here : l.next ≡ slice_get children l.i;
+      node : IfSome l.next (g.N.Nodes.is_node l.nodes);
+      fits : length children < 2 ^ 64;
+    }
+
+abbrev pub decreases-come_back-loop-next : goal.decreases-come_back-loop-next
+decreases-come_back-loop-next g l = length ((g.N.Nodes.tree l.nodes).children l.at l.name) - l.i
+
+abbrev pub invariant-comes_back-loop-step : goal.invariant-comes_back-loop-step
+invariant-comes_back-loop-step g l = let tree = g.N.Nodes.tree l.nodes in record {
+  same : (test : Node → Bool) → finds tree l.current test l.ahead l.at ≡ finds tree l.current test l.fn.steps l.at;
+  within : strides_weight (strides_of (map step_of l.ahead)) ≤ strides_weight (strides_of (map step_of l.fn.steps));
+}
+
+abbrev pub decreases-comes_back-loop-step : goal.decreases-comes_back-loop-step
+decreases-comes_back-loop-step g l = strides_weight (strides_of (map step_of l.ahead))
