@@ -1,4 +1,8 @@
 //! A change whose every byte is there before anything is written.
+ghost use Rattle.std.specs.Prelude.{◌≡◌, ◌≤◌};
+ghost use Rattle.conf_store.specs.Files.{last_step};
+ghost use Rattle.change_apply.specs.Change.{steps as steps_of};
+
 use conf_store::Stored;
 use host_core::{Sequence, Txt};
 use move_core::Move;
@@ -49,4 +53,14 @@ impl Model for Ready {
     ghost view = { λ r. change_in r.work };
 
     ghost invariant = { λ r. IsReady r.work };
+}
+
+impl Ready {
+    /// How many steps it has.
+    pub fn steps(&self) -> usize
+        ensures steps { result ≡ steps_of self.now }
+        ensures few { result ≤ last_step }
+    {
+        self.work.steps.len()
+    }
 }

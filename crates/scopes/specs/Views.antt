@@ -4,7 +4,7 @@ use Rattle.std.specs.FinMap.{entries, from_entries, get}
 use Rattle.std.specs.List.{filter_map}
 use Rattle.std.specs.Option.{option_map_or}
 use Rattle.host_core.specs.Crashes.{Left, Image}
-use Rattle.host_core.specs.State.{Files, Pending, settled, dirty, listing, State}
+use Rattle.host_core.specs.State.{Files, IsFront, Pending, settled, dirty, listing, State}
 use Rattle.scopes.specs.Files.{plain_name}
 use Rattle.scopes.specs.declared.scope.Scope.{Scope}
 
@@ -51,8 +51,16 @@ abbrev pub AreOthersSettled : Scope → State → Type 0
 AreOthersSettled scope s =
     (left : Files) → Image s.pending s.files left → AreOthersSame scope s.files left
 
+-- ---- what came out
+
+-- what was printed and restarted in that state is the front of this
+abbrev pub CameBefore : State → List ℕ → List (List ℕ) → Type 0
+CameBefore s output restarts = IsFront s.output output × IsFront s.restarts restarts
+
+-- ---- later
+
 -- A host later, of which only a scope's files were changed in between. Where nothing of the others was
--- pending they are the same, and so they were after a crash at any moment.
+-- pending they are the same, and so they were after a crash at any moment; what came out only grew.
 pub record KeepsOthers
     {H : Type 0} (told : H → Option State) (moment : H → ℕ) (left_since : H → ℕ → Left → Type 0)
     (scope : Scope) (old new : H) : Type 0 where
@@ -65,3 +73,8 @@ pub record KeepsOthers
       IfSome (told old) (λ s. AreOthersSettled scope s → (t : ℕ) (left : Left)
       → t ≤ moment old → left_since new t left
       → left_since old t left ⊎ AreOthersSame scope s.files left.files)
+  pub grows :
+      IfSome (told old) (λ s. IfSome (told new) (λ t. CameBefore s t.output t.restarts))
+  pub holds :
+      IfSome (told old) (λ s. (t : ℕ) (left : Left) → t ≤ moment old → left_since new t left
+      → left_since old t left ⊎ CameBefore s left.output left.restarts)

@@ -1,0 +1,9 @@
+pub mod Counting
+pub mod Fronts
+pub mod Lists
+pub mod Opening
+pub mod Outside
+pub mod Parting
+pub mod Passing
+pub mod Rounds
+pub mod Viewing
