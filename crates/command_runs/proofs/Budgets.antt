@@ -8,9 +8,10 @@ use Rattle.patch_core.specs.Indexes.{digit_0, number}
 use Rattle.plan_options.specs.Decimals.{number_within}
 use Rattle.plan_options.specs.Demos.{demo_of, Demo}
 use Rattle.plan_options.specs.Options.{Options, budget_in, budget_word, dry_run_word, most_budget, options, with_budget}
-use Rattle.plan_options.specs.Targets.{Target, resumed, target_of}
+use Rattle.plan_options.specs.Targets.{resumed}
 use Rattle.plan_options.specs.Words.{is_positional, is_word}
-use Rattle.gcu_requests.specs.Form.{Form, abandon, change, check, check_plan, delete_checkpoint, demo, form, form_of_check, form_of_demo, form_of_interruption, form_of_plan, form_of_resume, list_checkpoints, migrate_checkpoints, plan, planned, preview, save_checkpoint, status, form_of_sessions, operated, rehearse}
+use Rattle.gcu_requests.specs.Form.{Form, abandon, change, check, check_plan, delete_checkpoint, demo, form, form_of_check, form_of_demo, form_of_interruption, form_of_plan, form_of_resume, list_checkpoints, migrate_checkpoints, plan, planned, preview, save_checkpoint, status}
+use Rattle.gcu_requests.specs.Tasks.{Task, reach, task_of}
 
 -- ---- options
 
@@ -59,27 +60,27 @@ options_are_within (a ∷ b ∷ c ∷ d ∷ ws) = tt
 
 -- ---- forms
 
--- a plan is asked for with such a budget
+-- a task is asked for with such a budget
 abbrev pub IsBudgeted : Option Form → Type 0
-IsBudgeted (Some (plan target budget)) = budget ≤ most_budget
-IsBudgeted (Some (change target budget)) = budget ≤ most_budget
+IsBudgeted (Some (plan task budget)) = budget ≤ most_budget
+IsBudgeted (Some (change task budget)) = budget ≤ most_budget
 IsBudgeted other = Unit {0}
 
 either_budgeted : (b : Bool) (x y : Option Form) → IsBudgeted x → IsBudgeted y → IsBudgeted (cond b x y)
 either_budgeted true x y h k = h
 either_budgeted false x y h k = k
 
-planned_budgeted : (target : Target) (o : Option Options) → AreWithin o → IsBudgeted (option_map (planned target) o)
-planned_budgeted target None h = tt
-planned_budgeted target (Some given) h =
-    elim given.dry_run as (λ b. IsBudgeted (Some (cond b (plan target given.budget) (change target given.budget)))) [ true ↦ h | false ↦ h ]
+planned_budgeted : (task : Task) (o : Option Options) → AreWithin o → IsBudgeted (option_map (planned task) o)
+planned_budgeted task None h = tt
+planned_budgeted task (Some given) h =
+    elim given.dry_run as (λ b. IsBudgeted (Some (cond b (plan task given.budget) (change task given.budget)))) [ true ↦ h | false ↦ h ]
 
 plan_budgeted : (command word : List ℕ) (ws : List (List ℕ)) → IsBudgeted (form_of_plan command word ws)
-plan_budgeted command word ws = by (target_of command word)
+plan_budgeted command word ws = by (task_of command word)
   where
-    by : (o : Option Target) → IsBudgeted (option_and_then (λ target. option_map (planned target) (options ws)) o)
+    by : (o : Option Task) → IsBudgeted (option_and_then (λ task. option_map (planned task) (options ws)) o)
     by None = tt
-    by (Some target) = planned_budgeted target (options ws) (options_are_within ws)
+    by (Some task) = planned_budgeted task (options ws) (options_are_within ws)
 
 demo_budgeted : (seed : List ℕ) (ws : List (List ℕ)) → IsBudgeted (form_of_demo seed ws)
 demo_budgeted seed [] = tt
@@ -95,20 +96,12 @@ check_budgeted patch [] = tt
 check_budgeted patch (saved ∷ []) = either_budgeted (is_positional patch && is_positional saved) (Some (check_plan patch saved)) None tt tt
 check_budgeted patch (a ∷ b ∷ ws) = tt
 
-sessions_budgeted : (path : List ℕ) (ws : List (List ℕ)) → IsBudgeted (form_of_sessions path ws)
-sessions_budgeted path ws =
-    either_budgeted (is_positional path) (option_and_then (operated path) (options ws)) None (by (options ws)) tt
-  where
-    by : (o : Option Options) → IsBudgeted (option_and_then (operated path) o)
-    by None = tt
-    by (Some given) = either_budgeted given.dry_run (Some (rehearse path given.budget)) None tt tt
-
 resume_budgeted : (ws : List (List ℕ)) → IsBudgeted (form_of_resume ws)
 resume_budgeted [] = omega arith
 resume_budgeted (a ∷ []) = tt
 resume_budgeted (a ∷ b ∷ []) = by (options (a ∷ b ∷ [])) (options_are_within (a ∷ b ∷ []))
   where
-    by : (o : Option Options) → AreWithin o → IsBudgeted (option_map (λ given. change resumed given.budget) o)
+    by : (o : Option Options) → AreWithin o → IsBudgeted (option_map (λ given. change (reach resumed) given.budget) o)
     by None h = tt
     by (Some given) h = h
 resume_budgeted (a ∷ b ∷ c ∷ ws) = tt
@@ -127,11 +120,8 @@ interruption_budgeted a =
     (either_budgeted (is_word a (codes "abandon")) (Some abandon) None tt tt))
 
 -- the forms of three words or more that come after the first ones
-abbrev operating : (a b : List ℕ) → List (List ℕ) → Option Form
-operating a b ws = cond (is_word a (codes "sessions")) (form_of_sessions b ws) (form_of_plan a b ws)
-
 abbrev checking : (a b : List ℕ) → List (List ℕ) → Option Form
-checking a b ws = cond (is_word a (codes "check-plan")) (form_of_check b ws) (operating a b ws)
+checking a b ws = cond (is_word a (codes "check-plan")) (form_of_check b ws) (form_of_plan a b ws)
 
 abbrev resuming_more : (a b : List ℕ) → List (List ℕ) → Option Form
 resuming_more a b ws = cond (is_word a (codes "resume")) (form_of_resume (b ∷ ws)) (checking a b ws)
@@ -163,5 +153,4 @@ form_is_budgeted (a ∷ b ∷ []) =
 form_is_budgeted (a ∷ b ∷ c ∷ ws) =
     either_budgeted (is_word a (codes "demo")) (form_of_demo b (c ∷ ws)) (resuming_more a b (c ∷ ws)) (demo_budgeted b (c ∷ ws))
     (either_budgeted (is_word a (codes "resume")) (form_of_resume (b ∷ c ∷ ws)) (checking a b (c ∷ ws)) (resume_budgeted (b ∷ c ∷ ws))
-    (either_budgeted (is_word a (codes "check-plan")) (form_of_check b (c ∷ ws)) (operating a b (c ∷ ws)) (check_budgeted b (c ∷ ws))
-    (either_budgeted (is_word a (codes "sessions")) (form_of_sessions b (c ∷ ws)) (form_of_plan a b (c ∷ ws)) (sessions_budgeted b (c ∷ ws)) (plan_budgeted a b (c ∷ ws)))))
+    (either_budgeted (is_word a (codes "check-plan")) (form_of_check b (c ∷ ws)) (form_of_plan a b (c ∷ ws)) (check_budgeted b (c ∷ ws)) (plan_budgeted a b (c ∷ ws))))

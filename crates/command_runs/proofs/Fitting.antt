@@ -26,6 +26,9 @@ use Rattle.move_core.specs.declared.contexts.Ctx.{Ctx}
 use Rattle.move_core.specs.declared.moves.Generated.{Generated}
 use Rattle.move_core.specs.declared.moves.Move.{Move}
 use Rattle.move_core.specs.declared.moves.Move.TheVariants.{Add, Remove, Replace, AddItem, RemoveItem}
+use Rattle.sessions.specs.Runs.{moves_of}
+use Rattle.sessions.specs.Worlds.{Leads}
+use Rattle.sessions.specs.declared.commits.Commit.{Commit}
 use Rattle.command_runs.specs.Works.{FitTheirPlaces, FitsItsPlace}
 
 -- ---- what stands at a place
@@ -198,3 +201,8 @@ module _ (ctx : Ctx) (goal : Config) where
   pub way_fits : (c : Config) (ms : List Move) (x : Config) → IsWay (rulebook ctx) goal c ms x → FitTheirPlaces ms
   way_fits c [] x h = tt
   way_fits c (m ∷ ms) x h = (listed_fits c m h.0.listed, way_fits (moves.step c m) ms x h.1)
+
+-- so do commits, each allowed towards a goal of its own
+pub commits_fit : (ctx : Ctx) (c : Config) (ks : List Commit) (x : Config) → Leads (rulebook ctx) c ks x → FitTheirPlaces (moves_of ks)
+commits_fit ctx c [] x h = tt
+commits_fit ctx c (k ∷ ks) x h = (listed_fits ctx k.goal c k.mv h.0.listed, commits_fit ctx (moves.step c k.mv) ks x h.1)

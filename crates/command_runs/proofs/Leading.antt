@@ -14,7 +14,6 @@ use Rattle.conf_store.specs.Stored.{stored}
 use Rattle.move_core.specs.Plans.{conf}
 use Rattle.move_core.specs.declared.moves.Move.{Move}
 use Rattle.plan_options.specs.Options.{most_budget}
-use Rattle.plan_options.specs.Targets.{Target}
 use Rattle.gcu_output.specs.declared.outcomes.Outcome.{Outcome}
 use Rattle.gcu_requests.specs.Asked.{form_asked, migrate_asked}
 use Rattle.gcu_requests.specs.Form as forms
@@ -22,6 +21,7 @@ use Rattle.gcu_requests.specs.Form.{Form, form}
 use Rattle.gcu_requests.specs.Request as request
 use Rattle.gcu_requests.specs.Request.{Request}
 use Rattle.gcu_requests.specs.ScopeForm.{IsUnscoped}
+use Rattle.gcu_requests.specs.Tasks.{Task}
 use Rattle.gcu_engine.specs.Answers.{Leaves}
 use Rattle.gcu_engine.specs.Crashes.{LeftByForm, LeftOf, LeftOfMigration, LeftWriting}
 use Rattle.gcu_engine.proofs.Closed.{either_stored}
@@ -33,9 +33,10 @@ use Rattle.command_runs.specs.declared.stops.Ran.{Ran}
 use Rattle.command_runs.specs.declared.stops.Stop.{Stop}
 use Rattle.command_runs.proofs.Budgets.{IsBudgeted, form_is_budgeted}
 use Rattle.command_runs.proofs.ChangesLeft.{StandAtWork, left_at_work}
-use Rattle.command_runs.proofs.MigrationsTold.{migration_has_none}
+use Rattle.command_runs.proofs.CommitsTold.{KeepsWorlds}
+use Rattle.command_runs.proofs.MigrationsTold.{migration_has_neither}
 use Rattle.command_runs.proofs.MovesTold.{ReadsTokens}
-use Rattle.command_runs.proofs.Queries.{IsNoChange, prints_told, query_given}
+use Rattle.command_runs.proofs.Queries.{IsNoChange, prints_printed, query_given}
 use Rattle.command_runs.proofs.WorksTold.{unplanned, work_is_one}
 
 -- ---- configurations of a list
@@ -91,12 +92,12 @@ module _ (before : List Config) (s t : State) (output : List ℕ) (start : Confi
   IsLed = (ms : List Move) × (k : ℕ) × IsWork output ms k
       × ((files : Files) → Image t.pending t.files files → StandFor (last_or_next before start ms k) files)
 
-  -- a command that does a plan
-  changes_lead : ReadsTokens → Image t.pending t.files t.files → (from : Target) (budget : ℕ) → budget ≤ most_budget
-      → ((left : Left) → MayLeave t left → LeftByForm (Some (forms.change from budget)) s left) → IsLed
-  changes_lead reads now from budget few left =
+  -- a command that does a task
+  changes_lead : ReadsTokens → KeepsWorlds → Image t.pending t.files t.files → (task : Task) (budget : ℕ) → budget ≤ most_budget
+      → ((left : Left) → MayLeave t left → LeftByForm (Some (forms.change task budget)) s left) → IsLed
+  changes_lead reads keeps now task budget few left =
       let at = λ (files : Files) (image : Image t.pending t.files files).
-      left_at_work from budget few s output (left_with files) printed_is (left (left_with files) (may_leave files image)) in
+      left_at_work keeps task budget few s output (left_with files) printed_is (left (left_with files) (may_leave files image)) in
       let here = at t.files now in (
         here.0,
         here.1,
@@ -129,18 +130,17 @@ module _ (before : List Config) (s t : State) (output : List ℕ) (start : Confi
   left_of (Some forms.migrate_checkpoints) none left h = absurd none
   left_of (Some (forms.save_checkpoint name)) none left h = h
   left_of (Some (forms.delete_checkpoint name)) none left h = h
-  left_of (Some (forms.plan from budget)) none left h = h
-  left_of (Some (forms.change from budget)) none left h = absurd none
+  left_of (Some (forms.plan task budget)) none left h = h
+  left_of (Some (forms.change task budget)) none left h = absurd none
   left_of (Some (forms.demo seed ports)) none left h = h
   left_of (Some (forms.check_plan patch plan)) none left h = h
-  left_of (Some (forms.rehearse path budget)) none left h = h
   left_of (Some forms.status) none left h = h
   left_of (Some forms.abandon) none left h = h
 
-  queries_lead : (now : Image s.pending s.files s.files) (o : Option Form) → IsNoChange o → IsBudgeted o → (old new : Counts) (e : Outcome)
+  queries_lead : KeepsWorlds → (now : Image s.pending s.files s.files) (o : Option Form) → IsNoChange o → IsBudgeted o → (old new : Counts) (e : Outcome)
       → Leaves (form_asked o s) s (Some t) old new e → ((left : Left) → MayLeave t left → LeftByForm o s left) → IsLed
-  queries_lead now o none few old new e (ended, text, is, prints) left =
-      let h = prints_told s ended (form_asked o s) (query_given o none few s) old new e text prints in
+  queries_lead keeps now o none few old new e (ended, text, is, prints) left =
+      let h = prints_printed keeps s ended (form_asked o s) (query_given o none few s) old new e text prints in
       let at : t ≡ printed text ended = cc in
       let whole : s.output ++ output ≡ s.output ++ text =
       sym printed_is ∙ ap (λ (u : State). u.output) at ∙ ap (λ (front : List ℕ). front ++ text) h.1 in
@@ -167,7 +167,7 @@ module _ (before : List Config) (s t : State) (output : List ℕ) (start : Confi
       let whole : s.output ++ output ≡ ended.output ++ text = sym printed_is ∙ ap (λ (u : State). u.output) at in (
         [],
         0,
-        unplanned output (migration_has_none s ended output old new e text whole prints),
+        unplanned output (migration_has_neither s ended output old new e text whole prints),
         λ files image.
             stand_before before start [] 0 files refl (stand_migrated (left_with files) now (left (left_with files) (may_leave files image))),
       )
@@ -177,16 +177,16 @@ abbrev pub ReadsAsIs : Type 0
 ReadsAsIs = (pending : Pending) (now : Files) → Image pending now now
 
 -- each command leads to a list
-promised_leads : ReadsTokens → ReadsAsIs → (before : List Config) (words : List (List ℕ)) (s t : State) (output : List ℕ) (start : Config)
+promised_leads : ReadsTokens → KeepsWorlds → ReadsAsIs → (before : List Config) (words : List (List ℕ)) (s t : State) (output : List ℕ) (start : Config)
     (stands : stored s.files ≡ Ok start) (all : AllStandFor before s) (printed_is : t.output ≡ s.output ++ output)
     (old new : Counts) (e : Outcome) → IsUnscoped words → IsPromised words s t old new e → IsLed before s t output start stands all printed_is
-promised_leads reads now before words s t output start stands all printed_is old new e none promised =
+promised_leads reads keeps now before words s t output start stands all printed_is old new e none promised =
     by (form words) (form_is_budgeted words) (promised.answers none) (promised.left none)
   where
     query : (o : Option Form) → IsNoChange o → IsBudgeted o → Leaves (form_asked o s) s (Some t) old new e → ((left : Left) → MayLeave t left → LeftByForm o s left)
         → IsLed before s t output start stands all printed_is
     query o none few answers left =
-        queries_lead before s t output start stands all printed_is (now s.pending s.files) o none few old new e answers left
+        queries_lead before s t output start stands all printed_is keeps (now s.pending s.files) o none few old new e answers left
 
     by : (o : Option Form) → IsBudgeted o → Leaves (form_asked o s) s (Some t) old new e → ((left : Left) → MayLeave t left → LeftByForm o s left)
         → IsLed before s t output start stands all printed_is
@@ -198,12 +198,11 @@ promised_leads reads now before words s t output start stands all printed_is old
         migrates_lead before s t output start stands all printed_is (now s.pending s.files) old new e answers left
     by (Some (forms.save_checkpoint name)) few answers left = query (Some (forms.save_checkpoint name)) tt few answers left
     by (Some (forms.delete_checkpoint name)) few answers left = query (Some (forms.delete_checkpoint name)) tt few answers left
-    by (Some (forms.plan from budget)) few answers left = query (Some (forms.plan from budget)) tt few answers left
-    by (Some (forms.change from budget)) few answers left =
-        changes_lead before s t output start stands all printed_is reads (now t.pending t.files) from budget few left
+    by (Some (forms.plan task budget)) few answers left = query (Some (forms.plan task budget)) tt few answers left
+    by (Some (forms.change task budget)) few answers left =
+        changes_lead before s t output start stands all printed_is reads keeps (now t.pending t.files) task budget few left
     by (Some (forms.demo seed ports)) few answers left = query (Some (forms.demo seed ports)) tt few answers left
     by (Some (forms.check_plan patch plan)) few answers left = query (Some (forms.check_plan patch plan)) tt few answers left
-    by (Some (forms.rehearse path budget)) few answers left = query (Some (forms.rehearse path budget)) tt few answers left
     by (Some forms.status) few answers left = query (Some forms.status) tt few answers left
     by (Some forms.abandon) few answers left = query (Some forms.abandon) tt few answers left
 
@@ -230,11 +229,11 @@ handed_images now (Some pick) ended files image =
     subst (Image ended.state.pending ended.state.files) (sym image) (picked_may_be_left now pick ended.state.pending ended.state.files)
 
 -- what a command that ran leads to
-pub run_leads : ReadsTokens → ReadsAsIs → (stop : Stop) (host after : MemoryHost) (ran : Ran) → IsRun stop host after ran → IsUnscoped stop.words
+pub run_leads : ReadsTokens → KeepsWorlds → ReadsAsIs → (stop : Stop) (host after : MemoryHost) (ran : Ran) → IsRun stop host after ran → IsUnscoped stop.words
     → (before : List Config) → AllStandFor before host.state → Leads before ran after.state
-run_leads reads now stop host after ran run none before all =
+run_leads reads keeps now stop host after ran run none before all =
     let first = all host.state.files (now host.state.pending host.state.files) in
-    let led = promised_leads reads now before stop.words host.state run.ended.state ran.output.items first.0 first.1 all run.output
+    let led = promised_leads reads keeps now before stop.words host.state run.ended.state ran.output.items first.0 first.1 all run.output
     host.counts run.ended.counts run.result none run.promised in (
       last_or_next before first.0 led.0 led.1,
       record {

@@ -15,7 +15,7 @@ abbrev pub PlansAreTold : Type 0
 PlansAreTold = (ms ns : List Move) → FitTheirPlaces ms → FitTheirPlaces ns
     → length ms < 2 ^ 64 → length ns < 2 ^ 64 → plan_text ms ≡ plan_text ns → ms ≡ ns
 
--- what a command did of a plan is one plan and one number by its output
+-- what a command did step by step is one list of moves and one number by its output
 abbrev pub WorkIsOne : Type 0
 WorkIsOne = (output : List ℕ) (ms ns : List Move) (k j : ℕ)
     → IsWork output ms k → IsWork output ns j → (ms ≡ ns) × (k ≡ j)

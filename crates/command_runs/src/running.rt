@@ -10,6 +10,7 @@ use crate::noting::{hand_on, note_files, note_run};
 use crate::{Ran, Stop};
 use host_core::{MemHost, Memory, crash_may_leave_all};
 use move_core::{Boxes, Kit};
+use operators::scripts_keep_worlds;
 use patch_core::tokens_of_pointer;
 use std::alloc::Global;
 
@@ -34,6 +35,7 @@ pub fn run_stop(
 {
     crash_may_leave_all();
     tokens_of_pointer();
+    scripts_keep_worlds();
     let Stop {
         words,
         faults,

@@ -1,5 +1,5 @@
--- A command that does a plan: what its parts find makes what it answers, and what a crash leaves of it.
-use Rattle.std.proofs.Common.{◌≡◌, ◌≢◌, inl, inr, ℕ, List, [], ◌++◌, get_or, map, append-nil, refl, sym, ap, ◌∙◌, subst, Option, Some, None, Ok, Err, IfSome, option_map}
+-- A command that does a task: what its parts find makes what it answers, and what a crash leaves of it.
+use Rattle.std.proofs.Common.{◌≡◌, ◌≢◌, inl, inr, ℕ, List, [], ◌∷◌, ◌++◌, get_or, map, append-nil, refl, sym, ap, ◌∙◌, subst, Option, Some, None, Ok, Err, IfSome, option_map}
 use Rattle.std.specs.FinMap.{get}
 use Rattle.host_core.specs.Counts.{Counts, NoneFell}
 use Rattle.host_core.specs.Crashes.{Image, Left, MayLeave, MayLeaveNow}
@@ -20,20 +20,26 @@ use Rattle.gcu_output.specs.Lines.{last_line, service_line}
 use Rattle.gcu_output.specs.declared.outcomes.Outcome.{Outcome}
 use Rattle.gcu_output.specs.declared.outcomes.Outcome.TheVariants.{Done, Memory, Usage, InputFault, DiskFault, PrintFault, ServiceFault, Unorderable, Budget, TargetInvalid}
 use Rattle.gcu_requests.specs.Asking.{Asking, a_file, follows, follows_by, ◌>>>◌}
-use Rattle.gcu_requests.specs.ChangeAsked.{settled_asked}
-use Rattle.gcu_requests.specs.IntentAsked.{gate_asked}
+use Rattle.gcu_requests.specs.IntentAsked.{gate_asked, uninterrupted}
 use Rattle.gcu_requests.specs.PlanAsked.{HasKeys, IsElsewhereAs, IsValidOr, made_asked, planning_asked, start_asked}
 use Rattle.gcu_requests.specs.ReadPlannings.{planning_of}
 use Rattle.gcu_requests.specs.Preparing.{FailsIn, Refuses, StandsIn, refusal}
-use Rattle.gcu_requests.specs.Request.{Planning, Request, change}
+use Rattle.gcu_requests.specs.ReadScripts.{operating_of}
+use Rattle.gcu_requests.specs.Request.{Operating, Patched, Planning, Request, Work, change, ctx_of, operated, planned}
 use Rattle.gcu_requests.specs.RulesAsked.{settings_asked}
+use Rattle.gcu_requests.specs.SessionsAsked.{file_of, line_asked, operating_asked, patch_at, patches_asked, script_asked, unread_asked}
+use Rattle.gcu_requests.specs.Tasks.{Task, reach, run_script}
+use Rattle.gcu_requests.specs.WorkAsked.{settled_asked, work_asked}
 use Rattle.gcu_requests.specs.declared.planning.Planning as code
+use Rattle.gcu_requests.specs.declared.session_preparing.Operating as runs
+use Rattle.patch_core.specs.Operation.{Operation}
+use Rattle.session_scripts.specs.declared.script_lines.ScriptLine.{ScriptLine}
 use Rattle.gcu_engine.specs.FaultLines.{AreNamed}
 use Rattle.gcu_engine.specs.Answers.{HasCause, Leaves, Prints, Says}
 use Rattle.gcu_engine.specs.Changing.{AreAcknowledged, IsBegun, IsChangeFor, IsLast, acknowledged, begun}
 use Rattle.gcu_engine.specs.Commands.{AnswersTo}
 use Rattle.gcu_engine.specs.Crashes.{LeftChanged, LeftOfChange}
-use Rattle.gcu_engine.specs.Doing.{ClosesAs, EndsChange, EndsFrom, EndsWork, IsCutInLast, IsCutInStep, IsMissed, IsReadyIn, IsTold, LeftDoing, LeftToChange, LeftToEarly, change_by}
+use Rattle.gcu_engine.specs.Doing.{ClosesAs, EndsChange, EndsFrom, EndsWork, IsCutInLast, IsCutInStep, IsMissed, IsReadyIn, IsReadyRun, IsTold, LeftDoing, LeftToChange, LeftToEarly, change_by}
 use Rattle.gcu_engine.specs.PlanCommands.{IsSolved, RefusesOrEnds}
 use Rattle.gcu_engine.specs.Plannings.{IsPlanFor}
 use Rattle.gcu_engine.specs.declared.change.ReadyChange.{ReadyChange}
@@ -59,6 +65,19 @@ gate_settled (replaced path) s = refl
 gate_settled (rolled_back name) s = refl
 gate_settled resumed s = refl
 
+-- nor do the patches of a script
+unread_settled : (found : List Patched) (path : List ℕ) (ops : Option (List Operation)) (s : State) → unread_asked found path ops (with_pending settled s) ≡ unread_asked found path ops s
+unread_settled found path (Some ops) s = refl
+unread_settled found path None s = refl
+
+line_settled : (found : List Patched) (file : Option (List ℕ)) (s : State) → line_asked found file (with_pending settled s) ≡ line_asked found file s
+line_settled found None s = refl
+line_settled found (Some path) s = unread_settled found path (patch_at path found) s
+
+patches_settled : (found : List Patched) (lines : List ScriptLine) (s : State) → patches_asked found lines (with_pending settled s) ≡ patches_asked found lines s
+patches_settled found [] s = refl
+patches_settled found (line ∷ lines) s = λ i. line_settled found (file_of line) s i >>> λ more. patches_settled more lines s i
+
 -- what is pending tells nothing of what a plan needs
 planning_settled : (from : Target) (budget : ℕ) (s : State) → planning_asked from budget (with_pending settled s) ≡ planning_asked from budget s
 planning_settled from budget s = λ i.
@@ -68,52 +87,80 @@ planning_settled from budget s = λ i.
     (made_settled from start s i >>> λ goal. follows_by (IsElsewhereAs ctx start goal) >>> λ _. follows_by (HasKeys ctx goal) >>> λ _. follows_by (IsValidOr TargetInvalid ctx goal)) >>> λ goal.
     follows (Ok (record { ctx = ctx; start = start; goal = goal; budget = budget }))
 
--- so a change that is ready of the settled folder is ready
-pub ready_before : (from : Target) (budget : ℕ) (s : State) (ready : ReadyChange) → IsReadyIn (planning_asked from budget (with_pending settled s)) (with_pending settled s) ready
-    → IsReadyIn (planning_asked from budget s) s ready
-ready_before from budget s ready h =
-    let given = subst (λ (a : Asking Planning). a.Gives (Ok h.0)) (planning_settled from budget s) h.1 in
-    (h.0, given, record { stands = h.2.stands; start = h.2.start; plan = h.2.plan; restarts = h.2.restarts }, h.3)
+operating_settled : (path : List ℕ) (budget : ℕ) (s : State) → operating_asked path budget (with_pending settled s) ≡ operating_asked path budget s
+operating_settled path budget s = λ i.
+    uninterrupted s >>> λ _.
+    (models_settled s i >>> λ models. settings_asked s >>> λ settings. follows (Ok (record { models = models; settings = settings }))) >>> λ ctx.
+    start_asked ctx s >>> λ start.
+    script_asked path s >>> λ lines.
+    patches_settled [] lines s i >>> λ patches.
+    follows (Ok (record { ctx = ctx; start = start; lines = lines; patches = patches; budget = budget }))
 
--- ---- why there is no plan
+work_settled : (task : Task) (budget : ℕ) (s : State) → work_asked task budget (with_pending settled s) ≡ work_asked task budget s
+work_settled (reach from) budget s = ap (λ (a : Asking Planning). a >>> λ p. follows (Ok (planned p))) (planning_settled from budget s)
+work_settled (run_script path) budget s = ap (λ (a : Asking Operating). a >>> λ p. follows (Ok (operated p))) (operating_settled path budget s)
+
+-- so a change that is ready of the settled folder is ready
+pub ready_before : (task : Task) (budget : ℕ) (s : State) (ready : ReadyChange) → IsReadyIn (work_asked task budget (with_pending settled s)) (with_pending settled s) ready
+    → IsReadyIn (work_asked task budget s) s ready
+ready_before task budget s ready h =
+    let given = subst (λ (a : Asking Work). a.Gives (Ok h.0)) (work_settled task budget s) h.1 in
+    (h.0, given, record { stands = h.2.stands; start = h.2.start; work = h.2.work; restarts = h.2.restarts }, h.3)
+
+-- ---- why there is no work
 
 -- something is refused
-pub refused_missed : (asking : Asking Planning) (e : Outcome) (c d : Counts) → Refuses c d e → FailsIn (refusal e) asking → StandsIn asking e → IsMissed asking e
+pub refused_missed : (asking : Asking Work) (e : Outcome) (c d : Counts) → Refuses c d e → FailsIn (refusal e) asking → StandsIn asking e → IsMissed asking e
 refused_missed asking Unorderable c d never f st = absurd never
 refused_missed asking (Budget n) c d never f st = absurd never
 refused_missed asking other c d h f st = (f, st)
 
 -- none is found
-pub solved_missed : (asking : Asking Planning) (p : code.Planning) (e : Outcome) → asking.Gives (Ok (planning_of p)) → IsSolved p (Err e) → IsMissed asking e
+pub solved_missed : (asking : Asking Work) (p : code.Planning) (e : Outcome) → asking.Gives (Ok (planned (planning_of p))) → IsSolved p (Err e) → IsMissed asking e
 solved_missed asking p Memory given h = (tt, tt)
-solved_missed asking p Unorderable given h = (planning_of p, given, h)
-solved_missed asking p (Budget n) given h = (planning_of p, given, h)
+solved_missed asking p Unorderable given h = (planned (planning_of p), given, h)
+solved_missed asking p (Budget n) given h = (planned (planning_of p), given, h)
 solved_missed asking p other given never = absurd never
 
 -- what is then said, once all is settled
-pub missed_says : (from : Target) (budget : ℕ) (s : State) (e : Outcome) (c d : Counts) → RefusesOrEnds c d e → IsMissed (planning_asked from budget s) e
-    → Says (settled_asked from budget s) s (with_pending settled s) e (last_line e)
-missed_says from budget s Unorderable c d h m = ((change m.0, inr (tt, refl, inr (m.0, m.1, refl)), m.2), inr (inl (inl refl), refl), refl)
-missed_says from budget s (Budget n) c d h m = ((change m.0, inr (tt, refl, inr (m.0, m.1, refl)), m.2), inr (inl (inl refl), refl), refl)
-missed_says from budget s Done c d never m = absurd never
-missed_says from budget s Usage c d never m = absurd never
-missed_says from budget s (PrintFault step) c d never m = absurd never
-missed_says from budget s (ServiceFault step service) c d never m = absurd never
-missed_says from budget s Memory c d h m = (inr (inl (inl refl), refl), refl)
-missed_says from budget s InputFault c d h m = (inr (tt, refl, inl m.1), inr (inl (inl refl), refl), refl)
-missed_says from budget s (DiskFault step) c d h m = (inl (inr refl), inl (h.0, inr (inl (inl refl), refl)), refl)
-missed_says from budget s other c d h m = (inr (tt, refl, inl m.0), inr (inl (inl refl), refl), refl)
+pub missed_says : (task : Task) (budget : ℕ) (s : State) (e : Outcome) (c d : Counts) → RefusesOrEnds c d e → IsMissed (work_asked task budget s) e
+    → Says (settled_asked task budget s) s (with_pending settled s) e (last_line e)
+missed_says task budget s Unorderable c d h m = ((change m.0, inr (tt, refl, inr (m.0, m.1, refl)), m.2), inr (inl (inl refl), refl), refl)
+missed_says task budget s (Budget n) c d h m = ((change m.0, inr (tt, refl, inr (m.0, m.1, refl)), m.2), inr (inl (inl refl), refl), refl)
+missed_says task budget s Done c d never m = absurd never
+missed_says task budget s Usage c d never m = absurd never
+missed_says task budget s (PrintFault step) c d never m = absurd never
+missed_says task budget s (ServiceFault step service) c d never m = absurd never
+missed_says task budget s Memory c d h m = (inr (inl (inl refl), refl), refl)
+missed_says task budget s InputFault c d h m = (inr (tt, refl, inl m.1), inr (inl (inl refl), refl), refl)
+missed_says task budget s (DiskFault step) c d h m = (inl (inr refl), inl (h.0, inr (inl (inl refl), refl)), refl)
+missed_says task budget s other c d h m = (inr (tt, refl, inl m.0), inr (inl (inl refl), refl), refl)
 
-pub missed_before : (from : Target) (budget : ℕ) (s : State) (e : Outcome) → IsMissed (planning_asked from budget (with_pending settled s)) e → IsMissed (planning_asked from budget s) e
-missed_before from budget s e h = subst (λ (a : Asking Planning). IsMissed a e) (planning_settled from budget s) h
+pub missed_before : (task : Task) (budget : ℕ) (s : State) (e : Outcome) → IsMissed (work_asked task budget (with_pending settled s)) e → IsMissed (work_asked task budget s) e
+missed_before task budget s e h = subst (λ (a : Asking Work). IsMissed a e) (work_settled task budget s) h
 
 -- ---- the change that is ready
 
 -- it is that of the plan
-pub change_for : (asking : Asking Planning) (s : State) (p : code.Planning) (ms : List Move) (ready : ReadyChange) → asking.Gives (Ok (planning_of p))
-    → IsPlanFor (planning_of p) ms → StandsFor p.stored s.files → ready.ready ≡ change_by p.ctx.settings p.stored ms → ClosesAs ready.closes ready.ready s.files → IsReadyIn asking s ready
-change_for asking s p ms ready given plan stands is closes =
-    (planning_of p, given, subst (IsChangeFor (planning_of p) s) (sym is) (record { stands = stands; start = refl; plan = plan; restarts = refl }), closes)
+pub change_for : (asking : Asking Work) (s : State) (p : code.Planning) (ms : List Move) (ready : ReadyChange) → asking.Gives (Ok (planned (planning_of p)))
+    → IsPlanFor (planning_of p) ms → StandsFor p.stored s.files → ready.ready ≡ change_by p.ctx.settings p.stored ms → ready.text.items ≡ plan_text ms → ClosesAs ready.closes ready.ready s.files
+    → IsReadyIn asking s ready
+change_for asking s p ms ready given plan stands is text closes =
+    let fits : IsChangeFor (planned (planning_of p)) s (change_by p.ctx.settings p.stored ms) ready.text.items =
+    record { stands = stands; start = refl; work = (plan, text); restarts = refl } in
+    (planned (planning_of p), given, subst (λ (c : Change). IsChangeFor (planned (planning_of p)) s c ready.text.items) (sym is) fits, closes)
+
+-- or that of the commits
+pub commits_for : (asking : Asking Work) (s : State) (p : runs.Operating) (ready : ReadyChange) → asking.Gives (Ok (operated (operating_of p)))
+    → StandsFor p.stored s.files → IsReadyRun p ready → get s.files intent_file ≡ None → IsReadyIn asking s ready
+commits_for asking s p ready given stands is none =
+    let fits : IsChangeFor (operated (operating_of p)) s (change_by p.ctx.settings p.stored is.moves) ready.text.items =
+    record { stands = stands; start = refl; work = is.work; restarts = refl } in (
+      operated (operating_of p),
+      given,
+      subst (λ (c : Change). IsChangeFor (operated (operating_of p)) s c ready.text.items) (sym is.change) fits,
+      subst (λ b. ClosesAs b ready.ready s.files) (sym is.closes) (inr none),
+    )
 
 -- ---- what is answered
 
@@ -140,32 +187,32 @@ last_output c began now (ServiceFault k service) text h = stopped_output c k beg
 last_output c began now other text never = absurd never
 
 -- each restart of a step has the name of its service
-step_named : (p : Planning) (s : State) (c : Change) → IsChangeFor p s c → (k : ℕ) → AreNamed p.ctx.settings (restarts_at c k)
-step_named p s c is k =
-    subst (λ (rs : List (List Restart)). AreNamed p.ctx.settings (get_or rs k [])) (sym is.restarts)
-    (all_named p.ctx.settings (map (services_of p.ctx.settings) c.moves) k)
+step_named : (w : Work) (s : State) (c : Change) (told : List ℕ) → IsChangeFor w s c told → (k : ℕ) → AreNamed (ctx_of w).settings (restarts_at c k)
+step_named w s c told is k =
+    subst (λ (rs : List (List Restart)). AreNamed (ctx_of w).settings (get_or rs k [])) (sym is.restarts)
+    (all_named (ctx_of w).settings (map (services_of (ctx_of w).settings) c.moves) k)
 
-name_is : (p : Planning) (s : State) (c : Change) → IsChangeFor p s c → (k service : ℕ) (began now : State) (h : IsStoppedInRestarts c k service began now)
-    → h.refused.name ≡ name_at p.ctx.settings service
-name_is p s c is k service began now h =
-    step_named p s c is k h.started h.refused h.due h.next ∙ ap (λ (i : ℕ). name_at p.ctx.settings i) h.named
+name_is : (w : Work) (s : State) (c : Change) (told : List ℕ) → IsChangeFor w s c told → (k service : ℕ) (began now : State) (h : IsStoppedInRestarts c k service began now)
+    → h.refused.name ≡ name_at (ctx_of w).settings service
+name_is w s c told is k service began now h =
+    step_named w s c told is k h.started h.refused h.due h.next ∙ ap (λ (i : ℕ). name_at (ctx_of w).settings i) h.named
 
-module _ (asking : Asking Request) (s : State) (p : Planning) (c : Change) (given : asking.Gives (Ok (change p))) (reads : asking.Reads a_file) (is : IsChangeFor p s c) where
-  module _ (began : State) (begins : IsBegun c (begun c s) began) where
+module _ (asking : Asking Request) (s : State) (w : Work) (c : Change) (told : List ℕ) (given : asking.Gives (Ok (change w))) (reads : asking.Reads a_file) (is : IsChangeFor w s c told) where
+  module _ (began : State) (begins : IsBegun c (begun told s) began) where
     last_says : (now : State) (answer : Outcome) (text : List ℕ) → IsLast c began now answer text → Says asking s now answer text
-    last_says now Done text h = (change p, given, (c, is, began, begins, h.0, h.2), h.1)
-    last_says now (DiskFault k) text h = (reads, inr (change p, given, (c, is, began, begins, h.0)), h.1)
+    last_says now Done text h = (change w, given, (c, told, is, began, begins, h.0, h.2), h.1)
+    last_says now (DiskFault k) text h = (reads, inr (change w, given, (c, told, is, began, begins, h.0)), h.1)
     last_says now (ServiceFault k service) text h =
-        (p, given, (c, is, began, begins, h.0), h.1 ∙ ap (λ (n : List ℕ). service_line k service n) (name_is p s c is k service began now h.0))
+        (w, given, (c, told, is, began, begins, h.0), h.1 ∙ ap (λ (n : List ℕ). service_line k service n) (name_is w s c told is k service began now h.0))
     last_says now other text never = absurd never
 
-    -- so many acknowledgements stand behind the plan
+    -- so many acknowledgements stand behind what is printed before
     counted : (now : State) (answer : Outcome) (text : List ℕ) → IsLast c began now answer text → AreAcknowledged (acknowledged c answer) s now
     counted now answer text h =
-        inr (c.moves, last_output c began now answer text h ∙ ap (λ (o : List ℕ). o ++ acks (acknowledged c answer)) (begun_output c (begun c s) began begins))
+        inr (w, c.moves, told, is.work, last_output c began now answer text h ∙ ap (λ (o : List ℕ). o ++ acks (acknowledged c answer)) (begun_output c (begun told s) began begins))
 
   module _ (old new : Counts) (after : Option State) (result : Outcome) where
-    module _ (began : State) (begins : IsBegun c (begun c s) began) where
+    module _ (began : State) (begins : IsBegun c (begun told s) began) where
       told_leaves : IsTold c began after result → Leaves asking s after old new result
       told_leaves h = (h.0, h.1, h.3, says_prints asking s h.0 old new result h.1 (last_says began begins h.0 result h.1 h.2))
 
@@ -177,19 +224,19 @@ module _ (asking : Asking Request) (s : State) (p : Planning) (c : Change) (give
       step_leaves : IsCutInStep c began after result → Leaves asking s after old new result
       step_leaves h =
           let all : Some h.0 ≡ Some (printed [] h.0) = ap (λ (o : List ℕ). Some (record h.0 { output = o })) (sym (append-nil h.0.output)) in
-          (h.0, [], h.4 ∙ all, subst (λ x. Prints asking s h.0 old new x []) (sym h.3) (inr (inl (p, given, inr ((c, is, began, begins, h.2), refl)))))
+          (h.0, [], h.4 ∙ all, subst (λ x. Prints asking s h.0 old new x []) (sym h.3) (inr (inl (w, given, inr ((c, told, is, began, begins, h.2), refl)))))
 
-    plan_leaves : result ≡ PrintFault 0 → PrintsPart (plan_text c.moves) (Some (with_pending settled s)) after → Leaves asking s after old new result
-    plan_leaves fault h =
-        (with_pending settled s, h.0, h.3, subst (λ x. Prints asking s (with_pending settled s) old new x h.0) (sym fault) (inr (inl (p, given, inl (refl, (c, h.1, is, h.2, refl))))))
+    work_front : result ≡ PrintFault 0 → PrintsPart told (Some (with_pending settled s)) after → Leaves asking s after old new result
+    work_front fault h =
+        (with_pending settled s, h.0, h.3, subst (λ x. Prints asking s (with_pending settled s) old new x h.0) (sym fault) (inr (inl (w, given, inl (refl, (c, told, h.1, is, h.2, refl))))))
 
-    work_leaves : EndsFrom c (Some (begun c s)) after old new result → Leaves asking s after old new result
+    work_leaves : EndsFrom c (Some (begun told s)) after old new result → Leaves asking s after old new result
     work_leaves (began, begins, inl h) = told_leaves began begins h
     work_leaves (began, begins, inr (inl h)) = cut_leaves began begins h
     work_leaves (began, begins, inr (inr h)) = step_leaves began begins h
 
-    ends_leaves : EndsChange c (Some (with_pending settled s)) after old new result → Leaves asking s after old new result
-    ends_leaves (inl h) = plan_leaves h.0 h.1
+    ends_leaves : EndsChange told c (Some (with_pending settled s)) after old new result → Leaves asking s after old new result
+    ends_leaves (inl h) = work_front h.0 h.1
     ends_leaves (inr h) = work_leaves h
 
 -- the causes of a print fault in the last line are some since before
@@ -209,26 +256,26 @@ pub from_since : (c : Change) (o after : Option State) (old mid new : Counts) (r
 from_since c None after old mid new result fell h = h
 from_since c (Some told) after old mid new result fell (began, begins, h) = (began, begins, work_since c (Some began) after old mid new result fell h)
 
-pub ends_since : (c : Change) (o after : Option State) (old mid new : Counts) (result : Outcome) → NoneFell old mid
-    → EndsChange c o after mid new result → EndsChange c o after old new result
-ends_since c o after old mid new result fell (inl h) = inl h
-ends_since c o after old mid new result fell (inr h) = inr (from_since c (option_map (printed (plan_text c.moves)) o) after old mid new result fell h)
+pub ends_since : (told : List ℕ) (c : Change) (o after : Option State) (old mid new : Counts) (result : Outcome) → NoneFell old mid
+    → EndsChange told c o after mid new result → EndsChange told c o after old new result
+ends_since told c o after old mid new result fell (inl h) = inl h
+ends_since told c o after old mid new result fell (inr h) = inr (from_since c (option_map (printed told) o) after old mid new result fell h)
 
 -- nothing is told of what isn't told
-untold : (c : Change) (after : Option State) (old new : Counts) (result : Outcome) → EndsChange c None after old new result → after ≡ None
-untold c after old new result (inl h) = h.1.3
-untold c after old new result (inr h) = h
+untold : (told : List ℕ) (c : Change) (after : Option State) (old new : Counts) (result : Outcome) → EndsChange told c None after old new result → after ≡ None
+untold told c after old new result (inl h) = h.1.3
+untold told c after old new result (inr h) = h
 
 -- what is done of a change that is ready is answered
-pub change_answers : (from : Target) (budget : ℕ) (o told after : Option State) (ready : ReadyChange) (old mid new : Counts) (result : Outcome)
-    → IfSome o (λ s. IsReadyIn (planning_asked from budget s) s ready) → told ≡ option_map (with_pending settled) o
-    → EndsChange ready.ready told after mid new result → NoneFell old mid → AnswersTo (settled_asked from budget) o after old new result
-change_answers from budget None told after ready old mid new result in_it is ends fell =
-    untold ready.ready after mid new result (subst (λ t. EndsChange ready.ready t after mid new result) is ends)
-change_answers from budget (Some s) told after ready old mid new result in_it is ends fell =
-    ends_leaves (settled_asked from budget s) s in_it.0 ready.ready (inr (tt, refl, inr (in_it.0, in_it.1, refl))) (inl (inr refl)) in_it.2 old new after result
-    (ends_since ready.ready (Some (with_pending settled s)) after old mid new result fell
-    (subst (λ t. EndsChange ready.ready t after mid new result) is ends))
+pub change_answers : (task : Task) (budget : ℕ) (o told after : Option State) (ready : ReadyChange) (old mid new : Counts) (result : Outcome)
+    → IfSome o (λ s. IsReadyIn (work_asked task budget s) s ready) → told ≡ option_map (with_pending settled) o
+    → EndsChange ready.text.items ready.ready told after mid new result → NoneFell old mid → AnswersTo (settled_asked task budget) o after old new result
+change_answers task budget None told after ready old mid new result in_it is ends fell =
+    untold ready.text.items ready.ready after mid new result (subst (λ t. EndsChange ready.text.items ready.ready t after mid new result) is ends)
+change_answers task budget (Some s) told after ready old mid new result in_it is ends fell =
+    ends_leaves (settled_asked task budget s) s in_it.0 ready.ready ready.text.items (inr (tt, refl, inr (in_it.0, in_it.1, refl))) (inl (inr refl)) in_it.2 old new after result
+    (ends_since ready.text.items ready.ready (Some (with_pending settled s)) after old mid new result fell
+    (subst (λ t. EndsChange ready.text.items ready.ready t after mid new result) is ends))
 
 -- ---- what a crash leaves
 
@@ -245,22 +292,22 @@ abbrev pub KeepsPoints : Type 0
 KeepsPoints =
     (before after : Files) → ((name : List ℕ) → IsOther name → name ≢ intent_file → get after name ≡ get before name) → points after ≡ points before
 
-kept_points : (c : Change) (s : State) (left : Left) → KeepsPoints → LeftChanged c (begun c s) left → points left.files ≡ points s.files
-kept_points c s left law (answered, began, a, b, inl h) = law began.files left.files h.others ∙ begun_points c (begun c s) began b
-kept_points c s left law (answered, began, a, b, inr h) = law began.files left.files h.is.others ∙ begun_points c (begun c s) began b
+kept_points : (told : List ℕ) (c : Change) (s : State) (left : Left) → KeepsPoints → LeftChanged c (begun told s) left → points left.files ≡ points s.files
+kept_points told c s left law (answered, began, a, b, inl h) = law began.files left.files h.others ∙ begun_points c (begun told s) began b
+kept_points told c s left law (answered, began, a, b, inr h) = law began.files left.files h.is.others ∙ begun_points c (begun told s) began b
 
-pub doing_left : (from : Target) (budget : ℕ) → KeepsPoints → (o told : Option State) (ready : ReadyChange) → IfSome o (λ s. IsReadyIn (planning_asked from budget s) s ready)
-    → told ≡ option_map (with_pending settled) o → (left : Left) → IfSome told (λ s. LeftDoing ready.ready s left) → LeftToChange (settled_asked from budget) o left
-doing_left from budget law None told ready in_it is left h = tt
-doing_left from budget law (Some s) told ready in_it is left h = by (subst (λ t. IfSome t (λ s. LeftDoing ready.ready s left)) is h)
+pub doing_left : (task : Task) (budget : ℕ) → KeepsPoints → (o told : Option State) (ready : ReadyChange) → IfSome o (λ s. IsReadyIn (work_asked task budget s) s ready)
+    → told ≡ option_map (with_pending settled) o → (left : Left) → IfSome told (λ s. LeftDoing ready.text.items ready.ready s left) → LeftToChange (settled_asked task budget) o left
+doing_left task budget law None told ready in_it is left h = tt
+doing_left task budget law (Some s) told ready in_it is left h = by (subst (λ t. IfSome t (λ s. LeftDoing ready.text.items ready.ready s left)) is h)
   where
-    given : (settled_asked from budget s).Gives (Ok (change in_it.0))
+    given : (settled_asked task budget s).Gives (Ok (change in_it.0))
     given = inr (tt, refl, inr (in_it.0, in_it.1, refl))
 
-    by : LeftDoing ready.ready (with_pending settled s) left → LeftOfChange (settled_asked from budget s) s left
+    by : LeftDoing ready.text.items ready.ready (with_pending settled s) left → LeftOfChange (settled_asked task budget s) s left
     by (inl h) =
-        inl (h.0, inr (in_it.0, ready.ready, h.1, given, in_it.2, h.2), part_left s h.0 left h.3)
-    by (inr h) = inr (in_it.0, ready.ready, given, in_it.2, h, kept_points ready.ready s left law h)
+        inl (h.0, inr (in_it.0, ready.ready, ready.text.items, h.1, given, in_it.2, h.2), part_left s h.0 left h.3)
+    by (inr h) = inr (in_it.0, ready.ready, ready.text.items, given, in_it.2, h, kept_points ready.text.items ready.ready s left law h)
 
 -- nothing is printed yet
 pub early_left : (asking : State → Asking Request) (o : Option State) (left : Left) → MayLeaveNow o left → LeftToEarly asking o left

@@ -6,8 +6,9 @@ use Rattle.plan_options.specs.Demos.{Demo, demo_of}
 use Rattle.plan_options.specs.Options.{Options, budget_in, budget_word, dry_run_word, options, with_budget}
 use Rattle.plan_options.specs.Targets.{Target, patched, replaced, resumed, rolled_back, target_of}
 use Rattle.plan_options.specs.Words.{is_positional, is_word}
-use Rattle.gcu_requests.specs.Form.{Form, form, form_of_check, form_of_demo, form_of_more, form_of_one, form_of_plan, form_of_resume, form_of_sessions, form_of_two, operated, planned}
+use Rattle.gcu_requests.specs.Form.{Form, form, form_of_check, form_of_demo, form_of_more, form_of_one, form_of_plan, form_of_resume, form_of_two, planned}
 use Rattle.gcu_requests.specs.Form as forms
+use Rattle.gcu_requests.specs.Tasks.{Task, reach, run_script, task_of}
 use Rattle.gcu_engine.specs.Headline.{IsChangeCommand, first_words}
 
 -- ---- words
@@ -91,57 +92,65 @@ not_printed a b given is = subst (TellsDryRun (a ∷ b ∷ [])) (by (is_word a b
 
 -- ---- from the words to the form
 
--- the form of a command that plans towards a target, by its options
-abbrev pub IsPlanForm : Target → List (List ℕ) → Option Form → Type 0
-IsPlanForm from ws f =
+-- the form of a command with a task, by its options
+abbrev pub IsPlanForm : Task → List (List ℕ) → Option Form → Type 0
+IsPlanForm task ws f =
     (f ≡ None)
-    ⊎ (((budget : ℕ) × (f ≡ Some (forms.plan from budget)) × Contains ws dry_run_word)
-    ⊎ ((budget : ℕ) × (f ≡ Some (forms.change from budget)) × (¬ Contains ws dry_run_word)))
+    ⊎ (((budget : ℕ) × (f ≡ Some (forms.plan task budget)) × Contains ws dry_run_word)
+    ⊎ ((budget : ℕ) × (f ≡ Some (forms.change task budget)) × (¬ Contains ws dry_run_word)))
 
-planned_form : (from : Target) (ws : List (List ℕ)) → IsPlanForm from ws (option_map (planned from) (options ws))
-planned_form from ws = by (options ws) refl
+planned_form : (task : Task) (ws : List (List ℕ)) → IsPlanForm task ws (option_map (planned task) (options ws))
+planned_form task ws = by (options ws) refl
   where
-    told : (given : Options) → (dry : Bool) → given.dry_run ≡ dry → TellsDryRun ws dry → IsPlanForm from ws (Some (if dry then forms.plan from given.budget else forms.change from given.budget))
+    told : (given : Options) → (dry : Bool) → given.dry_run ≡ dry → TellsDryRun ws dry → IsPlanForm task ws (Some (if dry then forms.plan task given.budget else forms.change task given.budget))
     told given true is tells = inr (inl (given.budget, refl, tells))
     told given false is tells = inr (inr (given.budget, refl, tells))
 
-    by : (o : Option Options) → options ws ≡ o → IsPlanForm from ws (option_map (planned from) o)
+    by : (o : Option Options) → options ws ≡ o → IsPlanForm task ws (option_map (planned task) o)
     by None is = inl refl
     by (Some given) is = told given given.dry_run refl (options_tell ws given is)
 
 named_form : (from : Target) (word : List ℕ) (ws : List (List ℕ)) (named : Bool)
-    → IsPlanForm from ws (option_and_then (λ t. option_map (planned t) (options ws)) (if not named then None else Some from))
-named_form from word ws true = planned_form from ws
+    → IsPlanForm (reach from) ws (option_and_then (λ t. option_map (planned t) (options ws)) (option_map reach (if not named then None else Some from)))
+named_form from word ws true = planned_form (reach from) ws
 named_form from word ws false = inl refl
 
-no_target : (ws : List (List ℕ)) (named : Bool) → option_and_then (λ (t : Target). option_map (planned t) (options ws)) (if not named then None else None) ≡ None
+no_target : (ws : List (List ℕ)) (named : Bool) → option_and_then (λ (t : Task). option_map (planned t) (options ws)) (option_map reach (if not named then None else None)) ≡ None
 no_target ws true = refl
 no_target ws false = refl
 
-pub plan_form : (from : Target) (ws : List (List ℕ)) → IsPlanForm from ws (form (first_words from ++ ws))
-plan_form (patched path) [] = named_form (patched path) path [] (is_positional path)
-plan_form (patched path) (c ∷ ws) = named_form (patched path) path (c ∷ ws) (is_positional path)
-plan_form (replaced path) [] = named_form (replaced path) path [] (is_positional path)
-plan_form (replaced path) (c ∷ ws) = named_form (replaced path) path (c ∷ ws) (is_positional path)
-plan_form (rolled_back name) [] = named_form (rolled_back name) name [] (is_positional name)
-plan_form (rolled_back name) (c ∷ ws) = named_form (rolled_back name) name (c ∷ ws) (is_positional name)
-plan_form resumed [] = inr (inr (2000, refl, λ (k, low, is). absurd (omega (arith, low))))
-plan_form resumed (a ∷ []) = inl (no_target [] (is_positional a))
-plan_form resumed (a ∷ b ∷ []) = by (options (a ∷ b ∷ [])) refl
+script_form : (path : List ℕ) (ws : List (List ℕ)) (named : Bool)
+    → IsPlanForm (run_script path) ws
+    (option_and_then (λ t. option_map (planned t) (options ws)) (if named then Some (run_script path) else option_map reach (if not named then None else None)))
+script_form path ws true = planned_form (run_script path) ws
+script_form path ws false = inl refl
+
+pub plan_form : (task : Task) (ws : List (List ℕ)) → IsPlanForm task ws (form (first_words task ++ ws))
+plan_form (reach (patched path)) [] = named_form (patched path) path [] (is_positional path)
+plan_form (reach (patched path)) (c ∷ ws) = named_form (patched path) path (c ∷ ws) (is_positional path)
+plan_form (reach (replaced path)) [] = named_form (replaced path) path [] (is_positional path)
+plan_form (reach (replaced path)) (c ∷ ws) = named_form (replaced path) path (c ∷ ws) (is_positional path)
+plan_form (reach (rolled_back name)) [] = named_form (rolled_back name) name [] (is_positional name)
+plan_form (reach (rolled_back name)) (c ∷ ws) = named_form (rolled_back name) name (c ∷ ws) (is_positional name)
+plan_form (reach resumed) [] = inr (inr (2000, refl, λ (k, low, is). absurd (omega (arith, low))))
+plan_form (reach resumed) (a ∷ []) = inl (no_target [] (is_positional a))
+plan_form (reach resumed) (a ∷ b ∷ []) = by (options (a ∷ b ∷ [])) refl
   where
-    by : (o : Option Options) → options (a ∷ b ∷ []) ≡ o → IsPlanForm resumed (a ∷ b ∷ []) (option_map (λ given. forms.change resumed given.budget) o)
+    by : (o : Option Options) → options (a ∷ b ∷ []) ≡ o → IsPlanForm (reach resumed) (a ∷ b ∷ []) (option_map (λ given. forms.change (reach resumed) given.budget) o)
     by None is = inl refl
     by (Some given) is =
         inr (inr (given.budget, refl, not_printed a b given is))
-plan_form resumed (a ∷ b ∷ c ∷ ws) = inl refl
+plan_form (reach resumed) (a ∷ b ∷ c ∷ ws) = inl refl
+plan_form (run_script path) [] = script_form path [] (is_positional path)
+plan_form (run_script path) (c ∷ ws) = script_form path (c ∷ ws) (is_positional path)
 
 -- ---- from the form to the words
 
--- the words of a form: of a checkpoint that is saved or deleted, and of a plan that is done
+-- the words of a form: of a checkpoint that is saved or deleted, and of a task that is done
 abbrev pub IsFormOf : List (List ℕ) → Form → Type 0
 IsFormOf words (forms.save_checkpoint name) = words ≡ codes "checkpoint" ∷ name ∷ []
 IsFormOf words (forms.delete_checkpoint name) = words ≡ codes "delete-checkpoint" ∷ name ∷ []
-IsFormOf words (forms.change from budget) = IsChangeCommand from words
+IsFormOf words (forms.change task budget) = IsChangeCommand task words
 IsFormOf words other = Unit {0}
 
 module _ (words : List (List ℕ)) where
@@ -149,44 +158,59 @@ module _ (words : List (List ℕ)) where
   branch true x y h other = h refl
   branch false x y h other = other
 
-named_words : (command word : List ℕ) (t : Target) → target_of command word ≡ Some t → command ∷ word ∷ [] ≡ first_words t
+named_words : (command word : List ℕ) (t : Target) → target_of command word ≡ Some t → command ∷ word ∷ [] ≡ first_words (reach t)
 named_words command word t e = by (is_positional word) e
   where
     unnamed : (a b : Bool) → ((if a then Some (replaced word) else if b then Some (rolled_back word) else None) ≡ Some t)
-        → is_word command (codes "replace") ≡ a → is_word command (codes "rollback") ≡ b → command ∷ word ∷ [] ≡ first_words t
+        → is_word command (codes "replace") ≡ a → is_word command (codes "rollback") ≡ b → command ∷ word ∷ [] ≡ first_words (reach t)
     unnamed true b e is other =
         let same : replaced word ≡ t = cc in
-        ap (λ c. c ∷ word ∷ []) (same_word command (codes "replace") is) ∙ ap first_words same
+        ap (λ c. c ∷ word ∷ []) (same_word command (codes "replace") is) ∙ ap (λ (x : Target). first_words (reach x)) same
     unnamed false true e other is =
         let same : rolled_back word ≡ t = cc in
-        ap (λ c. c ∷ word ∷ []) (same_word command (codes "rollback") is) ∙ ap first_words same
+        ap (λ c. c ∷ word ∷ []) (same_word command (codes "rollback") is) ∙ ap (λ (x : Target). first_words (reach x)) same
     unnamed false false e other none = absurd cc
 
     patching : (a : Bool) → (if a then Some (patched word) else if is_word command (codes "replace") then Some (replaced word) else if is_word command (codes "rollback") then Some (rolled_back word) else None) ≡ Some t
-        → is_word command (codes "apply-patch") ≡ a → command ∷ word ∷ [] ≡ first_words t
+        → is_word command (codes "apply-patch") ≡ a → command ∷ word ∷ [] ≡ first_words (reach t)
     patching true e is =
         let same : patched word ≡ t = cc in
-        ap (λ c. c ∷ word ∷ []) (same_word command (codes "apply-patch") is) ∙ ap first_words same
+        ap (λ c. c ∷ word ∷ []) (same_word command (codes "apply-patch") is) ∙ ap (λ (x : Target). first_words (reach x)) same
     patching false e other = unnamed (is_word command (codes "replace")) (is_word command (codes "rollback")) e refl refl
 
     by : (positional : Bool) → (if not positional then None else if is_word command (codes "apply-patch") then Some (patched word) else if is_word command (codes "replace") then Some (replaced word) else if is_word command (codes "rollback") then Some (rolled_back word) else None) ≡ Some t
-        → command ∷ word ∷ [] ≡ first_words t
+        → command ∷ word ∷ [] ≡ first_words (reach t)
     by true e = patching (is_word command (codes "apply-patch")) e refl
     by false e = absurd cc
 
-plan_words : (command word : List ℕ) (ws : List (List ℕ)) → IfSome (form_of_plan command word ws) (IsFormOf (command ∷ word ∷ ws))
-plan_words command word ws = by (target_of command word) refl
+task_words : (command word : List ℕ) (t : Task) → task_of command word ≡ Some t → command ∷ word ∷ [] ≡ first_words t
+task_words command word t e = by (is_word command (codes "sessions")) (is_positional word) refl e
   where
-    told : (t : Target) (given : Options) → target_of command word ≡ Some t → (dry : Bool) → TellsDryRun ws dry
+    reached : (o : Option Target) → target_of command word ≡ o → option_map reach o ≡ Some t → command ∷ word ∷ [] ≡ first_words t
+    reached None is e = absurd cc
+    reached (Some x) is e = let same : reach x ≡ t = cc in named_words command word x is ∙ ap first_words same
+
+    by : (a b : Bool) → is_word command (codes "sessions") ≡ a → (if a && b then Some (run_script word) else option_map reach (target_of command word)) ≡ Some t
+        → command ∷ word ∷ [] ≡ first_words t
+    by true true is e =
+        let same : run_script word ≡ t = cc in
+        ap (λ c. c ∷ word ∷ []) (same_word command (codes "sessions") is) ∙ ap first_words same
+    by true false is e = reached (target_of command word) refl e
+    by false b is e = reached (target_of command word) refl e
+
+plan_words : (command word : List ℕ) (ws : List (List ℕ)) → IfSome (form_of_plan command word ws) (IsFormOf (command ∷ word ∷ ws))
+plan_words command word ws = by (task_of command word) refl
+  where
+    told : (t : Task) (given : Options) → task_of command word ≡ Some t → (dry : Bool) → TellsDryRun ws dry
         → IsFormOf (command ∷ word ∷ ws) (if dry then forms.plan t given.budget else forms.change t given.budget)
     told t given named true tells = tt
-    told t given named false tells = (ws, ap (λ c. c ++ ws) (named_words command word t named), tells)
+    told t given named false tells = (ws, ap (λ c. c ++ ws) (task_words command word t named), tells)
 
-    with_options : (t : Target) → target_of command word ≡ Some t → (o : Option Options) → options ws ≡ o → IfSome (option_map (planned t) o) (IsFormOf (command ∷ word ∷ ws))
+    with_options : (t : Task) → task_of command word ≡ Some t → (o : Option Options) → options ws ≡ o → IfSome (option_map (planned t) o) (IsFormOf (command ∷ word ∷ ws))
     with_options t named None is = tt
     with_options t named (Some given) is = told t given named given.dry_run (options_tell ws given is)
 
-    by : (o : Option Target) → target_of command word ≡ o → IfSome (option_and_then (λ t. option_map (planned t) (options ws)) o) (IsFormOf (command ∷ word ∷ ws))
+    by : (o : Option Task) → task_of command word ≡ o → IfSome (option_and_then (λ t. option_map (planned t) (options ws)) o) (IsFormOf (command ∷ word ∷ ws))
     by None named = tt
     by (Some t) named = with_options t named (options ws) refl
 
@@ -196,7 +220,7 @@ resume_words [] = ([], refl, λ (k, low, is). absurd (omega (arith, low)))
 resume_words (a ∷ []) = tt
 resume_words (a ∷ b ∷ []) = by (options (a ∷ b ∷ [])) refl
   where
-    by : (o : Option Options) → options (a ∷ b ∷ []) ≡ o → IfSome (option_map (λ given. forms.change resumed given.budget) o) (IsFormOf (codes "resume" ∷ a ∷ b ∷ []))
+    by : (o : Option Options) → options (a ∷ b ∷ []) ≡ o → IfSome (option_map (λ given. forms.change (reach resumed) given.budget) o) (IsFormOf (codes "resume" ∷ a ∷ b ∷ []))
     by None is = tt
     by (Some given) is = (a ∷ b ∷ [], refl, not_printed a b given is)
 resume_words (a ∷ b ∷ c ∷ ws) = tt
@@ -214,13 +238,6 @@ check_words : (words ws : List (List ℕ)) (patch : List ℕ) → IfSome (form_o
 check_words words [] patch = tt
 check_words words (saved ∷ []) patch = branch words (is_positional patch && is_positional saved) _ _ (λ is. tt) tt
 check_words words (a ∷ b ∷ ws) patch = tt
-
-sessions_words : (words ws : List (List ℕ)) (path : List ℕ) → IfSome (form_of_sessions path ws) (IsFormOf words)
-sessions_words words ws path = branch words (is_positional path) (option_and_then (operated path) (options ws)) None (λ is. by (options ws)) tt
-  where
-    by : (o : Option Options) → IfSome (option_and_then (operated path) o) (IsFormOf words)
-    by None = tt
-    by (Some given) = branch words given.dry_run (Some (forms.rehearse path given.budget)) None (λ is. tt) tt
 
 -- what is behind the name of a command
 behind : (command name : List ℕ) (ws : List (List ℕ)) (o : Option Form) → is_word command name ≡ true → IfSome o (IsFormOf (name ∷ ws)) → IfSome o (IsFormOf (command ∷ ws))
@@ -249,8 +266,7 @@ more_words a b ws =
     branch (a ∷ b ∷ ws) (is_word a (codes "demo")) _ _ (λ is. demo_words (a ∷ b ∷ ws) ws b)
     (branch (a ∷ b ∷ ws) (is_word a (codes "resume")) _ _ (λ is. behind a (codes "resume") (b ∷ ws) (form_of_resume (b ∷ ws)) is (resume_words (b ∷ ws)))
     (branch (a ∷ b ∷ ws) (is_word a (codes "check-plan")) _ _ (λ is. check_words (a ∷ b ∷ ws) ws b)
-    (branch (a ∷ b ∷ ws) (is_word a (codes "sessions")) _ _ (λ is. sessions_words (a ∷ b ∷ ws) ws b)
-    (plan_words a b ws))))
+    (plan_words a b ws)))
 
 pub form_words : (words : List (List ℕ)) → IfSome (form words) (IsFormOf words)
 form_words [] = tt

@@ -27,7 +27,7 @@ finishes (request.demo p ports) = inl refl
 finishes (request.status intent steps) = refl
 finishes request.abandon = refl
 finishes (request.accept_plan count) = refl
-finishes (request.rehearse p) = refl
+finishes (request.plan_scopes plans) = refl
 
 -- so is a plan that isn't found
 unsolved_finishes : (r : Request) (e : Outcome) → IsUnsolved r e → Finishes r e
@@ -43,7 +43,7 @@ unsolved_finishes (request.delete_checkpoint name) e never = absurd never
 unsolved_finishes (request.status intent steps) e never = absurd never
 unsolved_finishes request.abandon e never = absurd never
 unsolved_finishes (request.accept_plan count) e never = absurd never
-unsolved_finishes (request.rehearse p) e never = absurd never
+unsolved_finishes (request.plan_scopes plans) e never = absurd never
 
 module _ (asking : Asking Request) (s now : State) (old new : Counts) (none : NoneRose old new) where
   says_completes : (result : Outcome) (output : List ℕ) → HasCause old new result → Says asking s now result output → Complete asking result

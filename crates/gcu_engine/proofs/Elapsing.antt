@@ -3,14 +3,14 @@ use Rattle.std.proofs.Common.{◌≡◌, ◌≤◌, inl, inr, Bool, true, false,
 use Rattle.host_core.specs.Crashes.{Elapses, LeavesOnly, Left, MayLeave, MayLeaveNow}
 use Rattle.host_core.specs.State.{State, printed}
 use Rattle.host_core.proofs.Runs.{begins, goes_on, weaker}
-use Rattle.plan_options.specs.Targets.{Target}
+use Rattle.gcu_requests.specs.Tasks.{Task}
 use Rattle.gcu_output.specs.Lines.{last_line}
 use Rattle.gcu_output.specs.Printing.{LeftInText, LeftInTold, may_have_written}
 use Rattle.gcu_output.specs.declared.outcomes.Outcome.{Outcome}
 use Rattle.gcu_output.specs.declared.outcomes.Outcome.TheVariants.{Memory}
 use Rattle.gcu_requests.specs.Asked.{asked, form_asked, migrate_asked}
 use Rattle.gcu_requests.specs.Asking.{Asking}
-use Rattle.gcu_requests.specs.ChangeAsked.{change_asked}
+use Rattle.gcu_requests.specs.WorkAsked.{change_asked}
 use Rattle.gcu_requests.specs.Form.{Form, change, form, migrate_checkpoints}
 use Rattle.gcu_requests.specs.Request as request
 use Rattle.gcu_requests.specs.Request.{Request}
@@ -46,7 +46,7 @@ left_here asking None left h = tt
 left_here asking (Some s) left h = ([], no_front (asking s) s, inl (with_none s left h))
 
 -- what may be left while a text is printed that is said
-said_left : (asking : State → Asking Request) (before : Option State) (answer : Outcome) (text : List ℕ) → IfSome before (λ s. Says (asking s) s s answer text)
+pub said_left : (asking : State → Asking Request) (before : Option State) (answer : Outcome) (text : List ℕ) → IfSome before (λ s. Says (asking s) s s answer text)
     → (left : Left) → LeftInText text before left → LeftTo asking before left
 said_left asking None answer text says left h = tt
 said_left asking (Some s) answer text says left (inl (part, rest, is, may)) = (part, said_front (asking s) s s answer text part rest says refl is, inl may)
@@ -140,11 +140,11 @@ module _ {H : Type 0} (moment : H → ℕ) (left_since : H → ℕ → Left → 
       (λ left h. left_by (LeftTo (λ s. form_asked f s)) words f before left is (λ s. gives s left) h) run
 
   -- so may what is left of a change
-  pub changes_by : (words : List (List ℕ)) (from : Target) (budget : ℕ) (old new : H) (before : Option State) → Some (change from budget) ≡ form words
-      → LeavesOnly moment left_since old new (LeftToChange (change_asked from budget) before) → LeavesOnly moment left_since old new (LeftMeanwhile words before)
-  changes_by words from budget old new before is run =
-      weaker moment left_since old new (LeftToChange (change_asked from budget) before) (LeftMeanwhile words before)
-      (λ left h. left_by (LeftToChange (change_asked from budget)) words (Some (change from budget)) before left is (λ s changed. changed) h) run
+  pub changes_by : (words : List (List ℕ)) (task : Task) (budget : ℕ) (old new : H) (before : Option State) → Some (change task budget) ≡ form words
+      → LeavesOnly moment left_since old new (LeftToChange (change_asked task budget) before) → LeavesOnly moment left_since old new (LeftMeanwhile words before)
+  changes_by words task budget old new before is run =
+      weaker moment left_since old new (LeftToChange (change_asked task budget) before) (LeftMeanwhile words before)
+      (λ left h. left_by (LeftToChange (change_asked task budget)) words (Some (change task budget)) before left is (λ s changed. changed) h) run
 
   -- and of a migration
   pub migrates_by : (words : List (List ℕ)) (old new : H) (before : Option State) → Some migrate_checkpoints ≡ form words

@@ -12,21 +12,26 @@ use Rattle.move_core.specs.declared.contexts.Ctx.{Ctx}
 use Rattle.plan_options.specs.Targets.{Target}
 use Rattle.gcu_requests.specs.Form.{Form, form}
 use Rattle.gcu_requests.specs.Form as forms
+use Rattle.gcu_requests.specs.Tasks.{Task, reach, run_script}
 use Rattle.gcu_engine.specs.Contents.{IsContextIn, IsMade}
-use Rattle.gcu_engine.specs.Headline.{AddsPoint, HasNoOrder, HasWholePoints, IsBefore, IsChangeCommand, IsLastOrNext, IsPlanCommand, RemovesPoint}
+use Rattle.gcu_engine.specs.Headline.{AddsPoint, HasNoOrder, HasWholePoints, IsBefore, IsChangeCommand, IsLastOrNext, IsTaskCommand, RemovesPoint}
 use Rattle.gcu_engine.proofs.CommandWords.{IsFormOf, IsPlanForm, form_words, plan_form}
 
 -- ---- by its form
 
--- the target of a command that plans
-abbrev pub target_in : Option Form → Option Target
-target_in (Some (forms.plan from budget)) = Some from
-target_in (Some (forms.change from budget)) = Some from
-target_in other = None
+-- the task of a command that has one
+abbrev pub task_in : Option Form → Option Task
+task_in (Some (forms.plan task budget)) = Some task
+task_in (Some (forms.change task budget)) = Some task
+task_in other = None
 
 -- where a plan begins and where it is to arrive
+abbrev pub IsPlannedBy : State → (start goal : Config) → Task → Type 0
+IsPlannedBy s start goal (reach from) = (stored s.files ≡ Ok start) × IsMade from s start goal
+IsPlannedBy s start goal (run_script path) = Unit {0}
+
 abbrev pub IsPlanned : Option Form → State → (start goal : Config) → Type 0
-IsPlanned f s start goal = IfSome (target_in f) (λ from. (stored s.files ≡ Ok start) × IsMade from s start goal)
+IsPlanned f s start goal = IfSome (task_in f) (IsPlannedBy s start goal)
 
 -- no sequence of allowed moves leads from the start to the goal
 pub record LacksOrder (f : Option Form) (s : State) : Type 0 where
@@ -37,9 +42,9 @@ pub record LacksOrder (f : Option Form) (s : State) : Type 0 where
   pub planned : IsPlanned f s start goal
   pub none : ¬ IsReachable (rulebook ctx) goal start goal
 
--- what the folder stands for after a crash: a command that does no plan leaves that as before
+-- what the folder stands for after a crash: a command that does no task leaves that as before
 abbrev pub StandsAfter : Option Form → State → Left → Type 0
-StandsAfter (Some (forms.change from budget)) s left = IsBefore from s left ⊎ IsLastOrNext from s left
+StandsAfter (Some (forms.change task budget)) s left = IsBefore task s left ⊎ IsLastOrNext task s left
 StandsAfter other s left = stored left.files ≡ stored s.files
 
 -- the one checkpoint that a command adds, with the stored configuration, or removes
@@ -57,22 +62,22 @@ PointsAfter f s files = (points files ≡ points s.files) ⊎ IsOneChange f s fi
 
 -- ---- by its words
 
--- words that begin as a command that plans are none, or plan towards that target
-pub target_of_words : (from : Target) (words : List (List ℕ)) → IsPlanCommand from words → (form words ≡ None) ⊎ (target_in (form words) ≡ Some from)
-target_of_words from words (options, is) =
-    by (form words) (subst (λ (ws : List (List ℕ)). IsPlanForm from options (form ws)) (sym is) (plan_form from options))
+-- words that begin as a command with a task are none, or have that task
+pub task_of_words : (task : Task) (words : List (List ℕ)) → IsTaskCommand task words → (form words ≡ None) ⊎ (task_in (form words) ≡ Some task)
+task_of_words task words (options, is) =
+    by (form words) (subst (λ (ws : List (List ℕ)). IsPlanForm task options (form ws)) (sym is) (plan_form task options))
   where
-    by : (f : Option Form) → IsPlanForm from options f → (f ≡ None) ⊎ (target_in f ≡ Some from)
+    by : (f : Option Form) → IsPlanForm task options f → (f ≡ None) ⊎ (task_in f ≡ Some task)
     by f (inl none) = inl none
-    by f (inr (inl (budget, e, there))) = inr (ap target_in e)
-    by f (inr (inr (budget, e, not))) = inr (ap target_in e)
+    by f (inr (inl (budget, e, there))) = inr (ap task_in e)
+    by f (inr (inr (budget, e, not))) = inr (ap task_in e)
 
--- words that begin as a command that does a plan are none, or do one towards that target
-pub change_of_words : (from : Target) (words : List (List ℕ)) → IsChangeCommand from words → (form words ≡ None) ⊎ ((budget : ℕ) × (form words ≡ Some (forms.change from budget)))
-change_of_words from words (options, is, done) =
-    by (form words) (subst (λ (ws : List (List ℕ)). IsPlanForm from options (form ws)) (sym is) (plan_form from options))
+-- words that begin as a command that does a task are none, or do that one
+pub change_of_words : (task : Task) (words : List (List ℕ)) → IsChangeCommand task words → (form words ≡ None) ⊎ ((budget : ℕ) × (form words ≡ Some (forms.change task budget)))
+change_of_words task words (options, is, done) =
+    by (form words) (subst (λ (ws : List (List ℕ)). IsPlanForm task options (form ws)) (sym is) (plan_form task options))
   where
-    by : (f : Option Form) → IsPlanForm from options f → (f ≡ None) ⊎ ((budget : ℕ) × (f ≡ Some (forms.change from budget)))
+    by : (f : Option Form) → IsPlanForm task options f → (f ≡ None) ⊎ ((budget : ℕ) × (f ≡ Some (forms.change task budget)))
     by f (inl none) = inl none
     by f (inr (inl (budget, e, there))) = absurd (done there)
     by f (inr (inr (budget, e, not))) = inr (budget, e)
@@ -83,20 +88,20 @@ order_by_words words s some lacks = record {
   read = lacks.read;
   start = lacks.start;
   goal = lacks.goal;
-  planned = λ from plans. by from (target_of_words from words plans);
+  planned = λ from plans. by from (task_of_words (reach from) words plans);
   none = lacks.none;
 }
   where
-    by : (from : Target) → (form words ≡ None) ⊎ (target_in (form words) ≡ Some from) → (stored s.files ≡ Ok lacks.start) × IsMade from s lacks.start lacks.goal
+    by : (from : Target) → (form words ≡ None) ⊎ (task_in (form words) ≡ Some (reach from)) → (stored s.files ≡ Ok lacks.start) × IsMade from s lacks.start lacks.goal
     by from (inl none) = absurd (some none)
-    by from (inr e) = subst (λ (o : Option Target). IfSome o (λ t. (stored s.files ≡ Ok lacks.start) × IsMade t s lacks.start lacks.goal)) e lacks.planned
+    by from (inr e) = subst (λ (o : Option Task). IfSome o (IsPlannedBy s lacks.start lacks.goal)) e lacks.planned
 
--- a command that does no plan leaves what the folder stood for
-pub other_by_words : (words : List (List ℕ)) (s : State) (left : Left) → StandsAfter (form words) s left → ((from : Target) → ¬ IsChangeCommand from words) → stored left.files ≡ stored s.files
+-- a command that does no task leaves what the folder stood for
+pub other_by_words : (words : List (List ℕ)) (s : State) (left : Left) → StandsAfter (form words) s left → ((task : Task) → ¬ IsChangeCommand task words) → stored left.files ≡ stored s.files
 other_by_words words s left stands none = by (form words) (form_words words) stands
   where
     by : (f : Option Form) → IfSome f (IsFormOf words) → StandsAfter f s left → stored left.files ≡ stored s.files
-    by (Some (forms.change from budget)) is h = absurd (none from is)
+    by (Some (forms.change task budget)) is h = absurd (none task is)
     by other is h = h
 
 pub points_by_words : (words : List (List ℕ)) (s : State) (files : Files) → PointsAfter (form words) s files → HasWholePoints words s files

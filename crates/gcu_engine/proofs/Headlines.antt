@@ -20,50 +20,50 @@ use Rattle.gcu_output.specs.declared.outcomes.Outcome.{Outcome}
 use Rattle.gcu_output.specs.declared.outcomes.Outcome.TheVariants.{Done, Memory, InputFault, DiskFault, PrintFault, ServiceFault, Unorderable, Budget}
 use Rattle.gcu_requests.specs.Asked.{asked, form_asked, migrate_asked}
 use Rattle.gcu_requests.specs.Asking.{Asking}
-use Rattle.gcu_requests.specs.ChangeAsked.{change_asked}
 use Rattle.gcu_requests.specs.Form.{Form, form}
 use Rattle.gcu_requests.specs.Form as forms
 use Rattle.gcu_requests.specs.OneAnswer.{AskedIsOne, HasOneAnswer}
 use Rattle.gcu_requests.specs.Request as request
-use Rattle.gcu_requests.specs.Request.{Planning, Request}
+use Rattle.gcu_requests.specs.Request.{Request, Work, ctx_of, operated, planned, start_of}
+use Rattle.gcu_requests.specs.Tasks.{Task, reach, run_script}
+use Rattle.gcu_requests.specs.WorkAsked.{change_asked}
 use Rattle.gcu_engine.specs.Answers.{Answers, IsDoneOutput, IsRefusal, IsUntouched, Leaves, LeavesDone, Prints, Says}
-use Rattle.gcu_engine.specs.Changing.{IsChangeFor, IsLastLine, acknowledged, begun}
+use Rattle.gcu_engine.specs.Changing.{IsChangeFor, IsChanged, IsLastLine, acknowledged, begun}
 use Rattle.gcu_engine.specs.Crashes.{LeftByForm, LeftChanged, LeftEarly, LeftMeanwhile, LeftOf, LeftOfChange, LeftOfMigration, LeftWriting}
 use Rattle.gcu_engine.specs.Doing.{LeftToEarly}
-use Rattle.gcu_engine.specs.Headline.{HasNoOrder, IsBefore, IsForeseen, IsHeadline, IsLastOrNext, IsQuiet, PrintsPlan, StoresPoint, StoresTarget}
+use Rattle.gcu_engine.specs.Headline.{HasNoOrder, IsBefore, IsForeseen, IsHeadline, IsLastOrNext, IsQuiet, PrintsTask, StoresPoint, StoresTarget}
 use Rattle.gcu_engine.specs.Plannings.{IsUnsolved}
 use Rattle.gcu_engine.proofs.Acknowledged.{acked_is}
 use Rattle.gcu_engine.proofs.ChangeEnds.{is_last_line}
 use Rattle.gcu_engine.proofs.Changes.{some_is}
 use Rattle.gcu_engine.proofs.Closed.{begun_output, either_points, either_stored}
-use Rattle.gcu_engine.proofs.FormPromises.{IsOneChange, LacksOrder, PointsAfter, StandsAfter, change_of_words, order_by_words, other_by_words, points_by_words, target_in, target_of_words}
+use Rattle.gcu_engine.proofs.FormPromises.{IsOneChange, LacksOrder, PointsAfter, StandsAfter, change_of_words, order_by_words, other_by_words, points_by_words, task_in, task_of_words}
 use Rattle.gcu_engine.proofs.LastLines.{last_line_of, refusal_line, service_last_line}
 use Rattle.gcu_engine.proofs.PlanPrints.{change_prints, no_request, plan_prints, same_change, unknown_line, unknown_prints, untouched_output}
 use Rattle.gcu_engine.proofs.Requests.{IsRequestOf, change_given, requested}
-use Rattle.gcu_engine.proofs.RightPlans.{IsAsked, right_plan, way_last}
+use Rattle.gcu_engine.proofs.RightPlans.{IsWorkAsked, right_work, way_last}
 
 -- ---- what is printed
 
-plans_print : (f : Option Form) (from : Target) (s : State) (after : Option State) (old new : Counts) (result : Outcome) → target_in f ≡ Some from
-    → Leaves (form_asked f s) s after old new result → PrintsPlan from s after
-plans_print (Some (forms.plan target budget)) from s after old new result is h =
-    let same : target ≡ from = cc in
-    subst (λ (t : Target). PrintsPlan t s after) same (plan_prints target budget s h.0 after old new h.1 h.2 result h.3)
-plans_print (Some (forms.change target budget)) from s after old new result is h =
-    let same : target ≡ from = cc in
-    subst (λ (t : Target). PrintsPlan t s after) same (change_prints target budget s h.0 after old new h.1 h.2 result h.3)
-plans_print None from s after old new result is h = absurd cc
-plans_print (Some (forms.preview path)) from s after old new result is h = absurd cc
-plans_print (Some forms.check) from s after old new result is h = absurd cc
-plans_print (Some forms.list_checkpoints) from s after old new result is h = absurd cc
-plans_print (Some forms.migrate_checkpoints) from s after old new result is h = absurd cc
-plans_print (Some (forms.save_checkpoint name)) from s after old new result is h = absurd cc
-plans_print (Some (forms.delete_checkpoint name)) from s after old new result is h = absurd cc
-plans_print (Some forms.status) from s after old new result is h = absurd cc
-plans_print (Some forms.abandon) from s after old new result is h = absurd cc
-plans_print (Some (forms.demo seed ports)) from s after old new result is h = absurd cc
-plans_print (Some (forms.check_plan patch plan)) from s after old new result is h = absurd cc
-plans_print (Some (forms.rehearse path budget)) from s after old new result is h = absurd cc
+plans_print : (f : Option Form) (task : Task) (s : State) (after : Option State) (old new : Counts) (result : Outcome) → task_in f ≡ Some task
+    → Leaves (form_asked f s) s after old new result → PrintsTask task s after
+plans_print (Some (forms.plan t budget)) task s after old new result is h =
+    let same : t ≡ task = cc in
+    subst (λ (x : Task). PrintsTask x s after) same (plan_prints t budget s h.0 after old new h.1 h.2 result h.3)
+plans_print (Some (forms.change t budget)) task s after old new result is h =
+    let same : t ≡ task = cc in
+    subst (λ (x : Task). PrintsTask x s after) same (change_prints t budget s h.0 after old new h.1 h.2 result h.3)
+plans_print None task s after old new result is h = absurd cc
+plans_print (Some (forms.preview path)) task s after old new result is h = absurd cc
+plans_print (Some forms.check) task s after old new result is h = absurd cc
+plans_print (Some forms.list_checkpoints) task s after old new result is h = absurd cc
+plans_print (Some forms.migrate_checkpoints) task s after old new result is h = absurd cc
+plans_print (Some (forms.save_checkpoint name)) task s after old new result is h = absurd cc
+plans_print (Some (forms.delete_checkpoint name)) task s after old new result is h = absurd cc
+plans_print (Some forms.status) task s after old new result is h = absurd cc
+plans_print (Some forms.abandon) task s after old new result is h = absurd cc
+plans_print (Some (forms.demo seed ports)) task s after old new result is h = absurd cc
+plans_print (Some (forms.check_plan patch plan)) task s after old new result is h = absurd cc
 
 -- ---- no order
 
@@ -71,22 +71,28 @@ unsolved : (q r : Request) → q ≡ r → IsUnsolved r Unorderable → IsUnsolv
 unsolved q r same h = subst (λ (x : Request). IsUnsolved x Unorderable) (sym same) h
 
 none_of : (f : Option Form) (s : State) (r : Request) → IsRequestOf f s r → IsUnsolved r Unorderable → LacksOrder f s
-none_of (Some (forms.plan from budget)) s r (p, is, same) h = record {
+none_of (Some (forms.plan (reach from) budget)) s r (planned p, is, same) h = record {
   ctx = p.ctx;
   read = is.read;
   start = p.start;
   goal = p.goal;
   planned = (is.start.stands, is.made);
-  none = (unsolved (request.plan p) r same h).0;
+  none = (unsolved (request.plan (planned p)) r same h).0;
 }
-none_of (Some (forms.change from budget)) s r (p, is, same) h = record {
+none_of (Some (forms.plan (reach from) budget)) s r (operated p, never, same) h = absurd never
+none_of (Some (forms.plan (run_script path) budget)) s r (planned p, never, same) h = absurd never
+none_of (Some (forms.plan (run_script path) budget)) s r (operated p, is, same) h = absurd (unsolved (request.plan (operated p)) r same h)
+none_of (Some (forms.change (reach from) budget)) s r (planned p, is, same) h = record {
   ctx = p.ctx;
   read = is.read;
   start = p.start;
   goal = p.goal;
   planned = (is.start.stands, is.made);
-  none = (unsolved (request.change p) r same h).0;
+  none = (unsolved (request.change (planned p)) r same h).0;
 }
+none_of (Some (forms.change (reach from) budget)) s r (operated p, never, same) h = absurd never
+none_of (Some (forms.change (run_script path) budget)) s r (planned p, never, same) h = absurd never
+none_of (Some (forms.change (run_script path) budget)) s r (operated p, is, same) h = absurd (unsolved (request.change (operated p)) r same h)
 none_of (Some (forms.demo seed ports)) s r (p, read, start, goal, same) h = record {
   ctx = p.ctx;
   read = read;
@@ -101,7 +107,6 @@ none_of (Some (forms.preview path)) s r (c, same) h = absurd (unsolved (request.
 none_of (Some forms.status) s r (intent, count, same) h = absurd (unsolved (request.status intent count) r same h)
 none_of (Some forms.abandon) s r same h = absurd (unsolved request.abandon r same h)
 none_of (Some (forms.check_plan patch plan)) s r (count, same) h = absurd (unsolved (request.accept_plan count) r same h)
-none_of (Some (forms.rehearse path budget)) s r (p, same) h = absurd (unsolved (request.rehearse p) r same h)
 none_of (Some forms.check) s r same h = absurd (unsolved request.check r same h)
 none_of (Some forms.list_checkpoints) s r (names, same) h = absurd (unsolved (request.list_checkpoints names) r same h)
 none_of (Some forms.migrate_checkpoints) s r same h = absurd (unsolved (request.migrate_checkpoints (migration s.files)) r same h)
@@ -119,23 +124,27 @@ no_order_is words s after old new result h is =
 
 -- ---- a finished change
 
-finishes : (from : Target) (budget : ℕ) (s : State) (after : Option State) (old new : Counts) → Leaves (change_asked from budget s) s after old new Done → StoresTarget from s after
-finishes from budget s after old new h =
-    let g = change_given from budget s h.3.0 h.3.1 in
-    let done = subst (λ (q : Request). LeavesDone q s h.0) (sym g.2) h.3.2 in
+stores : (from : Target) (s now : State) (after : Option State) (output : List ℕ) (w : Work) → after ≡ Some (printed output now) → IsWorkAsked (reach from) s w → IsChanged w s now
+    → StoresTarget from s after
+stores from s now after output (operated p) is never done = absurd never
+stores from s now after output (planned p) is asks done =
     let c = done.0 in
-    let p = g.0 in
-    let last = way_last p.ctx p.goal p.start c.moves p.goal done.1.plan.0 in
-    let files = ap (λ (t : State). t.files) (some_is h.0 _ done.4.1) in (
-      printed h.1 h.0,
+    let last = way_last p.ctx p.goal p.start c.moves p.goal done.2.work.0.0 in
+    let files = ap (λ (t : State). t.files) (some_is now _ done.5.1) in (
+      printed output now,
       p.start,
       p.goal,
-      h.2,
-      g.1.start.stands,
-      g.1.made,
-      ap stored files ∙ done.4.2.stands
-          ∙ ap (λ (x : Config). Ok (conf x c.moves (length c.moves))) done.1.start ∙ ap (λ (x : Config). Ok x) last,
+      is,
+      asks.start.stands,
+      asks.made,
+      ap stored files ∙ done.5.2.stands
+          ∙ ap (λ (x : Config). Ok (conf x c.moves (length c.moves))) done.2.start ∙ ap (λ (x : Config). Ok x) last,
     )
+
+finishes : (from : Target) (budget : ℕ) (s : State) (after : Option State) (old new : Counts) → Leaves (change_asked (reach from) budget s) s after old new Done → StoresTarget from s after
+finishes from budget s after old new h =
+    let g = change_given (reach from) budget s h.3.0 h.3.1 in
+    stores from s h.0 after h.1 g.0 h.2 g.1 (subst (λ (q : Request). LeavesDone q s h.0) (sym g.2) h.3.2)
 
 -- words that are no command are never done
 unknown_fails : (s : State) (after : Option State) (old new : Counts) → Leaves (form_asked None s) s after old new Done → ⊥
@@ -199,88 +208,87 @@ pub settled_files : (s : State) (part : List ℕ) (left : Left) → IsSettled s 
 settled_files s part left clean may = subst (λ p. Image p s.files left.files) clean may.files
 
 -- what is said of a change ends with the last line of an answer
-line_said : (from : Target) (budget : ℕ) (s now : State) (e : Outcome) (text : List ℕ) → Says (change_asked from budget s) s now e text → IsLastLine text
-line_said from budget s now Done text (r, given, leaves, out) =
-    let g = change_given from budget s r given in
+line_said : (task : Task) (budget : ℕ) (s now : State) (e : Outcome) (text : List ℕ) → Says (change_asked task budget s) s now e text → IsLastLine text
+line_said task budget s now Done text (r, given, leaves, out) =
+    let g = change_given task budget s r given in
     last_line_of Done text (subst (λ (q : Request). IsDoneOutput q text) (sym g.2) out) tt
-line_said from budget s now Memory text h = last_line_of Memory text h.1 tt
-line_said from budget s now InputFault text h = last_line_of InputFault text h.2 tt
-line_said from budget s now (DiskFault step) text h = last_line_of (DiskFault step) text h.2 tt
-line_said from budget s now (PrintFault step) text never = absurd never
-line_said from budget s now (ServiceFault step service) text (p, given, halted, is) = service_last_line step service (name_at p.ctx.settings service) text is
-line_said from budget s now Unorderable text h = last_line_of Unorderable text h.2 tt
-line_said from budget s now (Budget n) text h = last_line_of (Budget n) text h.2 tt
-line_said from budget s now other text h = last_line_of other text h.2 tt
+line_said task budget s now Memory text h = last_line_of Memory text h.1 tt
+line_said task budget s now InputFault text h = last_line_of InputFault text h.2 tt
+line_said task budget s now (DiskFault step) text h = last_line_of (DiskFault step) text h.2 tt
+line_said task budget s now (PrintFault step) text never = absurd never
+line_said task budget s now (ServiceFault step service) text (w, given, halted, is) = service_last_line step service (name_at (ctx_of w).settings service) text is
+line_said task budget s now Unorderable text h = last_line_of Unorderable text h.2 tt
+line_said task budget s now (Budget n) text h = last_line_of (Budget n) text h.2 tt
+line_said task budget s now other text h = last_line_of other text h.2 tt
 
-pub early_before : (from : Target) (budget : ℕ) (s : State) (left : Left) → IsSettled s → LeftEarly (change_asked from budget s) s left → IsBefore from s left
-early_before from budget s left clean (part, inl (now, answer, rest, says, same), may) = record {
+pub early_before : (task : Task) (budget : ℕ) (s : State) (left : Left) → IsSettled s → LeftEarly (change_asked task budget s) s left → IsBefore task s left
+early_before task budget s left clean (part, inl (now, answer, rest, says, same), may) = record {
   part = part;
   rest = rest;
-  text = inl (line_said from budget s now answer (part ++ rest) says);
+  text = inl (line_said task budget s now answer (part ++ rest) says);
   output = may.output;
   stored_is = ap stored (settled_files s part left clean may);
 }
-early_before from budget s left clean (part, inr (p, c, rest, given, fits, is), may) =
-    let g = change_given from budget s (request.change p) given in
-    let asks = subst (IsAsked from s) (same_change g.0 p g.2) g.1 in
+early_before task budget s left clean (part, inr (w, c, told, rest, given, fits, is), may) =
+    let g = change_given task budget s (request.change w) given in
+    let asks = subst (IsWorkAsked task s) (same_change g.0 w g.2) g.1 in
     record {
       part = part;
       rest = rest;
-      text = inr (c.moves, right_plan from s p c.moves asks fits.plan, sym is);
+      text = inr (right_work task s w c.moves told asks fits.work, is);
       output = may.output;
       stored_is = ap stored (settled_files s part left clean may);
     }
 
 -- so do words that are no command
-unknown_before : (from : Target) (s : State) (left : Left) → IsSettled s → LeftOf (form_asked None s) s left → IsBefore from s left
-unknown_before from s left clean (part, (now, answer, rest, says, same), inl may) = record {
+unknown_before : (task : Task) (s : State) (left : Left) → IsSettled s → LeftOf (form_asked None s) s left → IsBefore task s left
+unknown_before task s left clean (part, (now, answer, rest, says, same), inl may) = record {
   part = part;
   rest = rest;
   text = inl (unknown_line s now answer (part ++ rest) says).0;
   output = may.output;
   stored_is = ap stored (settled_files s part left clean may);
 }
-unknown_before from s left clean (part, front, inr (r, given, h)) = absurd (no_request s r given)
+unknown_before task s left clean (part, front, inr (r, given, h)) = absurd (no_request s r given)
 
--- the folder stands for one of the plan's configurations
-at_start : (p : Planning) (s : State) (c : Change) → IsChangeFor p s c → (k : ℕ) (left : Left) → StandAt c k left.files
-    → (stored left.files ≡ Ok (conf p.start c.moves k)) ⊎ (stored left.files ≡ Ok (conf p.start c.moves (suc k)))
-at_start p s c fits k left (inl e) = inl (e ∙ ap (λ (x : Config). Ok (conf x c.moves k)) fits.start)
-at_start p s c fits k left (inr e) = inr (e ∙ ap (λ (x : Config). Ok (conf x c.moves (suc k))) fits.start)
+-- the folder stands for one of the configurations
+at_start : (w : Work) (s : State) (c : Change) (told : List ℕ) → IsChangeFor w s c told → (k : ℕ) (left : Left) → StandAt c k left.files
+    → (stored left.files ≡ Ok (conf (start_of w) c.moves k)) ⊎ (stored left.files ≡ Ok (conf (start_of w) c.moves (suc k)))
+at_start w s c told fits k left (inl e) = inl (e ∙ ap (λ (x : Config). Ok (conf x c.moves k)) fits.start)
+at_start w s c told fits k left (inr e) = inr (e ∙ ap (λ (x : Config). Ok (conf x c.moves (suc k))) fits.start)
 
-changed_next : (from : Target) (s : State) (p : Planning) (c : Change) (left : Left) → IsAsked from s p → IsChangeFor p s c → LeftChanged c (begun c s) left → IsLastOrNext from s left
-changed_next from s p c left asks fits (answered, began, a, b, inl h) = record {
-  ms = c.moves;
-  right = right_plan from s p c.moves asks fits.plan;
+changed_next : (task : Task) (s : State) (w : Work) (c : Change) (told : List ℕ) (left : Left) → IsWorkAsked task s w → IsChangeFor w s c told → LeftChanged c (begun told s) left
+    → IsLastOrNext task s left
+changed_next task s w c told left asks fits (answered, began, a, b, inl h) = record {
+  right = right_work task s w c.moves told asks fits.work;
   done = h.done;
   within = h.within;
   part = h.output.part;
   cut = inl (h.output.rest, h.output.line, h.output.cut);
-  output = h.output.printed ∙ ap (λ (o : List ℕ). o ++ acks h.done ++ h.output.part) (begun_output c (begun c s) began b);
-  stands = at_start p s c fits h.done left h.stands;
+  output = h.output.printed ∙ ap (λ (o : List ℕ). o ++ acks h.done ++ h.output.part) (begun_output c (begun told s) began b);
+  stands = at_start w s c told fits h.done left h.stands;
 }
-changed_next from s p c left asks fits (answered, began, a, b, inr h) =
+changed_next task s w c told left asks fits (answered, began, a, b, inr h) =
     let k : h.is.done ≡ acknowledged c h.answer = acked_is h.is.done (acknowledged c h.answer) began.output h.is.output in
     record {
-      ms = c.moves;
-      right = right_plan from s p c.moves asks fits.plan;
+      right = right_work task s w c.moves told asks fits.work;
       done = acknowledged c h.answer;
       within = subst (λ (n : ℕ). n ≤ steps c) k h.is.within;
       part = h.part;
       cut = inr (h.rest, is_last_line c answered h.now h.answer (h.part ++ h.rest) h.line);
-      output = h.output ∙ ap (λ (o : List ℕ). o ++ acks (acknowledged c h.answer) ++ h.part) (begun_output c (begun c s) began b);
-      stands = at_start p s c fits (acknowledged c h.answer) left (subst (λ (n : ℕ). StandAt c n left.files) k h.is.stands);
+      output = h.output ∙ ap (λ (o : List ℕ). o ++ acks (acknowledged c h.answer) ++ h.part) (begun_output c (begun told s) began b);
+      stands = at_start w s c told fits (acknowledged c h.answer) left (subst (λ (n : ℕ). StandAt c n left.files) k h.is.stands);
     }
 
-change_stands : (from : Target) (budget : ℕ) (s : State) (left : Left) → IsSettled s → LeftOfChange (change_asked from budget s) s left → StandsAfter (Some (forms.change from budget)) s left
-change_stands from budget s left clean (inl h) = inl (early_before from budget s left clean h)
-change_stands from budget s left clean (inr (p, c, given, fits, h, kept)) =
-    let g = change_given from budget s (request.change p) given in
-    inr (changed_next from s p c left (subst (IsAsked from s) (same_change g.0 p g.2) g.1) fits h)
+change_stands : (task : Task) (budget : ℕ) (s : State) (left : Left) → IsSettled s → LeftOfChange (change_asked task budget s) s left → StandsAfter (Some (forms.change task budget)) s left
+change_stands task budget s left clean (inl h) = inl (early_before task budget s left clean h)
+change_stands task budget s left clean (inr (w, c, told, given, fits, h, kept)) =
+    let g = change_given task budget s (request.change w) given in
+    inr (changed_next task s w c told left (subst (IsWorkAsked task s) (same_change g.0 w g.2) g.1) fits h)
 
 change_points : (asking : Asking Request) (s : State) (left : Left) → IsSettled s → LeftOfChange asking s left → points left.files ≡ points s.files
 change_points asking s left clean (inl (part, front, may)) = ap points (settled_files s part left clean may)
-change_points asking s left clean (inr (p, c, given, fits, h, kept)) = kept
+change_points asking s left clean (inr (w, c, told, given, fits, h, kept)) = kept
 
 writing_stands : (r : Request) (s : State) (left : Left) → LeftWriting r s left → stored left.files ≡ stored s.files
 writing_stands (request.delete_checkpoint name) s left h = h.files.kept
@@ -301,15 +309,14 @@ one_change (Some (forms.save_checkpoint name)) s now r left files (c, there, sam
 one_change (Some (forms.delete_checkpoint name)) s now r left files same h =
     let writing = subst (λ (q : Request). LeftWriting q now left) (sym same) h in
     ⊎_elim (λ kept. inl (kept ∙ ap points files)) (λ one. inr (one ∙ ap (λ f. without_point name (points f)) files)) writing.files.points
-one_change (Some (forms.plan from budget)) s now r left files (p, is, same) h = absurd (subst (λ (q : Request). LeftWriting q now left) (sym same) h)
-one_change (Some (forms.change from budget)) s now r left files (p, is, same) h = absurd (subst (λ (q : Request). LeftWriting q now left) (sym same) h)
+one_change (Some (forms.plan task budget)) s now r left files (w, is, same) h = absurd (subst (λ (q : Request). LeftWriting q now left) (sym same) h)
+one_change (Some (forms.change task budget)) s now r left files (w, is, same) h = absurd (subst (λ (q : Request). LeftWriting q now left) (sym same) h)
 one_change (Some (forms.demo seed ports)) s now r left files (p, read, start, goal, same) h = absurd (subst (λ (q : Request). LeftWriting q now left) (sym same) h)
 one_change (Some (forms.preview path)) s now r left files (c, same) h = absurd (subst (λ (q : Request). LeftWriting q now left) (sym same) h)
 one_change (Some forms.abandon) s now r left files same h =
     let writing = subst (λ (q : Request). LeftWriting q now left) (sym same) h in inl (either_points now.files left.files writing.files ∙ ap points files)
 one_change (Some forms.status) s now r left files (intent, count, same) h = absurd (subst (λ (q : Request). LeftWriting q now left) (sym same) h)
 one_change (Some (forms.check_plan patch plan)) s now r left files (count, same) h = absurd (subst (λ (q : Request). LeftWriting q now left) (sym same) h)
-one_change (Some (forms.rehearse path budget)) s now r left files (p, same) h = absurd (subst (λ (q : Request). LeftWriting q now left) (sym same) h)
 one_change (Some forms.check) s now r left files same h = absurd (subst (λ (q : Request). LeftWriting q now left) (sym same) h)
 one_change (Some forms.list_checkpoints) s now r left files (names, same) h = absurd (subst (λ (q : Request). LeftWriting q now left) (sym same) h)
 one_change (Some forms.migrate_checkpoints) s now r left files same h = absurd (subst (λ (q : Request). LeftWriting q now left) (sym same) h)
@@ -334,12 +341,12 @@ migration_points s left clean (inr (news, given, inr h)) = inl h.is.same.points
 
 -- what the command that words are leaves
 form_stands : (f : Option Form) (s : State) (left : Left) → IsSettled s → LeftByForm f s left → StandsAfter f s left
-form_stands (Some (forms.change from budget)) s left clean h = change_stands from budget s left clean h
+form_stands (Some (forms.change task budget)) s left clean h = change_stands task budget s left clean h
 form_stands (Some forms.migrate_checkpoints) s left clean h = migration_stands (migrate_asked s) s left clean h
 form_stands other s left clean h = other_stands (form_asked other s) s left clean h
 
 form_points : (f : Option Form) (s : State) (left : Left) → IsSettled s → LeftByForm f s left → PointsAfter f s left.files
-form_points (Some (forms.change from budget)) s left clean h = inl (change_points (change_asked from budget s) s left clean h)
+form_points (Some (forms.change task budget)) s left clean h = inl (change_points (change_asked task budget s) s left clean h)
 form_points (Some forms.migrate_checkpoints) s left clean h = migration_points s left clean h
 form_points other s left clean h = other_points other s left clean h
 
@@ -351,7 +358,7 @@ not_both asking one r e given refused = let same : Ok r ≡ Err e = one.same (Ok
 change_refused : (asking : Asking Request) → HasOneAnswer asking → (s : State) (left : Left) (e : Outcome) → asking.Gives (Err e) → IsSettled s → LeftOfChange asking s left
     → left.files ≡ s.files
 change_refused asking one s left e refused clean (inl (part, front, may)) = settled_files s part left clean may
-change_refused asking one s left e refused clean (inr (p, c, given, fits, h, kept)) = absurd (not_both asking one (request.change p) e given refused)
+change_refused asking one s left e refused clean (inr (w, c, told, given, fits, h, kept)) = absurd (not_both asking one (request.change w) e given refused)
 
 other_refused : (asking : Asking Request) → HasOneAnswer asking → (s : State) (left : Left) (e : Outcome) → asking.Gives (Err e) → IsSettled s → LeftOf asking s left
     → left.files ≡ s.files
@@ -365,7 +372,7 @@ migration_refused asking one s left e refused clean (inr (news, given, h)) = abs
 
 form_refused : (f : Option Form) (s : State) (left : Left) (e : Outcome) → HasOneAnswer (form_asked f s) → (form_asked f s).Gives (Err e) → IsSettled s → LeftByForm f s left
     → left.files ≡ s.files
-form_refused (Some (forms.change from budget)) s left e one refused clean h = change_refused (change_asked from budget s) one s left e refused clean h
+form_refused (Some (forms.change task budget)) s left e one refused clean h = change_refused (change_asked task budget s) one s left e refused clean h
 form_refused (Some forms.migrate_checkpoints) s left e one refused clean h = migration_refused (migrate_asked s) one s left e refused clean h
 form_refused other s left e one refused clean h = other_refused (form_asked other s) one s left e refused clean h
 
@@ -375,13 +382,13 @@ form_refused other s left e one refused clean h = other_refused (form_asked othe
 abbrev KeepsStored : Option State → Left → Type 0
 KeepsStored o left = IfSome o (λ s. IsSettled s → stored left.files ≡ stored s.files)
 
--- no plan is done
+-- no task is done
 abbrev pub IsNoChange : Option Form → Type 0
-IsNoChange (Some (forms.change from budget)) = ⊥
+IsNoChange (Some (forms.change task budget)) = ⊥
 IsNoChange other = Unit {0}
 
 form_keeps : (f : Option Form) (s : State) (left : Left) → IsNoChange f → IsSettled s → LeftByForm f s left → stored left.files ≡ stored s.files
-form_keeps (Some (forms.change from budget)) s left never clean h = absurd never
+form_keeps (Some (forms.change task budget)) s left never clean h = absurd never
 form_keeps (Some forms.migrate_checkpoints) s left none clean h = migration_stands (migrate_asked s) s left clean h
 form_keeps other s left none clean h = other_stands (form_asked other s) s left clean h
 
@@ -389,9 +396,9 @@ words_keep : (words : List (List ℕ)) (f : Option Form) (o : Option State) (lef
 words_keep words f None left is none h = tt
 words_keep words f (Some s) left is none h = λ clean. form_keeps f s left none clean (subst (λ (g : Option Form). LeftByForm g s left) (sym is) h)
 
-early_keeps : (from : Target) (budget : ℕ) (o : Option State) (left : Left) → LeftToEarly (change_asked from budget) o left → KeepsStored o left
-early_keeps from budget None left h = tt
-early_keeps from budget (Some s) left (part, front, may) = λ clean. ap stored (settled_files s part left clean may)
+early_keeps : (task : Task) (budget : ℕ) (o : Option State) (left : Left) → LeftToEarly (change_asked task budget) o left → KeepsStored o left
+early_keeps task budget None left h = tt
+early_keeps task budget (Some s) left (part, front, may) = λ clean. ap stored (settled_files s part left clean may)
 
 -- ---- all of it
 
@@ -401,11 +408,11 @@ module _ {H : Type 0} (moment : H → ℕ) (left_since : H → ℕ → Left → 
       → (IsRefusal result → LeavesOnly moment left_since old new (KeepsStored (Some s)))
       → IsHeadline words s after result (left_since new (moment old))
   headline_of words s after old new before later result one answers crash keeps = record {
-    printed = λ from is. prints from (target_of_words from words is);
+    printed = λ task is. prints task (task_of_words task words is);
     no_order = no_order_is words s after before later result answers;
     crash = λ clean left since.
         record {
-          change = λ from is. changing from clean left since (change_of_words from words is);
+          change = λ task is. changing task clean left since (change_of_words task words is);
           other = other_by_words words s left (form_stands (form words) s left clean (crash.each left since));
           points_are = points_by_words words s left.files (form_points (form words) s left clean (crash.each left since));
         };
@@ -413,31 +420,31 @@ module _ {H : Type 0} (moment : H → ℕ) (left_since : H → ℕ → Left → 
         form_refused (form words) s left result (one words s) (foreseen (asked words s) s answers.0 before later result answers.1 answers.3 any) clean (crash.each left since);
     kept = λ any clean left since. (keeps any).each left since clean;
     quiet = λ any. quiet_is (asked words s) s answers.0 after answers.1 answers.2 before later result answers.3 any;
-    finished = λ from is done. changes from (change_of_words from words is) done;
-    rolled = λ name is done. rolls_back name s after (changes (rolled_back name) (change_of_words (rolled_back name) words is) done);
+    finished = λ from is done. changes from (change_of_words (reach from) words is) done;
+    rolled = λ name is done. rolls_back name s after (changes (rolled_back name) (change_of_words (reach (rolled_back name)) words is) done);
   }
     where
-      prints : (from : Target) → (form words ≡ None) ⊎ (target_in (form words) ≡ Some from) → PrintsPlan from s after
-      prints from (inl none) =
+      prints : (task : Task) → (form words ≡ None) ⊎ (task_in (form words) ≡ Some task) → PrintsTask task s after
+      prints task (inl none) =
           let h = subst (λ (f : Option Form). Leaves (form_asked f s) s after before later result) none answers in
-          unknown_prints from s h.0 after before later h.1 h.2 result h.3
-      prints from (inr e) = plans_print (form words) from s after before later result e answers
+          unknown_prints task s h.0 after before later h.1 h.2 result h.3
+      prints task (inr e) = plans_print (form words) task s after before later result e answers
 
-      changing : (from : Target) → IsSettled s → (left : Left) → left_since new (moment old) left → (form words ≡ None) ⊎ ((budget : ℕ) × (form words ≡ Some (forms.change from budget)))
-          → IsBefore from s left ⊎ IsLastOrNext from s left
-      changing from clean left since (inl none) =
-          inl (unknown_before from s left clean (subst (λ (f : Option Form). LeftByForm f s left) none (crash.each left since)))
-      changing from clean left since (inr (budget, e)) =
+      changing : (task : Task) → IsSettled s → (left : Left) → left_since new (moment old) left → (form words ≡ None) ⊎ ((budget : ℕ) × (form words ≡ Some (forms.change task budget)))
+          → IsBefore task s left ⊎ IsLastOrNext task s left
+      changing task clean left since (inl none) =
+          inl (unknown_before task s left clean (subst (λ (f : Option Form). LeftByForm f s left) none (crash.each left since)))
+      changing task clean left since (inr (budget, e)) =
           subst (λ (f : Option Form). StandsAfter f s left) e (form_stands (form words) s left clean (crash.each left since))
 
-      changes : (from : Target) → (form words ≡ None) ⊎ ((budget : ℕ) × (form words ≡ Some (forms.change from budget))) → result ≡ Done → StoresTarget from s after
+      changes : (from : Target) → (form words ≡ None) ⊎ ((budget : ℕ) × (form words ≡ Some (forms.change (reach from) budget))) → result ≡ Done → StoresTarget from s after
       changes from (inl none) done =
           absurd (unknown_fails s after before later
           (subst (λ (e : Outcome). Leaves (form_asked None s) s after before later e) done
           (subst (λ (f : Option Form). Leaves (form_asked f s) s after before later result) none answers)))
       changes from (inr (budget, is)) done =
           finishes from budget s after before later
-          (subst (λ (e : Outcome). Leaves (change_asked from budget s) s after before later e) done
+          (subst (λ (e : Outcome). Leaves (change_asked (reach from) budget s) s after before later e) done
           (subst (λ (f : Option Form). Leaves (form_asked f s) s after before later result) is answers))
 
   -- of a host that may not tell its state
@@ -448,7 +455,7 @@ module _ {H : Type 0} (moment : H → ℕ) (left_since : H → ℕ → Left → 
   headline_in words None after old new before later result one answers crash keeps = tt
   headline_in words (Some s) after old new before later result one answers crash keeps = headline_of words s after old new before later result one answers crash keeps
 
-  -- of words whose command does no plan
+  -- of words whose command does no task
   pub headline : (words : List (List ℕ)) (f : Option Form) (o after : Option State) (old new : H) (before later : Counts) (result : Outcome) → f ≡ form words → IsNoChange f
       → AskedIsOne → Answers words o after before later result → LeavesOnly moment left_since old new (LeftMeanwhile words o)
       → IfSome o (λ s. IsHeadline words s after result (left_since new (moment old)))
@@ -457,10 +464,10 @@ module _ {H : Type 0} (moment : H → ℕ) (left_since : H → ℕ → Left → 
       (λ any. weaker moment left_since old new (LeftMeanwhile words o) (KeepsStored o) (λ left h. words_keep words f o left is none h) crash)
 
   -- of words whose command does one
-  pub change_headline : (words : List (List ℕ)) (from : Target) (budget : ℕ) (o after : Option State) (old new : H) (before later : Counts) (result : Outcome)
+  pub change_headline : (words : List (List ℕ)) (task : Task) (budget : ℕ) (o after : Option State) (old new : H) (before later : Counts) (result : Outcome)
       → AskedIsOne → Answers words o after before later result → LeavesOnly moment left_since old new (LeftMeanwhile words o)
-      → (IsRefusal result → LeavesOnly moment left_since old new (LeftToEarly (change_asked from budget) o))
+      → (IsRefusal result → LeavesOnly moment left_since old new (LeftToEarly (change_asked task budget) o))
       → IfSome o (λ s. IsHeadline words s after result (left_since new (moment old)))
-  change_headline words from budget o after old new before later result one answers crash early =
+  change_headline words task budget o after old new before later result one answers crash early =
       headline_in words o after old new before later result one answers crash
-      (λ any. weaker moment left_since old new (LeftToEarly (change_asked from budget) o) (KeepsStored o) (λ left h. early_keeps from budget o left h) (early any))
+      (λ any. weaker moment left_since old new (LeftToEarly (change_asked task budget) o) (KeepsStored o) (λ left h. early_keeps task budget o left h) (early any))

@@ -1,4 +1,4 @@
--- The file `intent` at each moment of a command that does a plan.
+-- The file `intent` at each moment of a command that does a task.
 use Rattle.std.proofs.Common.{◌≡◌, ◌≤◌, ◌<◌, ◌⊎◌, inl, inr, ℕ, suc, List, [], ◌∷◌, ◌++◌, length, refl, sym, ap, ◌∙◌, subst, arith, Option, Some, None, Ok, IfSome}
 use Rattle.std.specs.FinMap.{get}
 use Rattle.host_core.specs.Crashes.{Left, LeavesOnly}
@@ -18,11 +18,11 @@ use Rattle.change_apply.specs.Change.{Change, conf_at, goal, steps}
 use Rattle.change_apply.specs.Crashes.{StandAt}
 use Rattle.change_apply.specs.Intents.{HoldsGoal, IsOver as IsGone, KeepsIntent}
 use Rattle.change_apply.proofs.IntentNames.{intent_not_scratch}
-use Rattle.plan_options.specs.Targets.{Target}
-use Rattle.gcu_requests.specs.ChangeAsked.{change_asked}
 use Rattle.gcu_requests.specs.Form.{Form}
 use Rattle.gcu_requests.specs.Request as request
-use Rattle.gcu_requests.specs.Request.{Planning}
+use Rattle.gcu_requests.specs.Request.{Work, start_of}
+use Rattle.gcu_requests.specs.Tasks.{Task}
+use Rattle.gcu_requests.specs.WorkAsked.{change_asked}
 use Rattle.gcu_engine.specs.Changing.{IsBegun, IsChangeFor, acknowledged, begun}
 use Rattle.gcu_engine.specs.Crashes.{LeftByForm, LeftChanged, LeftMeanwhile, LeftOfChange}
 use Rattle.gcu_engine.specs.Headline.{IsNoneWhole}
@@ -35,60 +35,65 @@ use Rattle.gcu_engine.proofs.Closing.{at_first}
 use Rattle.gcu_engine.proofs.Headlines.{early_before, settled_files}
 use Rattle.gcu_engine.proofs.PlanPrints.{same_change}
 use Rattle.gcu_engine.proofs.Requests.{change_given}
-use Rattle.gcu_engine.proofs.RightPlans.{IsAsked, right_plan, way_last}
+use Rattle.gcu_engine.proofs.RightPlans.{IsWorkAsked, right_work}
 
--- ---- a plan's configurations
+-- ---- the configurations
 
 -- without moves there is one
 at_any : (x : Config) (ms : List Move) → length ms ≡ 0 → (k : ℕ) → conf x ms k ≡ x
 at_any x [] none k = refl
 at_any x (m ∷ ms) none k = absurd (omega (arith, none))
 
-module _ (from : Target) (s : State) (p : Planning) (c : Change) (asks : IsAsked from s p) (fits : IsChangeFor p s c) where
-  start_is : conf_at c 0 ≡ p.start
+module _ (task : Task) (s : State) (w : Work) (c : Change) (told : List ℕ) (asks : IsWorkAsked task s w) (fits : IsChangeFor w s c told) where
+  -- where it arrives
+  abbrev end : Config
+  end = conf (start_of w) c.moves (length c.moves)
+
+  start_is : conf_at c 0 ≡ start_of w
   start_is = at_first c.stored.config c.moves ∙ fits.start
 
-  goal_is : goal c ≡ p.goal
-  goal_is = ap (λ (x : Config). conf x c.moves (length c.moves)) fits.start ∙ way_last p.ctx p.goal p.start c.moves p.goal fits.plan.0
+  goal_is : goal c ≡ end
+  goal_is = ap (λ (x : Config). conf x c.moves (length c.moves)) fits.start
 
   -- where there are no steps the folder stands for the goal
-  over_at : steps c ≡ 0 → (k : ℕ) (files : Files) → StandAt c k files → stored files ≡ Ok p.goal
+  over_at : steps c ≡ 0 → (k : ℕ) (files : Files) → StandAt c k files → stored files ≡ Ok end
   over_at none k files (inl e) =
       e ∙ ap (λ (x : Config). Ok x) (at_any c.stored.config c.moves none k ∙ sym (at_any c.stored.config c.moves none (steps c)) ∙ goal_is)
   over_at none k files (inr e) =
       e ∙ ap (λ (x : Config). Ok x) (at_any c.stored.config c.moves none (suc k) ∙ sym (at_any c.stored.config c.moves none (steps c)) ∙ goal_is)
 
-  module _ (began : State) (begins : IsBegun c (begun c s) began) (k : ℕ) (left : Left) (stand : StandAt c k left.files) (keeps : KeepsIntent c k began.files left.files) where
-    held : get left.files intent_file ≡ Some (file_text (goal c)) → HoldsText p.goal left.files
+  module _ (began : State) (begins : IsBegun c (begun told s) began) (k : ℕ) (left : Left) (stand : StandAt c k left.files) (keeps : KeepsIntent c k began.files left.files) where
+    held : get left.files intent_file ≡ Some (file_text (goal c)) → HoldsText end left.files
     held e = e ∙ ap (λ (x : Config). Some (file_text x)) goal_is
 
-    same_intent : IsBegun c (begun c s) began → get left.files intent_file ≡ get began.files intent_file → IsKept s left ⊎ HoldsText p.goal left.files ⊎ IsOver p.goal left.files
+    same_intent : IsBegun c (begun told s) began → get left.files intent_file ≡ get began.files intent_file → IsKept s left ⊎ HoldsText end left.files ⊎ IsOver end left.files
     same_intent (inl is) e = inl (e ∙ ap (λ (t : State). get t.files intent_file) is)
     same_intent (inr (none, is)) e =
         inr (inr (e ∙ ap (λ (t : State). get t.files intent_file) is ∙ get_there intent_file None s.files, over_at none k left.files stand))
 
-    intent_is : IsKept s left ⊎ HoldsText p.goal left.files ⊎ IsOver p.goal left.files
+    intent_is : IsKept s left ⊎ HoldsText end left.files ⊎ IsOver end left.files
     intent_is = by keeps.is
       where
-        by : IsSame began.files left.files ⊎ HoldsGoal c left.files ⊎ IsGone c left.files → IsKept s left ⊎ HoldsText p.goal left.files ⊎ IsOver p.goal left.files
+        by : IsSame began.files left.files ⊎ HoldsGoal c left.files ⊎ IsGone c left.files → IsKept s left ⊎ HoldsText end left.files ⊎ IsOver end left.files
         by (inl same) = same_intent begins (seen began.files left.files same intent_file intent_not_scratch)
         by (inr (inl holds)) = inr (inl (held holds))
         by (inr (inr over)) = inr (inr (over.gone, over.stands ∙ ap (λ (x : Config). Ok x) goal_is))
 
-    intended : (done : ℕ) → k ≡ done → (part : List ℕ) → IsNoneWhole done part → left.output ≡ began.output ++ acks done ++ part → IsIntended from s left
+    intended : (done : ℕ) → k ≡ done → (part : List ℕ) → IsNoneWhole done part → left.output ≡ began.output ++ acks done ++ part → IsIntended task s left
     intended done same part cut output = record {
-      ms = c.moves;
-      right = right_plan from s p c.moves asks fits.plan;
+      right = right_work task s w c.moves told asks fits.work;
+      goal = end;
+      last = refl;
       done = done;
       part = part;
       cut = cut;
-      output = output ∙ ap (λ (o : List ℕ). o ++ acks done ++ part) (begun_output c (begun c s) began begins);
+      output = output ∙ ap (λ (o : List ℕ). o ++ acks done ++ part) (begun_output c (begun told s) began begins);
       is = intent_is;
       under_way = λ one less. held (keeps.under_way (subst (λ (n : ℕ). 1 ≤ n) (sym same) one) (subst (λ (n : ℕ). n < steps c) (sym same) less));
       between = λ config stood first last. held (keeps.between config stood (λ e. first (e ∙ start_is)) (λ e. last (e ∙ goal_is)));
     }
 
-  intended_next : (left : Left) → LeftChanged c (begun c s) left → IsIntended from s left
+  intended_next : (left : Left) → LeftChanged c (begun told s) left → IsIntended task s left
   intended_next left (answered, began, a, b, inl h) =
       intended began b h.done left h.stands h.intent h.done refl h.output.part (inl (h.output.rest, h.output.line, h.output.cut)) h.output.printed
   intended_next left (answered, began, a, b, inr h) =
@@ -98,17 +103,17 @@ module _ (from : Target) (s : State) (p : Planning) (c : Change) (asks : IsAsked
 
 -- ---- of a command
 
-change_intent : (from : Target) (budget : ℕ) (s : State) (left : Left) → IsSettled s → LeftOfChange (change_asked from budget s) s left → HasIntent from s left
-change_intent from budget s left clean (inl early) =
-    inl (early_before from budget s left clean early, ap (λ (f : Files). get f intent_file) (settled_files s early.0 left clean early.2))
-change_intent from budget s left clean (inr (p, c, given, fits, h, kept)) =
-    let g = change_given from budget s (request.change p) given in
-    inr (intended_next from s p c (subst (IsAsked from s) (same_change g.0 p g.2) g.1) fits left h)
+change_intent : (task : Task) (budget : ℕ) (s : State) (left : Left) → IsSettled s → LeftOfChange (change_asked task budget s) s left → HasIntent task s left
+change_intent task budget s left clean (inl early) =
+    inl (early_before task budget s left clean early, ap (λ (f : Files). get f intent_file) (settled_files s early.0 left clean early.2))
+change_intent task budget s left clean (inr (w, c, told, given, fits, h, kept)) =
+    let g = change_given task budget s (request.change w) given in
+    inr (intended_next task s w c told (subst (IsWorkAsked task s) (same_change g.0 w g.2) g.1) fits left h)
 
 module _ {H : Type 0} (moment : H → ℕ) (left_since : H → ℕ → Left → Type 0) where
   -- of a host that may not tell its state
   pub keeps_intent : (words : List (List ℕ)) (o : Option State) (old new : H) → LeavesOnly moment left_since old new (LeftMeanwhile words o)
       → IfSome o (λ s. intending.KeepsIntent words s (left_since new (moment old)))
   keeps_intent words None old new run = tt
-  keeps_intent words (Some s) old new run = λ from budget is clean left since.
-      change_intent from budget s left clean (subst (λ (f : Option Form). LeftByForm f s left) is (run.each left since))
+  keeps_intent words (Some s) old new run = λ task budget is clean left since.
+      change_intent task budget s left clean (subst (λ (f : Option Form). LeftByForm f s left) is (run.each left since))

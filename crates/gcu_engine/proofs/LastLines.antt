@@ -20,7 +20,7 @@ use Rattle.yang_text.specs.declared.errors.ModelWhy.{ModelWhy}
 use Rattle.yang_text.specs.declared.errors.ModelWhy.TheVariants as models
 use Rattle.gcu_output.specs.Lines.{fail_why, last_line, model_why, no_why, number, numbered_line, patch_why, point_why, quoted, refused_line, rule_name, rules_why, said, service_line, space, stored_why}
 use Rattle.gcu_output.specs.declared.outcomes.Outcome.{Outcome}
-use Rattle.gcu_output.specs.declared.outcomes.Outcome.TheVariants.{Done, Memory, Usage, InputFault, DiskFault, PrintFault, ServiceFault, NoInput, TooBig, BadJson, BadConfig, BadModels, BadRules, BadPatch, PatchFailed, TargetShape, CurrentInvalid, TargetInvalid, NoModel, EmptyTable, Unorderable, Budget, NoCheckpoint, CheckpointExists, BadName, BadStored, Interrupted, NoIntent, BadIntent, SequenceFull, BadPlan, PlanRejected, BadScript}
+use Rattle.gcu_output.specs.declared.outcomes.Outcome.TheVariants.{Done, Memory, Usage, InputFault, DiskFault, PrintFault, ServiceFault, NoInput, TooBig, BadJson, BadConfig, BadModels, BadRules, BadPatch, PatchFailed, TargetShape, CurrentInvalid, TargetInvalid, NoModel, EmptyTable, Unorderable, Budget, NoCheckpoint, CheckpointExists, BadName, BadStored, Interrupted, NoIntent, BadIntent, SequenceFull, BadPlan, PlanRejected, BadScope, ScopeRefused, BadScript}
 use Rattle.gcu_output.specs.declared.outcomes.PointWhy.{PointWhy}
 use Rattle.gcu_output.specs.declared.outcomes.PointWhy.TheVariants as point
 use Rattle.gcu_engine.specs.Answers.{IsRefusal}
@@ -164,6 +164,8 @@ said_is_one_line BadIntent = word (codes "bad intent") refl
 said_is_one_line SequenceFull = word (codes "sequence full") refl
 said_is_one_line (BadPlan path line) = behind (codes "bad plan ") refl (quoted path ++ space ++ decimal line) (spaced (quoted path) (decimal line) (quoted_is_one_line path) (decimal_is_one_line line))
 said_is_one_line (PlanRejected n why) = behind (codes "no plan ") refl (decimal n ++ space ++ no_why why) (spaced (decimal n) (no_why why) (decimal_is_one_line n) (no_why_is why))
+said_is_one_line (BadScope index) = behind (codes "bad scope ") refl (decimal index) (decimal_is_one_line index)
+said_is_one_line (ScopeRefused scope status) = behind (codes "scope ") refl (quoted scope ++ space ++ decimal status) (spaced (quoted scope) (decimal status) (quoted_is_one_line scope) (decimal_is_one_line status))
 said_is_one_line (BadScript line) = behind (codes "bad script ") refl (decimal line) (decimal_is_one_line line)
 
 -- ---- lines

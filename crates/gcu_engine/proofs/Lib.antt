@@ -35,6 +35,13 @@ mod Requests
 mod Resuming
 mod RightPlans
 mod Savings
+mod ScopesDoing
+mod ScopesEnding
+mod ScopesFaults
+mod ScopesInOrder
+mod ScopesOpen
+mod ScopesReady
+mod ScopesSolving
 mod Scoping
 mod StatusSaying
 mod StepsElsewhere

@@ -1,5 +1,5 @@
--- What is said of a target that isn't refused by its name is said of the words that name it.
-use Rattle.std.proofs.Common.{◌≡◌, inl, inr, ℕ, List, ◌++◌, sym, Bool, true, false, if◌then◌else◌, Option, Some, None, Result, Ok, Err, IfSome}
+-- What is said of a task that isn't refused by a name is said of the words that name it.
+use Rattle.std.proofs.Common.{◌≡◌, ◌∙◌, inl, inr, ℕ, List, ◌++◌, refl, sym, ap, Bool, true, false, if◌then◌else◌, Option, Some, None, Result, Ok, Err, IfSome}
 use Rattle.host_core.specs.Answers.{Gives, map_ok}
 use Rattle.host_core.specs.Counts.{Counts}
 use Rattle.host_core.specs.Crashes.{Left, LeavesOnly}
@@ -11,10 +11,11 @@ use Rattle.gcu_output.specs.Lines.{last_line}
 use Rattle.gcu_output.specs.declared.outcomes.Outcome.{Outcome}
 use Rattle.gcu_output.specs.declared.outcomes.Outcome.TheVariants.{Done, Memory, InputFault, DiskFault, PrintFault, ServiceFault, Unorderable, Budget, BadName}
 use Rattle.gcu_requests.specs.Asking.{Asking, Source, follows}
-use Rattle.gcu_requests.specs.ChangeAsked.{change_asked, settled_asked}
 use Rattle.gcu_requests.specs.PlanAsked.{target_answer}
 use Rattle.gcu_requests.specs.Preparing.{Found, Refuses, RefusesAlways, refusal}
 use Rattle.gcu_requests.specs.Request.{Request}
+use Rattle.gcu_requests.specs.Tasks.{Task, reach, run_script}
+use Rattle.gcu_requests.specs.WorkAsked.{change_asked, settled_asked, task_answer}
 use Rattle.gcu_engine.specs.Answers.{Complete, IsStopped, IsUntouched, Prints, Says}
 use Rattle.gcu_engine.specs.Commands.{AnswersTo, CompleteTo}
 use Rattle.gcu_engine.specs.Doing.{LeftToChange, LeftToEarly}
@@ -28,23 +29,32 @@ named_by true name x e = let same : rolled_back name ≡ x = cc in sym same
 named_by false name x e = absurd cc
 
 -- a target that isn't refused is the one that was named
-pub named_is : (word x : Target) → target_answer word ≡ Ok x → x ≡ word
-named_is (patched path) x e = let same : patched path ≡ x = cc in sym same
-named_is (replaced path) x e = let same : replaced path ≡ x = cc in sym same
-named_is (rolled_back name) x e = named_by (is_good_name name) name x e
-named_is resumed x e = let same : resumed ≡ x = cc in sym same
+target_is : (word x : Target) → target_answer word ≡ Ok x → x ≡ word
+target_is (patched path) x e = let same : patched path ≡ x = cc in sym same
+target_is (replaced path) x e = let same : replaced path ≡ x = cc in sym same
+target_is (rolled_back name) x e = named_by (is_good_name name) name x e
+target_is resumed x e = let same : resumed ≡ x = cc in sym same
+
+-- so is a task
+pub named_is : (word x : Task) → task_answer word ≡ Ok x → x ≡ word
+named_is (reach word) x e = by (target_answer word) refl e
+  where
+    by : (r : Result Target Outcome) → target_answer word ≡ r → map_ok reach r ≡ Ok x → x ≡ reach word
+    by (Ok t) is e = let same : reach t ≡ x = cc in sym same ∙ ap reach (target_is word t is)
+    by (Err o) is e = absurd cc
+named_is (run_script path) x e = let same : run_script path ≡ x = cc in sym same
 
 -- ---- a name that is refused
 
 -- it is said
-pub misnamed_says : (o : Option State) (from : Target) (budget : ℕ) (e : Outcome) (old new : Counts) → Gives {X = Unit {0}} (λ u. from) refusal (Err e) (target_answer from)
-    → RefusesAlways e → Refuses old new e → IfSome o (λ s. Says (change_asked from budget s) s s e (last_line e))
-misnamed_says None from budget e old new gives always h = tt
-misnamed_says (Some s) from budget e old new gives always h =
-    let found : Found {X = Unit {0}} {Y = Request} (λ u. Request.check) (Err e) (change_asked from budget s) =
-    first_refused {X = Unit {0}} (λ u. from) (λ (u : Unit {0}). Request.check) e (follows (target_answer from)) _
-    (found_always {X = Unit {0}} (λ u. from) (Err e) (target_answer from) _ (λ q same. same) gives always) in
-    refused_says (change_asked from budget s) s e old new h found.stands found.gives
+pub misnamed_says : (o : Option State) (task : Task) (budget : ℕ) (e : Outcome) (old new : Counts) → Gives {X = Unit {0}} (λ u. task) refusal (Err e) (task_answer task)
+    → RefusesAlways e → Refuses old new e → IfSome o (λ s. Says (change_asked task budget s) s s e (last_line e))
+misnamed_says None task budget e old new gives always h = tt
+misnamed_says (Some s) task budget e old new gives always h =
+    let found : Found {X = Unit {0}} {Y = Request} (λ u. Request.check) (Err e) (change_asked task budget s) =
+    first_refused {X = Unit {0}} (λ u. task) (λ (u : Unit {0}). Request.check) e (follows (task_answer task)) _
+    (found_always {X = Unit {0}} (λ u. task) (Err e) (task_answer task) _ (λ q same. same) gives always) in
+    refused_says (change_asked task budget s) s e old new h found.stands found.gives
 
 -- ---- a question that asks no less
 
@@ -53,7 +63,7 @@ pub record Widens (a b : Asking Request) : Type 0 where
   pub reads : (s : Source) → a.Reads s → b.Reads s
   pub gives : (r : Result Request Outcome) → a.Gives r → b.Gives r
 
-pub widened : (word : Target) (budget : ℕ) (s : State) → target_answer word ≡ Ok word → Widens (settled_asked word budget s) (change_asked word budget s)
+pub widened : (word : Task) (budget : ℕ) (s : State) → task_answer word ≡ Ok word → Widens (settled_asked word budget s) (change_asked word budget s)
 widened word budget s named = record {
   reads = λ q reads. inr (word, named, reads);
   gives = λ r gives. inr (word, named, gives);
@@ -86,7 +96,7 @@ module _ (a b : Asking Request) (w : Widens a b) (before now : State) where
     prints_wider (PrintFault step) output (inr (inr (news, given, cut, none))) = inr (inr (news, w.gives _ given, cut, none))
     prints_wider other output says = says_wider other output says
 
-pub answers_wider : (word : Target) (budget : ℕ) (before after : Option State) (old new : Counts) (result : Outcome) → target_answer word ≡ Ok word
+pub answers_wider : (word : Task) (budget : ℕ) (before after : Option State) (old new : Counts) (result : Outcome) → task_answer word ≡ Ok word
     → AnswersTo (settled_asked word budget) before after old new result → AnswersTo (change_asked word budget) before after old new result
 answers_wider word budget None after old new result named h = h
 answers_wider word budget (Some s) after old new result named (now, output, is, prints) =
@@ -94,29 +104,29 @@ answers_wider word budget (Some s) after old new result named (now, output, is, 
 
 -- ---- what a crash leaves
 
-early_left_wider : (word : Target) (budget : ℕ) (o : Option State) (left : Left) → target_answer word ≡ Ok word
+early_left_wider : (word : Task) (budget : ℕ) (o : Option State) (left : Left) → task_answer word ≡ Ok word
     → LeftToEarly (settled_asked word budget) o left → LeftToEarly (change_asked word budget) o left
 early_left_wider word budget None left named h = tt
 early_left_wider word budget (Some s) left named (part, inl (now, answer, rest, says, same), may) =
     let wider = says_wider (settled_asked word budget s) (change_asked word budget s) (widened word budget s named) s now answer (part ++ rest) says in
     (part, inl (now, answer, rest, wider, same), may)
-early_left_wider word budget (Some s) left named (part, inr (p, c, rest, given, fits, is), may) =
-    (part, inr (p, c, rest, (widened word budget s named).gives _ given, fits, is), may)
+early_left_wider word budget (Some s) left named (part, inr (w, c, text, rest, given, fits, is), may) =
+    (part, inr (w, c, text, rest, (widened word budget s named).gives _ given, fits, is), may)
 
-left_wider : (word : Target) (budget : ℕ) (o : Option State) (left : Left) → target_answer word ≡ Ok word
+left_wider : (word : Task) (budget : ℕ) (o : Option State) (left : Left) → task_answer word ≡ Ok word
     → LeftToChange (settled_asked word budget) o left → LeftToChange (change_asked word budget) o left
 left_wider word budget None left named h = tt
 left_wider word budget (Some s) left named (inl h) = inl (early_left_wider word budget (Some s) left named h)
-left_wider word budget (Some s) left named (inr (p, c, given, fits, left_is, points_are)) =
-    inr (p, c, (widened word budget s named).gives _ given, fits, left_is, points_are)
+left_wider word budget (Some s) left named (inr (w, c, text, given, fits, left_is, points_are)) =
+    inr (w, c, text, (widened word budget s named).gives _ given, fits, left_is, points_are)
 
-pub early_wider : {H : Type 0} (moment : H → ℕ) (left_since : H → ℕ → Left → Type 0) (word : Target) (budget : ℕ) (o : Option State) (old new : H) → target_answer word ≡ Ok word
+pub early_wider : {H : Type 0} (moment : H → ℕ) (left_since : H → ℕ → Left → Type 0) (word : Task) (budget : ℕ) (o : Option State) (old new : H) → task_answer word ≡ Ok word
     → LeavesOnly moment left_since old new (LeftToEarly (settled_asked word budget) o) → LeavesOnly moment left_since old new (LeftToEarly (change_asked word budget) o)
 early_wider moment left_since word budget o old new named run =
     runs.weaker moment left_since old new (LeftToEarly (settled_asked word budget) o) (LeftToEarly (change_asked word budget) o)
     (λ left h. early_left_wider word budget o left named h) run
 
-pub leaves_wider : {H : Type 0} (moment : H → ℕ) (left_since : H → ℕ → Left → Type 0) (word : Target) (budget : ℕ) (o : Option State) (old new : H) → target_answer word ≡ Ok word
+pub leaves_wider : {H : Type 0} (moment : H → ℕ) (left_since : H → ℕ → Left → Type 0) (word : Task) (budget : ℕ) (o : Option State) (old new : H) → task_answer word ≡ Ok word
     → LeavesOnly moment left_since old new (LeftToChange (settled_asked word budget) o) → LeavesOnly moment left_since old new (LeftToChange (change_asked word budget) o)
 leaves_wider moment left_since word budget o old new named run =
     runs.weaker moment left_since old new (LeftToChange (settled_asked word budget) o) (LeftToChange (change_asked word budget) o)
@@ -124,13 +134,13 @@ leaves_wider moment left_since word budget o old new named run =
 
 -- ---- where nothing failed
 
-complete_one : (word : Target) (budget : ℕ) (s : State) (result : Outcome) → target_answer word ≡ Ok word
+complete_one : (word : Task) (budget : ℕ) (s : State) (result : Outcome) → task_answer word ≡ Ok word
     → Complete (settled_asked word budget s) result → Complete (change_asked word budget s) result
 complete_one word budget s result named (inl memory) = inl memory
 complete_one word budget s result named (inr (inl given)) = inr (inl ((widened word budget s named).gives _ given))
 complete_one word budget s result named (inr (inr (r, given, ends))) = inr (inr (r, (widened word budget s named).gives _ given, ends))
 
-pub complete_wider : (word : Target) (budget : ℕ) (o : Option State) (old new : Counts) (result : Outcome) → target_answer word ≡ Ok word
+pub complete_wider : (word : Task) (budget : ℕ) (o : Option State) (old new : Counts) (result : Outcome) → task_answer word ≡ Ok word
     → CompleteTo (settled_asked word budget) o old new result → CompleteTo (change_asked word budget) o old new result
 complete_wider word budget None old new result named h = tt
 complete_wider word budget (Some s) old new result named h = λ rose. complete_one word budget s result named (h rose)

@@ -13,52 +13,50 @@ use Rattle.checkpoints.specs.Points.{Held, points}
 use Rattle.move_core.specs.declared.contexts.Ctx.{Ctx}
 use Rattle.gcu_demo.specs.Demo as generated
 use Rattle.plan_options.specs.Options.{default_budget}
-use Rattle.plan_options.specs.Targets.{Target}
 use Rattle.gcu_output.specs.declared.outcomes.Outcome.{Outcome}
 use Rattle.gcu_output.specs.declared.outcomes.Outcome.TheVariants.{BadName}
 use Rattle.gcu_output.specs.declared.statuses.Intent.{Intent}
 use Rattle.gcu_requests.specs.Asked.{absent_answer, delete_asked, form_asked, list_asked, migrate_asked, preview_asked, save_asked, there_answer}
-use Rattle.gcu_requests.specs.ChangeAsked.{change_asked}
 use Rattle.gcu_requests.specs.Checking.{check_asked}
 use Rattle.gcu_requests.specs.DemoAsked.{demo_asked, generated_asked}
 use Rattle.gcu_requests.specs.IntentAsked.{abandon_asked, intent_of, status_asked}
 use Rattle.gcu_requests.specs.PlanCheckAsked.{check_plan_asked}
 use Rattle.gcu_requests.specs.Form.{Form, form}
 use Rattle.gcu_requests.specs.Form as forms
-use Rattle.gcu_requests.specs.PlanAsked.{dry_run_asked}
 use Rattle.gcu_requests.specs.Request as request
-use Rattle.gcu_requests.specs.SessionsAsked.{rehearse_asked}
-use Rattle.gcu_requests.specs.Request.{Operating, Planning, Request}
+use Rattle.gcu_requests.specs.Request.{Planning, Request, Work}
+use Rattle.gcu_requests.specs.Tasks.{Task}
+use Rattle.gcu_requests.specs.WorkAsked.{change_asked, dry_run_asked}
 use Rattle.gcu_engine.specs.Contents.{IsContextIn}
 use Rattle.gcu_engine.proofs.Naming.{named_is}
 use Rattle.gcu_engine.proofs.Contents.{context_in}
-use Rattle.gcu_engine.proofs.RightPlans.{IsAsked, asked_is, planning_is, stored_from}
+use Rattle.gcu_engine.proofs.RightPlans.{IsWorkAsked, planning_is, stored_from, work_is}
 
--- ---- a plan
+-- ---- a task
 
--- a plan is requested where one is to be printed
-pub plan_given : (from : Target) (budget : ℕ) (s : State) (r : Request) → (dry_run_asked from budget s).Gives (Ok r)
-    → (p : Planning) × IsAsked from s p × (request.plan p ≡ r)
-plan_given from budget s r (inl never) = absurd never
-plan_given from budget s r (inr (x, named, inl never)) = absurd never
-plan_given from budget s r (inr (x, named, inr (p, given, e))) =
-    let same : request.plan p ≡ r = cc in (p, subst (λ (t : Target). IsAsked t s p) (named_is from x named) (asked_is x budget s p given), same)
+-- what a task would do is requested where it is to be printed
+pub plan_given : (task : Task) (budget : ℕ) (s : State) (r : Request) → (dry_run_asked task budget s).Gives (Ok r)
+    → (w : Work) × IsWorkAsked task s w × (request.plan w ≡ r)
+plan_given task budget s r (inl never) = absurd never
+plan_given task budget s r (inr (x, named, inl never)) = absurd never
+plan_given task budget s r (inr (x, named, inr (w, given, e))) =
+    let same : request.plan w ≡ r = cc in (w, subst (λ (t : Task). IsWorkAsked t s w) (named_is task x named) (work_is x budget s w given), same)
 
--- a change is requested where one is to be done
-pub change_given : (from : Target) (budget : ℕ) (s : State) (r : Request) → (change_asked from budget s).Gives (Ok r)
-    → (p : Planning) × IsAsked from s p × (request.change p ≡ r)
-change_given from budget s r (inl never) = absurd never
-change_given from budget s r (inr (x, named, inl never)) = absurd never
-change_given from budget s r (inr (x, named, inr (u, settles, inl never))) = absurd never
-change_given from budget s r (inr (x, named, inr (u, settles, inr (p, given, e)))) =
-    let same : request.change p ≡ r = cc in (p, subst (λ (t : Target). IsAsked t s p) (named_is from x named) (asked_is x budget s p given), same)
+-- a change is requested where it is to be done
+pub change_given : (task : Task) (budget : ℕ) (s : State) (r : Request) → (change_asked task budget s).Gives (Ok r)
+    → (w : Work) × IsWorkAsked task s w × (request.change w ≡ r)
+change_given task budget s r (inl never) = absurd never
+change_given task budget s r (inr (x, named, inl never)) = absurd never
+change_given task budget s r (inr (x, named, inr (u, settles, inl never))) = absurd never
+change_given task budget s r (inr (x, named, inr (u, settles, inr (w, given, e)))) =
+    let same : request.change w ≡ r = cc in (w, subst (λ (t : Task). IsWorkAsked t s w) (named_is task x named) (work_is x budget s w given), same)
 
 -- ---- each form
 
 -- what a form requests, where nothing stands against it
 abbrev pub IsRequestOf : Option Form → State → Request → Type 0
-IsRequestOf (Some (forms.plan from budget)) s r = (p : Planning) × IsAsked from s p × (request.plan p ≡ r)
-IsRequestOf (Some (forms.change from budget)) s r = (p : Planning) × IsAsked from s p × (request.change p ≡ r)
+IsRequestOf (Some (forms.plan task budget)) s r = (w : Work) × IsWorkAsked task s w × (request.plan w ≡ r)
+IsRequestOf (Some (forms.change task budget)) s r = (w : Work) × IsWorkAsked task s w × (request.change w ≡ r)
 IsRequestOf (Some (forms.demo seed ports)) s r =
     (p : Planning) × IsContextIn s p.ctx × (p.start ≡ generated.start seed ports) × (p.goal ≡ generated.goal seed ports)
     × (request.demo p ports ≡ r)
@@ -66,7 +64,6 @@ IsRequestOf (Some (forms.save_checkpoint name)) s r = (c : Config) × (stored s.
 IsRequestOf (Some (forms.delete_checkpoint name)) s r = request.delete_checkpoint name ≡ r
 IsRequestOf (Some (forms.preview path)) s r = (c : Config) × (request.preview c ≡ r)
 IsRequestOf (Some (forms.check_plan patch plan)) s r = (count : ℕ) × (request.accept_plan count ≡ r)
-IsRequestOf (Some (forms.rehearse path budget)) s r = (p : Operating) × (request.rehearse p ≡ r)
 IsRequestOf (Some forms.status) s r = (intent : Intent) × (steps : ℕ) × (request.status intent steps ≡ r)
 IsRequestOf (Some forms.abandon) s r = request.abandon ≡ r
 IsRequestOf (Some forms.check) s r = request.check ≡ r
@@ -143,10 +140,6 @@ accept_given patch plan s r (inl never) = absurd never
 accept_given patch plan s r (inr (p, read, inl never)) = absurd never
 accept_given patch plan s r (inr (p, read, inr (ms, held, (is_plan, same)))) = (length ms, sym same)
 
-rehearse_given : (path : List ℕ) (budget : ℕ) (s : State) (r : Request) → (rehearse_asked path budget s).Gives (Ok r) → (p : Operating) × (request.rehearse p ≡ r)
-rehearse_given path budget s r (inl never) = absurd never
-rehearse_given path budget s r (inr (p, given, e)) = (p, request_is (request.rehearse p) r _ refl e)
-
 list_given : (s : State) (r : Request) → (list_asked s).Gives (Ok r) → IsRequestOf (Some forms.list_checkpoints) s r
 list_given s r (inl never) = absurd never
 list_given s r (inr (u, gate, e)) = (numbered_points s.files, request_is (request.list_checkpoints (numbered_points s.files)) r _ refl e)
@@ -169,14 +162,13 @@ abandon_given s r (inr (u, settles, inr (v, gate, e))) = request_is request.aban
 
 -- what is requested is what the form says
 pub requested : (f : Option Form) (s : State) (r : Request) → (form_asked f s).Gives (Ok r) → IsRequestOf f s r
-requested (Some (forms.plan from budget)) s r given = plan_given from budget s r given
-requested (Some (forms.change from budget)) s r given = change_given from budget s r given
+requested (Some (forms.plan task budget)) s r given = plan_given task budget s r given
+requested (Some (forms.change task budget)) s r given = change_given task budget s r given
 requested (Some (forms.demo seed ports)) s r given = demo_given seed ports s r given
 requested (Some (forms.save_checkpoint name)) s r given = save_given name s r given
 requested (Some (forms.delete_checkpoint name)) s r given = delete_given name s r given
 requested (Some (forms.preview path)) s r given = preview_given path s r given
 requested (Some (forms.check_plan patch plan)) s r given = accept_given patch plan s r given
-requested (Some (forms.rehearse path budget)) s r given = rehearse_given path budget s r given
 requested (Some forms.check) s r given = check_given s r given
 requested (Some forms.list_checkpoints) s r given = list_given s r given
 requested (Some forms.migrate_checkpoints) s r given = migrate_given s r given

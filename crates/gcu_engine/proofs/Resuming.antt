@@ -7,14 +7,15 @@ use Rattle.plan_options.specs.Targets.{resumed}
 use Rattle.gcu_output.specs.declared.outcomes.Outcome.{Outcome}
 use Rattle.gcu_output.specs.declared.outcomes.Outcome.TheVariants.{Unorderable, Budget}
 use Rattle.gcu_requests.specs.Asked.{asked, form_asked}
-use Rattle.gcu_requests.specs.ChangeAsked.{change_asked}
 use Rattle.gcu_requests.specs.Form.{Form, form}
 use Rattle.gcu_requests.specs.IntentAsked.{held_answer, interrupted}
 use Rattle.gcu_requests.specs.OneAnswer.{AskedIsOne, HasOneAnswer}
 use Rattle.gcu_requests.specs.PlanAsked.{goal_asked, planning_asked, start_asked}
 use Rattle.gcu_requests.specs.Request as request
-use Rattle.gcu_requests.specs.Request.{Planning, Request}
+use Rattle.gcu_requests.specs.Request.{Planning, Request, planned}
 use Rattle.gcu_requests.specs.StoredAsked.{stored_answer}
+use Rattle.gcu_requests.specs.Tasks.{reach}
+use Rattle.gcu_requests.specs.WorkAsked.{change_asked}
 use Rattle.gcu_engine.specs.Answers.{Complete, Finishes}
 use Rattle.gcu_engine.specs.Plannings.{HasNone}
 use Rattle.gcu_engine.specs.Resuming.{IsResumed, IsStoppedIn, Resumes}
@@ -42,8 +43,8 @@ module _ (law : HaveModels) (budget : ℕ) (s : State) (h : IsStoppedIn s) where
   planning_given : (planning_asked resumed budget s).Gives (Ok rest)
   planning_given = inr (tt, gate_given, inr (h.ctx, h.read, inr (rest.start, start_given, inr (h.goal, goal_given, refl))))
 
-  rest_given : (change_asked resumed budget s).Gives (Ok (request.change rest))
-  rest_given = inr (resumed, refl, inr (tt, refl, inr (rest, planning_given, refl)))
+  rest_given : (change_asked (reach resumed) budget s).Gives (Ok (request.change (planned rest)))
+  rest_given = inr (reach resumed, refl, inr (tt, refl, inr (planned rest, inr (rest, planning_given, refl), refl)))
 
   -- a plan is there
   some_plan : (e : Outcome) → HasNone rest e → IsResumed e
@@ -51,22 +52,22 @@ module _ (law : HaveModels) (budget : ℕ) (s : State) (h : IsStoppedIn s) where
   some_plan (Budget n) none = tt
   some_plan other never = absurd never
 
-  finished : (r : Request) (e : Outcome) → r ≡ request.change rest → Finishes r e → IsResumed e
+  finished : (r : Request) (e : Outcome) → r ≡ request.change (planned rest) → Finishes r e → IsResumed e
   finished r e same ends = by (subst (λ (q : Request). Finishes q e) same ends)
     where
-      by : Finishes (request.change rest) e → IsResumed e
+      by : Finishes (request.change (planned rest)) e → IsResumed e
       by (inl done) = subst IsResumed (sym done) tt
       by (inr none) = some_plan e none
 
-  same_request : (r : Request) → ◌≡◌ {A = Result Request Outcome} (Ok r) (Ok (request.change rest)) → r ≡ request.change rest
-  same_request r e = let same : r ≡ request.change rest = cc in same
+  same_request : (r : Request) → ◌≡◌ {A = Result Request Outcome} (Ok r) (Ok (request.change (planned rest))) → r ≡ request.change (planned rest)
+  same_request r e = let same : r ≡ request.change (planned rest) = cc in same
 
-  complete_resumed : HasOneAnswer (change_asked resumed budget s) → (e : Outcome) → Complete (change_asked resumed budget s) e → IsResumed e
+  complete_resumed : HasOneAnswer (change_asked (reach resumed) budget s) → (e : Outcome) → Complete (change_asked (reach resumed) budget s) e → IsResumed e
   complete_resumed one e (inl memory) = subst IsResumed (sym memory) tt
   complete_resumed one e (inr (inl refused)) =
-      let both = one.same (Err e) (Ok (request.change rest)) refused rest_given in absurd cc
+      let both = one.same (Err e) (Ok (request.change (planned rest))) refused rest_given in absurd cc
   complete_resumed one e (inr (inr (r, given, ends))) =
-      finished r e (same_request r (one.same (Ok r) (Ok (request.change rest)) given rest_given)) ends
+      finished r e (same_request r (one.same (Ok r) (Ok (request.change (planned rest))) given rest_given)) ends
 
 -- of a host that may not tell its state
 pub resumes : HaveModels → AskedIsOne → (words : List (List ℕ)) (o : Option State) (old new : Counts) (result : Outcome)

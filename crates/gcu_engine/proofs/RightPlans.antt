@@ -1,23 +1,38 @@
--- What is planned is right: its configurations, its moves and its goal.
-use Rattle.std.proofs.Common.{◌≡◌, inl, inr, ℕ, zero, suc, List, [], ◌∷◌, length, refl, sym, ap, ◌∙◌, subst, Some, Result, Ok, Err}
-use Rattle.std.specs.Prelude.{slice_get}
+-- What is planned, or committed by operators, is right: its configurations, its moves and its goal.
+use Rattle.std.proofs.Common.{◌≡◌, inl, inr, ℕ, zero, suc, List, [], ◌∷◌, ◌++◌, append_assoc, length, refl, sym, ap, ◌∙◌, subst, Some, Result, Ok, Err}
+use Rattle.std.specs.Prelude.{codes, decimal, slice_get}
+use Rattle.std.proofs.lemmas.List.{length-map}
 use Rattle.host_core.specs.State.{State}
+use Rattle.conf_doc.specs.Texts.{line_feed}
 use Rattle.conf_doc.specs.declared.configuration.Config.{Config}
 use Rattle.conf_store.specs.Stored.{stored}
 use Rattle.conf_store.specs.declared.errors.StoredWhy.{StoredWhy}
 use Rattle.move_core.specs.Contexts.{IsValidIn, rulebook}
 use Rattle.move_core.specs.Moves.{step}
+use Rattle.move_core.specs.Operations.{plan_text}
 use Rattle.move_core.specs.Plans.{IsAllowed, IsWay, conf}
+use Rattle.move_core.specs.Rulebook.{Rulebook}
 use Rattle.move_core.specs.declared.contexts.Ctx.{Ctx}
 use Rattle.move_core.specs.declared.moves.Move.{Move}
 use Rattle.plan_options.specs.Targets.{Target}
 use Rattle.gcu_output.specs.declared.outcomes.Outcome.{Outcome}
 use Rattle.gcu_requests.specs.PlanAsked.{goal_asked, planning_asked, start_asked}
-use Rattle.gcu_requests.specs.Request.{Planning}
+use Rattle.gcu_requests.specs.Request.{Operating, Planning, Work, ctx_of, operated, planned, start_of}
+use Rattle.gcu_requests.specs.SessionsAsked.{operating_asked}
 use Rattle.gcu_requests.specs.StoredAsked.{stored_answer}
+use Rattle.gcu_requests.specs.Tasks.{Task, reach, run_script}
+use Rattle.gcu_requests.specs.WorkAsked.{work_asked}
+use Rattle.operators.specs.Replies.{commits_line}
+use Rattle.operators.specs.Runs.{IsOperated, reply_lines}
+use Rattle.operators.proofs.WorldsKept.{operated_ctx, operated_kept, operated_opening}
+use Rattle.sessions.specs.Runs.{moves_of}
+use Rattle.sessions.specs.Worlds.{Leads, WorldState}
+use Rattle.sessions.specs.declared.commits.Commit.{Commit}
+use Rattle.sessions.proofs.Led.{each_is_valid}
 use Rattle.gcu_engine.specs.Contents.{IsContextIn, IsMade}
-use Rattle.gcu_engine.specs.Headline.{IsRightPlan}
+use Rattle.gcu_engine.specs.Headline.{IsGoal, IsRightWork, IsTextOf}
 use Rattle.gcu_engine.specs.Plannings.{IsPlanFor}
+use Rattle.gcu_engine.specs.Works.{IsWorkOf}
 use Rattle.gcu_engine.proofs.Contents.{context_in, target_made}
 
 -- ---- what is asked
@@ -63,6 +78,38 @@ asked_is from budget s p (inr (u, gate, inr (ctx, read, inr (start, st, inl neve
 asked_is from budget s p (inr (u, gate, inr (ctx, read, inr (start, st, inr (goal, go, e))))) =
     subst (IsAsked from s) (planning_is (record { ctx = ctx; start = start; goal = goal; budget = budget }) p _ refl e) (record { read = context_in s ctx read; start = start_is ctx s start st; made = made_is from ctx start s goal go })
 
+-- what the run of a script needs is what is asked
+pub record IsRunAsked (s : State) (p : Operating) : Type 0 where
+  pub read : IsContextIn s p.ctx
+  pub start : IsStart p.ctx s p.start
+
+operating_is : (q p : Operating) (r : Result Operating Outcome) → r ≡ Ok q → r ≡ Ok p → q ≡ p
+operating_is q p r a e = let same : q ≡ p = cc in same
+
+run_is : (path : List ℕ) (budget : ℕ) (s : State) (p : Operating) → (operating_asked path budget s).Gives (Ok p) → IsRunAsked s p
+run_is path budget s p (inl never) = absurd never
+run_is path budget s p (inr (u, gate, inl never)) = absurd never
+run_is path budget s p (inr (u, gate, inr (ctx, read, inl never))) = absurd never
+run_is path budget s p (inr (u, gate, inr (ctx, read, inr (start, st, inl never)))) = absurd never
+run_is path budget s p (inr (u, gate, inr (ctx, read, inr (start, st, inr (lines, script, inl never))))) = absurd never
+run_is path budget s p (inr (u, gate, inr (ctx, read, inr (start, st, inr (lines, script, inr (patches, found, e)))))) =
+    subst (IsRunAsked s) (operating_is (record { ctx = ctx; start = start; lines = lines; patches = patches; budget = budget }) p _ refl e)
+    (record { read = context_in s ctx read; start = start_is ctx s start st })
+
+-- what a task needs is what is asked
+abbrev pub IsWorkAsked : Task → State → Work → Type 0
+IsWorkAsked (reach from) s (planned p) = IsAsked from s p
+IsWorkAsked (run_script path) s (operated p) = IsRunAsked s p
+IsWorkAsked task s w = ⊥
+
+pub work_is : (task : Task) (budget : ℕ) (s : State) (w : Work) → (work_asked task budget s).Gives (Ok w) → IsWorkAsked task s w
+work_is (reach from) budget s w (inl never) = absurd never
+work_is (reach from) budget s w (inr (p, given, e)) =
+    let same : planned p ≡ w = cc in subst (IsWorkAsked (reach from) s) same (asked_is from budget s p given)
+work_is (run_script path) budget s w (inl never) = absurd never
+work_is (run_script path) budget s w (inr (p, given, e)) =
+    let same : operated p ≡ w = cc in subst (IsWorkAsked (run_script path) s) same (run_is path budget s p given)
+
 -- ---- a way
 
 module _ (ctx : Ctx) (goal : Config) where
@@ -82,16 +129,87 @@ module _ (ctx : Ctx) (goal : Config) where
   way_last c [] x way = sym way
   way_last c (m ∷ ms) x way = way_last (step c m) ms x way.1
 
--- a plan for what is asked is right
-abbrev pub right_plan : (from : Target) (s : State) (p : Planning) (ms : List Move) → IsAsked from s p → IsPlanFor p ms → IsRightPlan from s ms
-right_plan from s p ms is plan = record {
-  ctx = p.ctx;
-  read = is.read;
-  start = p.start;
-  stands = is.start.stands;
-  goal = p.goal;
-  made = is.made;
-  valid = way_valid p.ctx p.goal p.start ms p.goal is.start.valid plan.0;
-  allowed = way_allowed p.ctx p.goal p.start ms p.goal plan.0;
-  last = way_last p.ctx p.goal p.start ms p.goal plan.0;
+-- ---- commits
+
+-- each commit is allowed where it stands
+leads_allowed : (book : Rulebook) (c : Config) (ks : List Commit) (x : Config) → Leads book c ks x → (i : ℕ) (m : Move) → slice_get (moves_of ks) i ≡ Some m
+    → (goal : Config) × IsAllowed book goal (conf c (moves_of ks) i) m
+leads_allowed book c [] x leads zero m e = absurd cc
+leads_allowed book c [] x leads (suc i) m e = absurd cc
+leads_allowed book c (k ∷ ks) x leads zero m e = let same : k.mv ≡ m = cc in (k.goal, subst (λ (n : Move). IsAllowed book k.goal c n) same leads.0)
+leads_allowed book c (k ∷ ks) x leads (suc i) m e = leads_allowed book (step c k.mv) ks x leads.1 i m e
+
+-- what the operators of a script have committed leads on from the stored configuration
+run_leads : (p : Operating) (text : List ℕ) (after : WorldState) → IsValidIn p.ctx p.start → IsOperated p text after → Leads (rulebook p.ctx) p.start after.commits after.config
+run_leads p text after valid told =
+    let from : Leads (rulebook p.ctx) after.opening after.commits after.config =
+    subst (λ (x : Ctx). Leads (rulebook x) after.opening after.commits after.config) (operated_ctx p text after told) (operated_kept p text after told valid).leads in
+    subst (λ (x : Config). Leads (rulebook p.ctx) x after.commits after.config) (operated_opening p text after told) from
+
+-- how many there are, behind a text
+commits_behind : (told : List ℕ) (n : ℕ) → told ++ commits_line n ≡ told ++ codes "commits " ++ decimal n ++ line_feed
+commits_behind told n =
+    sym (append_assoc told (codes "commits " ++ decimal n) line_feed)
+    ∙ ap (λ (text : List ℕ). text ++ line_feed) (sym (append_assoc told (codes "commits ") (decimal n)))
+
+-- ---- right moves
+
+-- what a task asks for and what it then does, as the headline says it
+pub record IsRight (task : Task) (s : State) (ctx : Ctx) (start : Config) (ms : List Move) (text : List ℕ) : Type 0 where
+  pub read : IsContextIn s ctx
+  pub stands : stored s.files ≡ Ok start
+  pub valid : (i : ℕ) → IsValidIn ctx (conf start ms i)
+  pub allowed : (i : ℕ) (m : Move) → slice_get ms i ≡ Some m
+      → (goal : Config) × IsGoal task (conf start ms (length ms)) goal × IsAllowed (rulebook ctx) goal (conf start ms i) m
+  pub is : IsTextOf task s start ms text
+
+-- a plan for what is asked
+right_plan : (from : Target) (s : State) (p : Planning) (ms : List Move) (text : List ℕ) → IsAsked from s p → IsPlanFor p ms → text ≡ plan_text ms
+    → IsRight (reach from) s p.ctx p.start ms text
+right_plan from s p ms text is plan told =
+    let last : conf p.start ms (length ms) ≡ p.goal = way_last p.ctx p.goal p.start ms p.goal plan.0 in
+    record {
+      read = is.read;
+      stands = is.start.stands;
+      valid = way_valid p.ctx p.goal p.start ms p.goal is.start.valid plan.0;
+      allowed = λ i m e. (p.goal, sym last, way_allowed p.ctx p.goal p.start ms p.goal plan.0 i m e);
+      is = (subst (IsMade from s p.start) (sym last) is.made, told);
+    }
+
+-- what the operators of a script commit
+right_run : (path : List ℕ) (s : State) (p : Operating) (text : List ℕ) (after : WorldState) → IsRunAsked s p → IsOperated p text after
+    → IsRight (run_script path) s p.ctx p.start (moves_of after.commits) text
+right_run path s p text after is told =
+    let leads = run_leads p text after is.start.valid told in
+    record {
+      read = is.read;
+      stands = is.start.stands;
+      valid = λ i. each_is_valid (rulebook p.ctx) p.start after.commits after.config i is.start.valid leads;
+      allowed = λ i m e. let k = leads_allowed (rulebook p.ctx) p.start after.commits after.config leads i m e in (k.0, tt, k.1);
+      is = (
+        reply_lines p.lines told.0,
+        told.2 ∙ ap (λ (n : ℕ). reply_lines p.lines told.0 ++ commits_line n) (sym (length-map after.commits (λ (k : Commit). k.mv)))
+            ∙ commits_behind (reply_lines p.lines told.0) (length (moves_of after.commits)),
+      );
+    }
+
+pub is_right : (task : Task) (s : State) (w : Work) (ms : List Move) (text : List ℕ) → IsWorkAsked task s w → IsWorkOf w ms text → IsRight task s (ctx_of w) (start_of w) ms text
+is_right (reach from) s (planned p) ms text is work = right_plan from s p ms text is work.0 work.1
+is_right (reach from) s (operated p) ms text never work = absurd never
+is_right (run_script path) s (planned p) ms text never work = absurd never
+is_right (run_script path) s (operated p) ms text is (after, told, moves) =
+    subst (λ (x : List Move). IsRight (run_script path) s p.ctx p.start x text) (sym moves) (right_run path s p text after is told)
+
+-- the moves of a work that is asked are right
+abbrev pub right_work : (task : Task) (s : State) (w : Work) (ms : List Move) (text : List ℕ) → IsWorkAsked task s w → IsWorkOf w ms text → IsRightWork task s
+right_work task s w ms text is work = record {
+  ctx = ctx_of w;
+  read = (is_right task s w ms text is work).read;
+  start = start_of w;
+  stands = (is_right task s w ms text is work).stands;
+  moves = ms;
+  valid = (is_right task s w ms text is work).valid;
+  allowed = (is_right task s w ms text is work).allowed;
+  text = text;
+  is = (is_right task s w ms text is work).is;
 }

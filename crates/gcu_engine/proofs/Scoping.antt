@@ -1,5 +1,5 @@
 -- What is done over the files of a scope, as the folder has it.
-use Rattle.std.proofs.Common.{◌≡◌, ◌≤◌, ◌⊎◌, ⊎_elim, inl, ℕ, List, refl, sym, ap, subst, arith, Option, Some, None, IfSome, IsSome, option_map}
+use Rattle.std.proofs.Common.{◌≡◌, ◌≤◌, ◌⊎◌, ⊎_elim, inl, ℕ, List, refl, sym, ap, ◌∙◌, subst, arith, Option, Some, None, IfSome, IsSome, option_map}
 use Rattle.std.specs.FinMap.{get}
 use Rattle.host_core.specs.Counts.{Counts, NoneFell, NoneRose}
 use Rattle.host_core.specs.Crashes.{Image, Left, LeavesOnly, MayLeaveNow}
@@ -63,6 +63,9 @@ others_ever moment left_since scope old new (Some s) later clean now keeps = rec
 pub some_or_none : {A : Type 0} (o : Option A) → IsSome o → o ≡ None → ⊥
 some_or_none None some none = absurd cc
 some_or_none (Some a) some none = absurd cc
+
+pub is_there : {A : Type 0} (o : Option A) (a : A) → Some a ≡ o → o ≡ None → ⊥
+is_there o a some none = let apart : Some a ≡ None = some ∙ none in absurd cc
 
 -- what holds behind the views holds of the host
 pub at_ends : {H : Type 0} (P : H → H → Type 0) (old behind new ended : H) → behind ≡ old → new ≡ ended → P behind ended → P old new

@@ -8,7 +8,6 @@ use Rattle.conf_store.specs.Changes.{Leads}
 use Rattle.checkpoints.specs.Changes.{IsDeleted, IsDeletedOrNot, IsSaved, IsSavedOrNot}
 use Rattle.checkpoints.specs.Migrations.{NewFile}
 use Rattle.checkpoint_migration.specs.declared.errors.MigrateFault.TheVariants as migration_fault
-use Rattle.move_core.specs.Operations.{plan_text}
 use Rattle.move_core.specs.declared.moves.Move.{Move}
 use Rattle.change_apply.specs.Change.{name_at}
 use Rattle.change_apply.specs.Intents.{IsClosedOrNot}
@@ -19,14 +18,14 @@ use Rattle.gcu_output.specs.declared.outcomes.Outcome.{Outcome}
 use Rattle.gcu_output.specs.declared.outcomes.Outcome.TheVariants.{Done, Memory, Usage, InputFault, DiskFault, PrintFault, ServiceFault, Unorderable, Budget}
 use Rattle.gcu_requests.specs.Asked.{asked}
 use Rattle.gcu_requests.specs.Asking.{Asking, an_input, a_file, a_settling}
-use Rattle.gcu_requests.specs.Request.{Planning, Request, abandon, accept_plan, change, check, delete_checkpoint, demo, list_checkpoints, migrate_checkpoints, plan, preview, save_checkpoint, status, rehearse}
-use Rattle.operators.specs.Runs.{IsOperated}
-use Rattle.sessions.specs.Worlds.{WorldState}
+use Rattle.gcu_requests.specs.Request.{Request, Work, abandon, accept_plan, change, check, ctx_of, delete_checkpoint, demo, list_checkpoints, migrate_checkpoints, plan, plan_scopes, preview, save_checkpoint, status}
 use Rattle.gcu_engine.specs.Changing.{AreAcknowledged, IsChanged, IsCutShort, IsHalted, closed}
 use Rattle.gcu_engine.specs.Migrating.{AreTold, IsMigrated, IsMigrationStopped}
 use Rattle.gcu_engine.specs.Plannings.{IsPlanFor, IsUnsolved}
 use Rattle.gcu_engine.specs.PointLines.{point_lines}
+use Rattle.gcu_engine.specs.ScopeTexts.{scopes_text}
 use Rattle.gcu_engine.specs.Summary.{summary, yes_line}
+use Rattle.gcu_engine.specs.Works.{IsWorkOf}
 
 -- a fault is told only where its count rose
 abbrev pub HasCause : Counts → Counts → Outcome → Type 0
@@ -52,7 +51,7 @@ LeavesDone (save_checkpoint name config) before now =
     (files : Files) × (now ≡ record before { files = files; pending = settled })
     × IsSaved name config before.files files
 LeavesDone (migrate_checkpoints news) before now = IsMigrated news before now
-LeavesDone (change p) before now = IsChanged p before now
+LeavesDone (change w) before now = IsChanged w before now
 LeavesDone abandon before now = now ≡ closed before
 LeavesDone other before now = now ≡ before
 
@@ -65,7 +64,7 @@ LeavesStopped (save_checkpoint name config) step before now =
     (step ≡ 0) × Leads (IsSavedOrNot name config) (with_pending settled before) now
 LeavesStopped (migrate_checkpoints news) step before now =
     IsMigrationStopped news (migration_fault.Disk step) before now
-LeavesStopped (change p) step before now = IsHalted p (Disk step) before now
+LeavesStopped (change w) step before now = IsHalted w (Disk step) before now
 LeavesStopped abandon step before now =
     (step ≡ 0) × Leads IsClosedOrNot (with_pending settled before) now
 LeavesStopped other step before now = ⊥
@@ -87,25 +86,22 @@ done_output check = last_line Done
 done_output (migrate_checkpoints news) = last_line Done
 done_output (save_checkpoint name config) = last_line Done
 done_output (delete_checkpoint name) = last_line Done
-done_output (plan p) = last_line Done
-done_output (change p) = last_line Done
+done_output (plan w) = last_line Done
+done_output (change w) = last_line Done
 done_output (status intent steps) = status_text intent steps ++ last_line Done
 done_output abandon = last_line Done
 done_output (demo p ports) = last_line Done
 done_output (accept_plan count) = yes_line count ++ last_line Done
-done_output (rehearse p) = last_line Done
+done_output (plan_scopes plans) = scopes_text plans ++ last_line Done
 
--- the same with the text of some plan, where one is requested, with how many moves it has, or with what
--- operators are told
+-- the same with what is printed before some work, where that is requested, or with how many moves a plan has
 abbrev pub IsDoneOutput : Request → List ℕ → Type 0
-IsDoneOutput (plan p) output =
-    (ms : List Move) × IsPlanFor p ms × (output ≡ plan_text ms ++ done_output (plan p))
+IsDoneOutput (plan w) output =
+    (ms : List Move) × (text : List ℕ) × IsWorkOf w ms text
+    × (output ≡ text ++ done_output (plan w))
 IsDoneOutput (demo p ports) output =
     (ms : List Move) × IsPlanFor p ms
     × (output ≡ summary ports (length ms) ++ done_output (demo p ports))
-IsDoneOutput (rehearse p) output =
-    (told : List ℕ) × (after : WorldState) × IsOperated p told after
-    × (output ≡ told ++ done_output (rehearse p))
 IsDoneOutput other output = output ≡ done_output other
 
 -- a plan is requested, and none is found for that reason
@@ -124,8 +120,8 @@ Says asking before now (DiskFault step) output =
     asking.Reads a_file × IsStopped asking step before now × (output ≡ last_line (DiskFault step))
 Says asking before now (PrintFault step) output = ⊥
 Says asking before now (ServiceFault step service) output =
-    (p : Planning) × asking.Gives (Ok (change p)) × IsHalted p (Service step service) before now
-    × (output ≡ service_line step service (name_at p.ctx.settings service))
+    (w : Work) × asking.Gives (Ok (change w)) × IsHalted w (Service step service) before now
+    × (output ≡ service_line step service (name_at (ctx_of w).settings service))
 Says asking before now Unorderable output =
     EndsSearch asking Unorderable × IsUntouched asking before now × (output ≡ last_line Unorderable)
 Says asking before now (Budget n) output =
@@ -146,7 +142,7 @@ abbrev pub Prints : Asking Request
 Prints asking before now old new (PrintFault step) output =
     ((AreAcknowledged step before now ⊎ AreTold step before now)
     × SaysPart asking before now old new output)
-    ⊎ (((p : Planning) × asking.Gives (Ok (change p)) × IsCutShort p step before now output)
+    ⊎ (((w : Work) × asking.Gives (Ok (change w)) × IsCutShort w step before now output)
     ⊎ ((news : List NewFile) × asking.Gives (Ok (migrate_checkpoints news))
     × IsMigrationStopped news (migration_fault.Print step) before now × (output ≡ [])))
 Prints asking before now old new other output = Says asking before now other output
@@ -191,13 +187,13 @@ Finishes check result = result ≡ Done
 Finishes (migrate_checkpoints news) result = result ≡ Done
 Finishes (save_checkpoint name config) result = result ≡ Done
 Finishes (delete_checkpoint name) result = result ≡ Done
-Finishes (plan p) result = (result ≡ Done) ⊎ IsUnsolved (plan p) result
-Finishes (change p) result = (result ≡ Done) ⊎ IsUnsolved (change p) result
+Finishes (plan w) result = (result ≡ Done) ⊎ IsUnsolved (plan w) result
+Finishes (change w) result = (result ≡ Done) ⊎ IsUnsolved (change w) result
 Finishes (status intent steps) result = result ≡ Done
 Finishes abandon result = result ≡ Done
 Finishes (demo p ports) result = (result ≡ Done) ⊎ IsUnsolved (demo p ports) result
 Finishes (accept_plan count) result = result ≡ Done
-Finishes (rehearse p) result = result ≡ Done
+Finishes (plan_scopes plans) result = result ≡ Done
 
 -- the answers where nothing failed: for want of memory, the refusal, or what the request says
 abbrev pub Complete : Asking Request → Outcome → Type 0

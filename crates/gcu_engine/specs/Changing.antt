@@ -1,11 +1,10 @@
--- What a change leaves and has printed that does what is planned: finished, or stopped.
+-- What a change leaves and has printed that does a work: finished, or stopped.
 use Rattle.std.specs.Prelude.{◌≡◌, ◌≢◌, ◌⊎◌, ℕ, List, [], ◌++◌, codes, map, Some, None}
 use Rattle.std.specs.FinMap.{get}
 use Rattle.host_core.specs.State.{State, printed, settled, with_pending}
 use Rattle.conf_doc.specs.Texts.{line_feed}
 use Rattle.conf_store.specs.Files.{intent_file}
 use Rattle.conf_store.specs.Folds.{StandsFor}
-use Rattle.move_core.specs.Operations.{plan_text}
 use Rattle.move_core.specs.Services.{services_of}
 use Rattle.move_core.specs.declared.moves.Move.{Move}
 use Rattle.change_apply.specs.Acknowledgements.{acks}
@@ -17,20 +16,22 @@ use Rattle.change_apply.specs.declared.errors.ApplyFault.TheVariants.{Disk, Prin
 use Rattle.gcu_output.specs.Lines.{last_line, service_line}
 use Rattle.gcu_output.specs.declared.outcomes.Outcome.{Outcome}
 use Rattle.gcu_output.specs.declared.outcomes.Outcome.TheVariants.{Done, DiskFault, ServiceFault}
-use Rattle.gcu_requests.specs.Request.{Planning}
-use Rattle.gcu_engine.specs.Plannings.{IsPlanFor}
+use Rattle.gcu_requests.specs.Request.{Work, ctx_of, start_of}
+use Rattle.gcu_engine.specs.Works.{IsWorkOf}
 
--- the change that does a plan on what the folder stands for, with the services of each move
-pub record IsChangeFor (p : Planning) (before : State) (c : Change) : Type 0 where
+-- the change that does a work on what the folder stands for, with the services of each move, and what is
+-- printed before it
+pub record IsChangeFor (w : Work) (before : State) (c : Change) (text : List ℕ) : Type 0 where
   pub stands : StandsFor c.stored before.files
-  pub start : c.stored.config ≡ p.start
-  pub plan : IsPlanFor p c.moves
+  pub start : c.stored.config ≡ start_of w
+  pub work : IsWorkOf w c.moves text
   pub restarts :
-      c.restarts ≡ map (restarts_of p.ctx.settings) (map (services_of p.ctx.settings) c.moves)
+      c.restarts
+      ≡ map (restarts_of (ctx_of w).settings) (map (services_of (ctx_of w).settings) c.moves)
 
--- nothing is pending any more, and the text of its plan is printed
-abbrev pub begun : Change → State → State
-begun c before = printed (plan_text c.moves) (with_pending settled before)
+-- nothing is pending any more, and what is printed before a work is
+abbrev pub begun : List ℕ → State → State
+begun text before = printed text (with_pending settled before)
 
 -- the same with `intent` gone, and nothing pending
 abbrev pub closed : State → State
@@ -43,35 +44,36 @@ IsBegun c told began = (began ≡ told) ⊎ ((steps c ≡ 0) × (began ≡ close
 -- ---- finished and stopped
 
 -- all its steps are done and acknowledged, and `intent` is gone
-abbrev pub IsChanged : Planning → State → State → Type 0
-IsChanged p before now =
-    (c : Change) × IsChangeFor p before c
-    × (began : State) × IsBegun c (begun c before) began
+abbrev pub IsChanged : Work → State → State → Type 0
+IsChanged w before now =
+    (c : Change) × (text : List ℕ) × IsChangeFor w before c text
+    × (began : State) × IsBegun c (begun text before) began
     × IsFinished c (Some began) (Some now) × (get now.files intent_file ≡ None)
 
 -- it is stopped by this fault
-abbrev pub IsHalted : Planning → ApplyFault → State → State → Type 0
-IsHalted p fault before now =
-    (c : Change) × IsChangeFor p before c
-    × (began : State) × IsBegun c (begun c before) began × IsStoppedBy c fault began now
+abbrev pub IsHalted : Work → ApplyFault → State → State → Type 0
+IsHalted w fault before now =
+    (c : Change) × (text : List ℕ) × IsChangeFor w before c text
+    × (began : State) × IsBegun c (begun text before) began × IsStoppedBy c fault began now
 
--- a front of the text of its plan is printed, and nothing is begun
-abbrev pub IsCutInPlan : Planning → State → State → List ℕ → Type 0
-IsCutInPlan p before now output =
-    (c : Change) × (rest : List ℕ) × IsChangeFor p before c
-    × (plan_text c.moves ≡ output ++ rest) × (now ≡ with_pending settled before)
+-- a front of what is printed before it is printed, and nothing is begun
+abbrev pub IsCutBefore : Work → State → State → List ℕ → Type 0
+IsCutBefore w before now output =
+    (c : Change) × (text : List ℕ) × (rest : List ℕ) × IsChangeFor w before c text
+    × (text ≡ output ++ rest) × (now ≡ with_pending settled before)
 
--- a print fault cut the text of the plan short, or the acknowledgement behind so many
-abbrev pub IsCutShort : Planning → ℕ → State → State → List ℕ → Type 0
-IsCutShort p step before now output =
-    ((step ≡ 0) × IsCutInPlan p before now output)
-    ⊎ (IsHalted p (Print step) before now × (output ≡ []))
+-- a print fault cut that short, or the acknowledgement behind so many
+abbrev pub IsCutShort : Work → ℕ → State → State → List ℕ → Type 0
+IsCutShort w step before now output =
+    ((step ≡ 0) × IsCutBefore w before now output)
+    ⊎ (IsHalted w (Print step) before now × (output ≡ []))
 
--- nothing was printed yet, or a plan and so many acknowledgements
+-- nothing was printed yet, or what is printed before a work, and so many acknowledgements
 abbrev pub AreAcknowledged : ℕ → State → State → Type 0
 AreAcknowledged step before now =
     ((step ≡ 0) × (now.output ≡ before.output))
-    ⊎ ((ms : List Move) × (now.output ≡ before.output ++ plan_text ms ++ acks step))
+    ⊎ ((w : Work) × (ms : List Move) × (text : List ℕ) × IsWorkOf w ms text
+    × (now.output ≡ before.output ++ text ++ acks step))
 
 -- ---- the last line
 

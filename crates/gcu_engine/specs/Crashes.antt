@@ -6,7 +6,6 @@ use Rattle.conf_store.specs.Changes.{AreLeft}
 use Rattle.checkpoints.specs.Changes.{IsDeletedOrNot, IsSavedOrNot}
 use Rattle.checkpoints.specs.Migrations.{NewFile}
 use Rattle.checkpoints.specs.Points.{points}
-use Rattle.move_core.specs.Operations.{plan_text}
 use Rattle.change_apply.specs.Acknowledgements.{acks}
 use Rattle.change_apply.specs.Change.{Change}
 use Rattle.change_apply.specs.Crashes.{IsLeft}
@@ -14,10 +13,10 @@ use Rattle.change_apply.specs.Intents.{IsClosedOrNot}
 use Rattle.gcu_output.specs.declared.outcomes.Outcome.{Outcome}
 use Rattle.gcu_requests.specs.Asked.{form_asked, migrate_asked}
 use Rattle.gcu_requests.specs.Asking.{Asking}
-use Rattle.gcu_requests.specs.ChangeAsked.{change_asked}
 use Rattle.gcu_requests.specs.Form as forms
 use Rattle.gcu_requests.specs.Form.{Form, form}
-use Rattle.gcu_requests.specs.Request.{Planning, Request, abandon, change, delete_checkpoint, migrate_checkpoints, save_checkpoint}
+use Rattle.gcu_requests.specs.Request.{Request, Work, abandon, change, delete_checkpoint, migrate_checkpoints, save_checkpoint}
+use Rattle.gcu_requests.specs.WorkAsked.{change_asked}
 use Rattle.gcu_engine.specs.Answers.{Says}
 use Rattle.gcu_engine.specs.Changing.{IsBegun, IsChangeFor, IsLast, acknowledged, begun}
 use Rattle.gcu_engine.specs.Migrating.{LeftMigrating}
@@ -30,13 +29,13 @@ IsOutputFront asking before part =
     (now : State) × (answer : Outcome) × (rest : List ℕ)
     × Says asking before now answer (part ++ rest) × (now.output ≡ before.output)
 
--- a front of the text of a plan that is then done
-abbrev pub IsPlanFront : Asking Request → State → List ℕ → Type 0
-IsPlanFront asking before part =
-    (p : Planning) × (c : Change) × (rest : List ℕ) × asking.Gives (Ok (change p))
-    × IsChangeFor p before c × (plan_text c.moves ≡ part ++ rest)
+-- a front of what is printed before a work that is then done
+abbrev pub IsWorkFront : Asking Request → State → List ℕ → Type 0
+IsWorkFront asking before part =
+    (w : Work) × (c : Change) × (text : List ℕ) × (rest : List ℕ) × asking.Gives (Ok (change w))
+    × IsChangeFor w before c text × (text ≡ part ++ rest)
 
--- ---- a command that does no plan
+-- ---- a command that does no task
 
 -- the files are changed as a request changes them that writes, and all else is as before
 abbrev pub LeftWriting : Request → State → Left → Type 0
@@ -56,13 +55,13 @@ abbrev pub LeftOf : Asking Request → State → Left → Type 0
 LeftOf asking before left =
     (part : List ℕ) × IsOutputFront asking before part × LeftBy asking (printed part before) left
 
--- ---- a command that does a plan
+-- ---- a command that does a task
 
--- while nothing is written yet: what was there, with a front of what is printed where nothing is done, or of
--- the text of the plan
+-- while nothing is written yet: what was there, with a front of what is printed where nothing is done, or
+-- before a work
 abbrev pub LeftEarly : Asking Request → State → Left → Type 0
 LeftEarly asking before left =
-    (part : List ℕ) × (IsOutputFront asking before part ⊎ IsPlanFront asking before part)
+    (part : List ℕ) × (IsOutputFront asking before part ⊎ IsWorkFront asking before part)
     × MayLeave (printed part before) left
 
 -- what a change leaves while its last line is printed, behind its acknowledgements; the line is that of the
@@ -80,19 +79,20 @@ pub record LeftLast (c : Change) (answered before : State) (left : Left) : Type 
 abbrev pub LeftSince : Change → (answered began : State) → Left → Type 0
 LeftSince c answered began left = IsLeft c began left ⊎ LeftLast c answered began left
 
--- what it leaves once the text of its plan is printed, wherever it begins
+-- what it leaves once all is printed that stands before it, wherever it begins
 abbrev pub LeftChanged : Change → State → Left → Type 0
 LeftChanged c told left =
     (answered : State) × (began : State) × IsBegun c told answered × IsBegun c told began
     × LeftSince c answered began left
 
--- what a command leaves that does a plan: what was there, or what its change leaves with the checkpoints from
+-- what a command leaves that does a task: what was there, or what its change leaves with the checkpoints from
 -- before
 abbrev pub LeftOfChange : Asking Request → State → Left → Type 0
 LeftOfChange asking before left =
     LeftEarly asking before left
-    ⊎ ((p : Planning) × (c : Change) × asking.Gives (Ok (change p)) × IsChangeFor p before c
-    × LeftChanged c (begun c before) left × (points left.files ≡ points before.files))
+    ⊎ ((w : Work) × (c : Change) × (text : List ℕ) × asking.Gives (Ok (change w))
+    × IsChangeFor w before c text
+    × LeftChanged c (begun text before) left × (points left.files ≡ points before.files))
 
 -- ---- a migration of checkpoints
 
@@ -107,8 +107,8 @@ LeftOfMigration asking before left =
 
 -- what a crash leaves of the command that words are
 abbrev pub LeftByForm : Option Form → State → Left → Type 0
-LeftByForm (Some (forms.change target budget)) before left =
-    LeftOfChange (change_asked target budget before) before left
+LeftByForm (Some (forms.change task budget)) before left =
+    LeftOfChange (change_asked task budget before) before left
 LeftByForm (Some forms.migrate_checkpoints) before left =
     LeftOfMigration (migrate_asked before) before left
 LeftByForm other before left = LeftOf (form_asked other before) before left

@@ -1,4 +1,4 @@
--- What the parts of a command that does a plan give and leave.
+-- What the parts of a command that does a task give and leave.
 use Rattle.std.specs.Prelude.{◌≡◌, ◌<◌, ◌⊎◌, ℕ, List, [], ◌∷◌, ◌++◌, Bool, true, false, IsSome, length, map, Option, Some, None, Result, Ok, Err, option_map, ⊤}
 use Rattle.std.specs.FinMap.{get}
 use Rattle.host_core.specs.Counts.{Counts, Rose}
@@ -6,7 +6,6 @@ use Rattle.host_core.specs.Crashes.{Left, MayLeaveInPrint}
 use Rattle.host_core.specs.State.{Files, State, printed, settled, with_pending, PrintsPart}
 use Rattle.conf_store.specs.Files.{intent_file}
 use Rattle.conf_store.specs.declared.loaded.Stored.{Stored}
-use Rattle.move_core.specs.Operations.{plan_text}
 use Rattle.move_core.specs.Services.{services_of}
 use Rattle.move_core.specs.declared.moves.Move.{Move}
 use Rattle.move_core.specs.declared.settings.Settings.{Settings}
@@ -18,28 +17,37 @@ use Rattle.gcu_output.specs.declared.outcomes.Outcome.{Outcome}
 use Rattle.gcu_output.specs.declared.outcomes.Outcome.TheVariants.{PrintFault, Unorderable, Budget}
 use Rattle.gcu_requests.specs.Asking.{Asking}
 use Rattle.gcu_requests.specs.Preparing.{FailsIn, StandsIn, refusal}
-use Rattle.gcu_requests.specs.Request.{Planning, Request}
+use Rattle.gcu_requests.specs.ReadScripts.{operating_of}
+use Rattle.gcu_requests.specs.Request.{Request, Work, operated}
+use Rattle.gcu_requests.specs.declared.session_preparing.Operating.{Operating}
 use Rattle.gcu_engine.specs.FaultLines.{AreFaultLines, AreNamed}
 use Rattle.gcu_engine.specs.Answers.{HasCause}
 use Rattle.gcu_engine.specs.Changing.{IsBegun, IsChangeFor, IsLast, acknowledged}
 use Rattle.gcu_engine.specs.Crashes.{LeftChanged, LeftEarly, LeftOfChange}
-use Rattle.gcu_engine.specs.Plannings.{HasNone}
+use Rattle.gcu_engine.specs.Plannings.{HasNoWork}
+use Rattle.gcu_engine.specs.Works.{IsWorkOf}
 use Rattle.gcu_engine.specs.declared.change.ReadyChange.{ReadyChange}
 
 -- ---- what is ready
 
--- the change of a plan on what was loaded, with the services of each move
+-- the change of some moves on what was loaded, with the services of each
 abbrev pub change_by : Settings → Stored → List Move → Change
 change_by settings what ms = change_of what ms (map (services_of settings) ms) settings
 
 -- the bytes are those of the change
 pub record HasBytes (ready : ReadyChange) : Type 0 where
-  pub text : ready.text.items ≡ plan_text ready.ready.moves
   pub steps_are : ready.steps ≡ steps ready.ready
   pub long : length ready.ready.restarts ≡ steps ready.ready
   pub lines_are : AreFaultLines ready.ready.restarts ready.lines
   pub settings : Settings
   pub named : (k : ℕ) → AreNamed settings (restarts_at ready.ready k)
+
+-- it does what the operators of a script commit, behind what they are told
+pub record IsReadyRun (p : Operating) (ready : ReadyChange) : Type 0 where
+  pub moves : List Move
+  pub work : IsWorkOf (operated (operating_of p)) moves ready.text.items
+  pub change : ready.ready ≡ change_by p.ctx.settings p.stored moves
+  pub closes : ready.closes ≡ false
 
 -- no step is left of a change that was stopped
 abbrev pub is_over : Target → List Move → Bool
@@ -52,24 +60,24 @@ abbrev pub ClosesAs : Bool → Change → Files → Type 0
 ClosesAs true c files = (steps c ≡ 0) × IsSome (get files intent_file)
 ClosesAs false c files = (0 < steps c) ⊎ (get files intent_file ≡ None)
 
--- it is the change for what is to be planned of that state
-abbrev pub IsReadyIn : Asking Planning → State → ReadyChange → Type 0
+-- it is the change for the work that is asked of that state, with what is printed before it
+abbrev pub IsReadyIn : Asking Work → State → ReadyChange → Type 0
 IsReadyIn asking s ready =
-    (p : Planning) × asking.Gives (Ok p) × IsChangeFor p s ready.ready
+    (w : Work) × asking.Gives (Ok w) × IsChangeFor w s ready.ready ready.text.items
     × ClosesAs ready.closes ready.ready s.files
 
 -- nothing is changed, or what was pending is settled
 abbrev pub IsKept : Option State → Option State → Type 0
 IsKept before now = (now ≡ before) ⊎ (now ≡ option_map (with_pending settled) before)
 
--- why there is no plan: something is refused, or none is found
-abbrev pub IsMissed : Asking Planning → Outcome → Type 0
-IsMissed asking Unorderable = (p : Planning) × asking.Gives (Ok p) × HasNone p Unorderable
-IsMissed asking (Budget n) = (p : Planning) × asking.Gives (Ok p) × HasNone p (Budget n)
+-- why there is no work: something is refused, or no plan is found
+abbrev pub IsMissed : Asking Work → Outcome → Type 0
+IsMissed asking Unorderable = (w : Work) × asking.Gives (Ok w) × HasNoWork w Unorderable
+IsMissed asking (Budget n) = (w : Work) × asking.Gives (Ok w) × HasNoWork w (Budget n)
 IsMissed asking e = FailsIn (refusal e) asking × StandsIn asking e
 
 -- a change that is ready, or why there is none
-abbrev pub IsPrepared : Asking Planning → State → Result ReadyChange Outcome → Type 0
+abbrev pub IsPrepared : Asking Work → State → Result ReadyChange Outcome → Type 0
 IsPrepared asking s (Ok ready) = IsReadyIn asking s ready
 IsPrepared asking s (Err e) = IsMissed asking e
 
@@ -101,7 +109,7 @@ IsCutInStep c began after result =
     (now : State) × (step : ℕ) × IsStoppedBy c (Print step) began now
     × (result ≡ PrintFault step) × (after ≡ Some now)
 
--- once the text of the plan is printed
+-- once all is printed that stands before it
 abbrev pub EndsWork : Change → Option State → Option State → Counts → Counts → Outcome → Type 0
 EndsWork c None after old new result = after ≡ None
 EndsWork c (Some began) after old new result =
@@ -114,26 +122,26 @@ EndsFrom c None after old new result = after ≡ None
 EndsFrom c (Some told) after old new result =
     (began : State) × IsBegun c told began × EndsWork c (Some began) after old new result
 
--- a front of the text of the plan is printed, or all of it
-abbrev pub EndsChange : Change → Option State → Option State → Counts → Counts → Outcome → Type 0
-EndsChange c before after old new result =
-    ((result ≡ PrintFault 0) × PrintsPart (plan_text c.moves) before after)
-    ⊎ EndsFrom c (option_map (printed (plan_text c.moves)) before) after old new result
+-- a front of what is printed before it is printed, or all of that
+abbrev pub EndsChange : List ℕ → Change
+    → Option State → Option State → Counts → Counts → Outcome → Type 0
+EndsChange text c before after old new result =
+    ((result ≡ PrintFault 0) × PrintsPart text before after)
+    ⊎ EndsFrom c (option_map (printed text) before) after old new result
 
 -- ---- what a crash leaves
 
--- what a change that is ready leaves from the text of its plan on
-abbrev pub LeftDoing : Change → State → Left → Type 0
-LeftDoing c s left =
-    MayLeaveInPrint (plan_text c.moves) (Some s) left
-    ⊎ LeftChanged c (printed (plan_text c.moves) s) left
+-- what a change that is ready leaves from what is printed before it on
+abbrev pub LeftDoing : List ℕ → Change → State → Left → Type 0
+LeftDoing text c s left =
+    MayLeaveInPrint text (Some s) left ⊎ LeftChanged c (printed text s) left
 
 -- what a question leaves while nothing is written, of a host that may not tell its state
 abbrev pub LeftToEarly : (State → Asking Request) → Option State → Left → Type 0
 LeftToEarly asking None left = ⊤
 LeftToEarly asking (Some before) left = LeftEarly (asking before) before left
 
--- what a question leaves whose plan is done
+-- what a question leaves whose task is done
 abbrev pub LeftToChange : (State → Asking Request) → Option State → Left → Type 0
 LeftToChange asking None left = ⊤
 LeftToChange asking (Some before) left = LeftOfChange (asking before) before left

@@ -6,11 +6,13 @@
 -- checkpoints are whole; a finished rollback stores exactly its checkpoint.
 --
 -- Of `replace`, `rollback` and `resume` the last configuration is that of the file, of the checkpoint and of
--- `intent`. Where no plan is done, or the command is refused, the stored configuration after a crash is that of the beginning.
-use Rattle.std.specs.Prelude.{◌≡◌, ◌≢◌, ◌≤◌, ◌⊎◌, ℕ, suc, List, [], ◌∷◌, ◌++◌, codes, length, slice_get, Contains, Option, Some, Ok}
+-- `intent`. Of `sessions` the moves are what its operators commit. Where nothing is done, or the command is refused,
+-- the stored configuration after a crash is that of the beginning.
+use Rattle.std.specs.Prelude.{◌≡◌, ◌≢◌, ◌≤◌, ◌⊎◌, ℕ, suc, List, [], ◌∷◌, ◌++◌, codes, decimal, length, slice_get, Contains, Option, Some, Ok, ⊤}
 use Rattle.std.specs.FinMap.{get}
 use Rattle.host_core.specs.Crashes.{Left}
 use Rattle.host_core.specs.State.{Files, State}
+use Rattle.conf_doc.specs.Texts.{line_feed}
 use Rattle.conf_doc.specs.declared.configuration.Config.{Config}
 use Rattle.conf_store.specs.Changes.{IsSettled}
 use Rattle.conf_store.specs.Stored.{stored}
@@ -26,56 +28,71 @@ use Rattle.plan_options.specs.Options.{dry_run_word}
 use Rattle.plan_options.specs.Targets.{Target, patched, replaced, resumed, rolled_back}
 use Rattle.gcu_output.specs.declared.outcomes.Outcome.{Outcome}
 use Rattle.gcu_output.specs.declared.outcomes.Outcome.TheVariants.{Done, Memory, InputFault, Unorderable, Budget}
+use Rattle.gcu_requests.specs.Tasks.{Task, reach, run_script}
 use Rattle.gcu_engine.specs.Answers.{IsRefusal}
 use Rattle.gcu_engine.specs.Changing.{IsLastLine, IsRefusalLine}
 use Rattle.gcu_engine.specs.Contents.{IsContextIn, IsMade}
 
 -- ---- the words
 
--- the first words of a command that plans towards a target
-abbrev pub first_words : Target → List (List ℕ)
-first_words (patched path) = codes "apply-patch" ∷ path ∷ []
-first_words (replaced path) = codes "replace" ∷ path ∷ []
-first_words (rolled_back name) = codes "rollback" ∷ name ∷ []
-first_words resumed = codes "resume" ∷ []
+-- the first words of a command with a task
+abbrev pub first_words : Task → List (List ℕ)
+first_words (reach (patched path)) = codes "apply-patch" ∷ path ∷ []
+first_words (reach (replaced path)) = codes "replace" ∷ path ∷ []
+first_words (reach (rolled_back name)) = codes "rollback" ∷ name ∷ []
+first_words (reach resumed) = codes "resume" ∷ []
+first_words (run_script path) = codes "sessions" ∷ path ∷ []
 
 -- the words begin so, whatever options stand behind: with wrong ones the command is refused
-abbrev pub IsPlanCommand : Target → List (List ℕ) → Type 0
-IsPlanCommand from words = (options : List (List ℕ)) × (words ≡ first_words from ++ options)
+abbrev pub IsTaskCommand : Task → List (List ℕ) → Type 0
+IsTaskCommand task words = (options : List (List ℕ)) × (words ≡ first_words task ++ options)
 
--- the same, and no option is `--dry-run`: a command that does its plan
-abbrev pub IsChangeCommand : Target → List (List ℕ) → Type 0
-IsChangeCommand from words =
-    (options : List (List ℕ)) × (words ≡ first_words from ++ options)
+-- the same, and no option is `--dry-run`: a command that does its task
+abbrev pub IsChangeCommand : Task → List (List ℕ) → Type 0
+IsChangeCommand task words =
+    (options : List (List ℕ)) × (words ≡ first_words task ++ options)
     × (¬ Contains options dry_run_word)
 
--- ---- a plan
+-- ---- right moves
 
--- each configuration satisfies every model, each move is allowed where it stands, and the last configuration
--- is what the target makes of the stored one: of a patch the result by RFC 6902
-pub record IsRightPlan (from : Target) (s : State) (ms : List Move) : Type 0 where
+-- a goal of moves: where they lead; several operators may have any
+abbrev pub IsGoal : Task → Config → Config → Type 0
+IsGoal (reach from) last goal = goal ≡ last
+IsGoal (run_script path) last goal = ⊤
+
+-- what is printed before moves from a configuration: the plan, to what the target makes of that one, of a patch
+-- the result by RFC 6902; or what operators are told, and last how many moves there are
+abbrev pub IsTextOf : Task → State → Config → List Move → List ℕ → Type 0
+IsTextOf (reach from) s start ms text =
+    IsMade from s start (conf start ms (length ms)) × (text ≡ plan_text ms)
+IsTextOf (run_script path) s start ms text =
+    (told : List ℕ) × (text ≡ told ++ codes "commits " ++ decimal (length ms) ++ line_feed)
+
+-- each configuration from the stored one on satisfies every model, and each move is allowed where it stands
+pub record IsRightWork (task : Task) (s : State) : Type 0 where
   pub ctx : Ctx
   pub read : IsContextIn s ctx
   pub start : Config
   pub stands : stored s.files ≡ Ok start
-  pub goal : Config
-  pub made : IsMade from s start goal
-  pub valid : (i : ℕ) → IsValidIn ctx (conf start ms i)
-  pub allowed : (i : ℕ) (m : Move) → slice_get ms i ≡ Some m
-      → IsAllowed (rulebook ctx) goal (conf start ms i) m
-  pub last : conf start ms (length ms) ≡ goal
+  pub moves : List Move
+  pub valid : (i : ℕ) → IsValidIn ctx (conf start moves i)
+  pub allowed : (i : ℕ) (m : Move) → slice_get moves i ≡ Some m
+      → (goal : Config) × IsGoal task (conf start moves (length moves)) goal
+      × IsAllowed (rulebook ctx) goal (conf start moves i) m
+  pub text : List ℕ
+  pub is : IsTextOf task s start moves text
 
--- the text of such a plan and what follows it, or the last line of an answer
-abbrev pub IsPlanOutput : Target → State → List ℕ → Type 0
-IsPlanOutput from s text =
-    IsLastLine text
-    ⊎ ((ms : List Move) × (more : List ℕ) × IsRightPlan from s ms × (text ≡ plan_text ms ++ more))
+-- what is printed before right moves and what follows it, or the last line of an answer
+abbrev pub IsTaskOutput : Task → State → List ℕ → Type 0
+IsTaskOutput task s output =
+    IsLastLine output
+    ⊎ ((right : IsRightWork task s) × (more : List ℕ) × (output ≡ right.text ++ more))
 
 -- a front of such an output was printed
-abbrev pub PrintsPlan : Target → State → Option State → Type 0
-PrintsPlan from s after =
+abbrev pub PrintsTask : Task → State → Option State → Type 0
+PrintsTask task s after =
     (t : State) × (added : List ℕ) × (rest : List ℕ) × (after ≡ Some t)
-    × (t.output ≡ s.output ++ added) × IsPlanOutput from s (added ++ rest)
+    × (t.output ≡ s.output ++ added) × IsTaskOutput task s (added ++ rest)
 
 -- no sequence of allowed moves leads from the start to the goal: from the stored configuration to what the target
 -- makes of it, or in a demonstration from a generated one to another
@@ -84,18 +101,18 @@ pub record HasNoOrder (words : List (List ℕ)) (s : State) : Type 0 where
   pub read : IsContextIn s ctx
   pub start : Config
   pub goal : Config
-  pub planned : (from : Target) → IsPlanCommand from words
+  pub planned : (from : Target) → IsTaskCommand (reach from) words
       → (stored s.files ≡ Ok start) × IsMade from s start goal
   pub none : ¬ IsReachable (rulebook ctx) goal start goal
 
 -- ---- a crash
 
 -- nothing is acknowledged, and the folder stands for the same as before
-pub record IsBefore (from : Target) (s : State) (left : Left) : Type 0 where
+pub record IsBefore (task : Task) (s : State) (left : Left) : Type 0 where
   pub part : List ℕ
   pub rest : List ℕ
   pub text : IsLastLine (part ++ rest)
-      ⊎ ((ms : List Move) × IsRightPlan from s ms × (part ++ rest ≡ plan_text ms))
+      ⊎ ((right : IsRightWork task s) × (right.text ≡ part ++ rest))
   pub output : left.output ≡ s.output ++ part
   pub stored_is : stored left.files ≡ stored s.files
 
@@ -105,19 +122,17 @@ IsNoneWhole k part =
     ((rest : List ℕ) × (ack (suc k) ≡ part ++ rest) × (rest ≢ []))
     ⊎ ((rest : List ℕ) × IsLastLine (part ++ rest))
 
--- so many acknowledgements stand behind the plan, and the folder stands for the last acknowledged
--- configuration or the next
-pub record IsLastOrNext (from : Target) (s : State) (left : Left) : Type 0 where
-  pub ms : List Move
-  pub right : IsRightPlan from s ms
+-- so many acknowledgements stand behind what is printed before the moves, and the folder stands for the last
+-- acknowledged configuration or the next
+pub record IsLastOrNext (task : Task) (s : State) (left : Left) : Type 0 where
+  pub right : IsRightWork task s
   pub done : ℕ
-  pub within : done ≤ length ms
+  pub within : done ≤ length right.moves
   pub part : List ℕ
   pub cut : IsNoneWhole done part
-  pub output : left.output ≡ s.output ++ plan_text ms ++ acks done ++ part
-  pub stands :
-      (stored left.files ≡ Ok (conf right.start ms done))
-      ⊎ (stored left.files ≡ Ok (conf right.start ms (suc done)))
+  pub output : left.output ≡ s.output ++ right.text ++ acks done ++ part
+  pub stands : (stored left.files ≡ Ok (conf right.start right.moves done))
+      ⊎ (stored left.files ≡ Ok (conf right.start right.moves (suc done)))
 
 -- `checkpoint NAME` adds one, with the stored configuration
 pub record AddsPoint (words : List (List ℕ)) (s : State) (files : Files) : Type 0 where
@@ -138,12 +153,12 @@ abbrev pub HasWholePoints : List (List ℕ) → State → Files → Type 0
 HasWholePoints words s files =
     (points files ≡ points s.files) ⊎ (AddsPoint words s files ⊎ RemovesPoint words s files)
 
--- what a crash leaves: of a command that does a plan what was there or one of its configurations, of another one
+-- what a crash leaves: of a command that does a task what was there or one of its configurations, of another one
 -- what the folder stood for
 pub record IsWhole (words : List (List ℕ)) (s : State) (left : Left) : Type 0 where
-  pub change : (from : Target) → IsChangeCommand from words
-      → IsBefore from s left ⊎ IsLastOrNext from s left
-  pub other : ((from : Target) → ¬ IsChangeCommand from words)
+  pub change : (task : Task) → IsChangeCommand task words
+      → IsBefore task s left ⊎ IsLastOrNext task s left
+  pub other : ((task : Task) → ¬ IsChangeCommand task words)
       → stored left.files ≡ stored s.files
   pub points_are : HasWholePoints words s left.files
 
@@ -188,7 +203,7 @@ pub record IsQuiet (s : State) (after : Option State) : Type 0 where
 -- leaves since then
 pub record IsHeadline (words : List (List ℕ)) (s : State) (after : Option State) (result : Outcome)
     (IsLeftSince : Left → Type 0) : Type 0 where
-  pub printed : (from : Target) → IsPlanCommand from words → PrintsPlan from s after
+  pub printed : (task : Task) → IsTaskCommand task words → PrintsTask task s after
   pub no_order : result ≡ Unorderable → HasNoOrder words s
   pub crash : IsSettled s → (left : Left) → IsLeftSince left → IsWhole words s left
   -- a crash in a command that is refused leaves the files from before
@@ -198,7 +213,7 @@ pub record IsHeadline (words : List (List ℕ)) (s : State) (after : Option Stat
   pub kept : IsRefusal result → IsSettled s
       → (left : Left) → IsLeftSince left → stored left.files ≡ stored s.files
   pub quiet : IsRefusal result → IsQuiet s after
-  pub finished : (from : Target) → IsChangeCommand from words → result ≡ Done
+  pub finished : (from : Target) → IsChangeCommand (reach from) words → result ≡ Done
       → StoresTarget from s after
-  pub rolled : (name : List ℕ) → IsChangeCommand (rolled_back name) words → result ≡ Done
+  pub rolled : (name : List ℕ) → IsChangeCommand (reach (rolled_back name)) words → result ≡ Done
       → StoresPoint name s after

@@ -1,4 +1,4 @@
--- The file `intent` while a command does a plan.
+-- The file `intent` while a command does a task.
 use Rattle.std.specs.Prelude.{◌≡◌, ◌≢◌, ◌<◌, ◌≤◌, ◌⊎◌, ℕ, List, ◌++◌, length, Some, None, Ok}
 use Rattle.std.specs.FinMap.{get}
 use Rattle.host_core.specs.Crashes.{Left}
@@ -8,12 +8,11 @@ use Rattle.conf_doc.specs.declared.configuration.Config.{Config}
 use Rattle.conf_store.specs.Changes.{IsSettled}
 use Rattle.conf_store.specs.Files.{intent_file}
 use Rattle.conf_store.specs.Stored.{stored}
-use Rattle.move_core.specs.Operations.{plan_text}
-use Rattle.move_core.specs.declared.moves.Move.{Move}
+use Rattle.move_core.specs.Plans.{conf}
 use Rattle.change_apply.specs.Acknowledgements.{acks}
-use Rattle.plan_options.specs.Targets.{Target}
 use Rattle.gcu_requests.specs.Form.{change, form}
-use Rattle.gcu_engine.specs.Headline.{IsBefore, IsNoneWhole, IsRightPlan}
+use Rattle.gcu_requests.specs.Tasks.{Task}
+use Rattle.gcu_engine.specs.Headline.{IsBefore, IsNoneWhole, IsRightWork}
 
 -- it holds the file text of a configuration
 abbrev pub HoldsText : Config → Files → Type 0
@@ -27,28 +26,29 @@ IsKept s left = get left.files intent_file ≡ get s.files intent_file
 abbrev pub IsOver : Config → Files → Type 0
 IsOver goal files = (get files intent_file ≡ None) × (stored files ≡ Ok goal)
 
--- a plan is printed, and so many of its steps are acknowledged
-pub record IsIntended (from : Target) (s : State) (left : Left) : Type 0 where
-  pub ms : List Move
-  pub right : IsRightPlan from s ms
+-- all is printed before some moves, and so many of them are acknowledged; the last configuration is the goal
+pub record IsIntended (task : Task) (s : State) (left : Left) : Type 0 where
+  pub right : IsRightWork task s
+  pub goal : Config
+  pub last : conf right.start right.moves (length right.moves) ≡ goal
   pub done : ℕ
   pub part : List ℕ
   pub cut : IsNoneWhole done part
-  pub output : left.output ≡ s.output ++ plan_text ms ++ acks done ++ part
+  pub output : left.output ≡ s.output ++ right.text ++ acks done ++ part
   -- it is as at the beginning or holds the goal, or it is gone and the folder stands for the goal
-  pub is : IsKept s left ⊎ HoldsText right.goal left.files ⊎ IsOver right.goal left.files
+  pub is : IsKept s left ⊎ HoldsText goal left.files ⊎ IsOver goal left.files
   -- it holds the goal from the first acknowledgement on and before the last
-  pub under_way : 1 ≤ done → done < length ms → HoldsText right.goal left.files
+  pub under_way : 1 ≤ done → done < length right.moves → HoldsText goal left.files
   -- and wherever the folder stands for a configuration that is neither the first nor the goal
   pub between : (config : Config) → stored left.files ≡ Ok config
-      → config ≢ right.start → config ≢ right.goal → HoldsText right.goal left.files
+      → config ≢ right.start → config ≢ goal → HoldsText goal left.files
 
--- nothing of a plan is done, and it is as at the beginning; or so far as such a plan is done
-abbrev pub HasIntent : Target → State → Left → Type 0
-HasIntent from s left = (IsBefore from s left × IsKept s left) ⊎ IsIntended from s left
+-- nothing is done, and it is as at the beginning; or so far as some moves are done
+abbrev pub HasIntent : Task → State → Left → Type 0
+HasIntent task s left = (IsBefore task s left × IsKept s left) ⊎ IsIntended task s left
 
--- at each moment of a command that does a plan a crash leaves it so
+-- at each moment of a command that does a task a crash leaves it so
 abbrev pub KeepsIntent : List (List ℕ) → State → (Left → Type 0) → Type 0
 KeepsIntent words s IsLeftSince =
-    (from : Target) (budget : ℕ) → form words ≡ Some (change from budget) → IsSettled s
-    → (left : Left) → IsLeftSince left → HasIntent from s left
+    (task : Task) (budget : ℕ) → form words ≡ Some (change task budget) → IsSettled s
+    → (left : Left) → IsLeftSince left → HasIntent task s left

@@ -2,7 +2,10 @@
 use Rattle.std.specs.Prelude.{ℕ, List, ◌++◌, length, Result, Ok, Err, ⊤}
 use Rattle.host_core.specs.Counts.{Counts}
 use Rattle.host_core.specs.State.{State}
+use Rattle.conf_doc.specs.declared.configuration.Config.{Config}
+use Rattle.conf_store.specs.declared.loaded.Stored.{Stored}
 use Rattle.move_core.specs.Operations.{plan_text}
+use Rattle.move_core.specs.declared.contexts.Ctx.{Ctx}
 use Rattle.move_core.specs.declared.moves.Move.{Move}
 use Rattle.gcu_output.specs.Lines.{last_line}
 use Rattle.gcu_output.specs.declared.outcomes.Outcome.{Outcome}
@@ -15,6 +18,11 @@ use Rattle.gcu_requests.specs.ReadPlannings.{planning_of}
 use Rattle.gcu_engine.specs.Answers.{Says}
 use Rattle.gcu_engine.specs.Plannings.{HasNone, IsPlanFor}
 use Rattle.gcu_engine.specs.Summary.{summary}
+
+-- what a plan is searched for
+abbrev pub planning_between : Ctx → Stored → Config → ℕ → Planning
+planning_between ctx stored goal budget =
+    record { ctx = ctx; stored = stored; goal = goal; budget = budget }
 
 -- a plan, or why there is none
 abbrev pub IsSolved : Planning → Result (List Move) Outcome → Type 0

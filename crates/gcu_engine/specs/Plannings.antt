@@ -7,7 +7,7 @@ use Rattle.plan_search.specs.declared.errors.SearchError.{SearchError}
 use Rattle.plan_search.specs.declared.errors.SearchError.TheVariants as search
 use Rattle.gcu_output.specs.declared.outcomes.Outcome.{Outcome}
 use Rattle.gcu_output.specs.declared.outcomes.Outcome.TheVariants.{Unorderable, Budget}
-use Rattle.gcu_requests.specs.Request.{Planning, Request, change, demo, plan}
+use Rattle.gcu_requests.specs.Request.{Planning, Request, Work, change, demo, operated, plan, planned}
 
 -- each move is allowed where it stands, the last one leads to the goal, and there are fewer than the
 -- budget; it is the first way, and fewer configurations than the budget are ahead of goal
@@ -24,9 +24,14 @@ HasNone p Unorderable = HasNoPlan p search.Unorderable
 HasNone p (Budget n) = HasNoPlan p (search.Budget n)
 HasNone p other = ⊥
 
+-- the same of a work: operators are told themselves of a search that finds none
+abbrev pub HasNoWork : Work → Outcome → Type 0
+HasNoWork (planned p) answer = HasNone p answer
+HasNoWork (operated p) answer = ⊥
+
 -- the answer that a plan is searched for and none is found
 abbrev pub IsUnsolved : Request → Outcome → Type 0
-IsUnsolved (plan p) answer = HasNone p answer
-IsUnsolved (change p) answer = HasNone p answer
+IsUnsolved (plan w) answer = HasNoWork w answer
+IsUnsolved (change w) answer = HasNoWork w answer
 IsUnsolved (demo p ports) answer = HasNone p answer
 IsUnsolved other answer = ⊥

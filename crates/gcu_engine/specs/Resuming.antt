@@ -13,6 +13,7 @@ use Rattle.gcu_output.specs.declared.outcomes.Outcome.{Outcome}
 use Rattle.gcu_output.specs.declared.outcomes.Outcome.TheVariants.{Done, Memory, Budget}
 use Rattle.gcu_requests.specs.Form.{change, form}
 use Rattle.gcu_requests.specs.RulesAsked.{ctx_asked}
+use Rattle.gcu_requests.specs.Tasks.{reach}
 use Rattle.gcu_engine.specs.Contents.{HoldsIntent}
 
 -- the folder stands for a configuration of a plan, `intent` holds its goal, and the inputs are as when it was
@@ -42,4 +43,4 @@ IsResumed other = ⊥
 -- so it is of the command that goes on with it
 abbrev pub Resumes : List (List ℕ) → Outcome → Type 0
 Resumes words result =
-    (budget : ℕ) → form words ≡ Some (change resumed budget) → IsResumed result
+    (budget : ℕ) → form words ≡ Some (change (reach resumed) budget) → IsResumed result

@@ -1,6 +1,6 @@
 -- A command over the files of one scope: the same command without the option, of the folder as the scope
--- shows it, once what was pending is settled.
-use Rattle.std.specs.Prelude.{◌≡◌, ◌⊎◌, ℕ, List, Option, IfSome, option_map}
+-- shows it, once what was pending is settled. And a change of several scopes.
+use Rattle.std.specs.Prelude.{◌≡◌, ◌≤◌, ◌⊎◌, ℕ, Bool, true, false, List, Option, Some, IfSome, option_map}
 use Rattle.host_core.specs.Counts.{Counts, DiskMayRise, NoneFell, NoneRose, Rose}
 use Rattle.host_core.specs.Crashes.{Elapses, Left, LeavesOnly, MayLeaveNow}
 use Rattle.host_core.specs.State.{State, settled, with_pending}
@@ -11,12 +11,16 @@ use Rattle.gcu_requests.specs.Asked.{asked}
 use Rattle.gcu_requests.specs.Asking.{Asking, a_file}
 use Rattle.gcu_requests.specs.Request.{Request}
 use Rattle.gcu_requests.specs.ScopeForm.{IsScoped}
+use Rattle.gcu_requests.specs.ScopesForm.{ScopesForm, scopes_form}
 use Rattle.gcu_engine.specs.Answers.{Answers, Complete}
-use Rattle.gcu_engine.specs.Commands.{AnswersTo, LeftTo}
+use Rattle.gcu_engine.specs.Commands.{AnswersTo, CompleteTo, LeftTo}
 use Rattle.gcu_engine.specs.Crashes.{LeftMeanwhile}
 use Rattle.gcu_engine.specs.Headline.{IsHeadline}
 use Rattle.gcu_engine.specs.Intending.{KeepsIntent}
 use Rattle.gcu_engine.specs.Resuming.{IsStoppedIn, Resumes}
+use Rattle.gcu_engine.specs.ScopeCrashes.{LeftOfScopes}
+use Rattle.gcu_engine.specs.ScopeEndings.{AnswersScopes}
+use Rattle.gcu_engine.specs.ScopeTexts.{plan_scopes_asked}
 
 -- the state that a scope shows, of a host that may not tell its own
 abbrev pub seen_told : Scope → Option State → Option State
@@ -75,7 +79,63 @@ module _ {H : Type 0} (told : H → Option State) (counts : H → Counts) (momen
       IsUnsettled old new result ⊎ RunsSettled scope words old new result
 
   -- the words name a scope, and so it is done
-  abbrev pub RunsScoped : List (List ℕ) → H → H → Outcome → Type 0
-  RunsScoped words old new result =
+  abbrev pub RunsInOne : List (List ℕ) → H → H → Outcome → Type 0
+  RunsInOne words old new result =
       (scope : Scope) × (plain : List (List ℕ)) × IsScoped words scope plain
       × DoesInScope scope plain old new result
+
+  -- ---- several scopes
+
+  -- From a host on with nothing pending: the answer is the first refusal, or the plans of all scopes in order.
+  -- The folder stays as it is, and a crash at any moment leaves it so, with a front of what is printed.
+  pub record PrintsPlans (change : ScopesForm) (old new : H) (result : Outcome) : Type 0 where
+    pub answers : AnswersTo (plan_scopes_asked change.path change.budget)
+        (told old) (told new) (counts old) (counts new) result
+    pub later : moment old ≤ moment new
+    pub crash : (left : Left) → left_since new (moment old) left
+        → LeftTo (plan_scopes_asked change.path change.budget) (told old) left
+    pub complete : CompleteTo (plan_scopes_asked change.path change.budget)
+        (told old) (counts old) (counts new) result
+    pub none_fell : NoneFell (counts old) (counts new)
+
+  -- From a host on with nothing pending: the answer is the first refusal, and the folder stays as it is; or the
+  -- plans of all scopes are printed and then done, scope after scope in order. A crash at any moment leaves the
+  -- scopes before one done, that one as its own change leaves it, and those after it as they were.
+  pub record DoesPlans (change : ScopesForm) (old new : H) (result : Outcome) : Type 0 where
+    pub answers : AnswersScopes change.path change.budget
+        (told old) (told new) (counts old) (counts new) result
+    pub later : moment old ≤ moment new
+    pub crash : (left : Left) → left_since new (moment old) left
+        → LeftOfScopes change.path change.budget (told old) left
+    pub complete : CompleteTo (plan_scopes_asked change.path change.budget)
+        (told old) (counts old) (counts new) result
+    pub none_fell : NoneFell (counts old) (counts new)
+
+  -- the plans are only printed, or done
+  abbrev pub PrintsOrDoes : Bool → ScopesForm → H → H → Outcome → Type 0
+  PrintsOrDoes true = PrintsPlans
+  PrintsOrDoes false = DoesPlans
+
+  -- what is pending is settled first
+  pub record AppliesSettled (change : ScopesForm) (old new : H) (result : Outcome) : Type 0 where
+    pub between : H
+    pub settles : told between ≡ option_map (with_pending settled) (told old)
+    pub time : Elapses moment left_since old between (MayLeaveNow (told between))
+    pub counted : DiskMayRise (counts old) (counts between)
+    pub does : PrintsOrDoes change.dry_run change between new result
+
+  -- it can't be settled, or the change of several scopes is done
+  abbrev pub AppliesScopes : ScopesForm → H → H → Outcome → Type 0
+  AppliesScopes change old new result =
+      IsUnsettled old new result ⊎ AppliesSettled change old new result
+
+  -- the words are such a change, and so it is done
+  abbrev pub RunsOverAll : List (List ℕ) → H → H → Outcome → Type 0
+  RunsOverAll words old new result =
+      (change : ScopesForm) × (scopes_form words ≡ Some change)
+      × AppliesScopes change old new result
+
+  -- the words are about one scope or several, and so it is done
+  abbrev pub RunsScoped : List (List ℕ) → H → H → Outcome → Type 0
+  RunsScoped words old new result =
+      RunsInOne words old new result ⊎ RunsOverAll words old new result

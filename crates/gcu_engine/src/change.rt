@@ -1,19 +1,24 @@
 //! `gcu apply-patch PATCH`, `gcu replace FILE`, `gcu rollback NAME` and `gcu resume`: a plan printed and then
-//! done, step by step.
-ghost use Rattle.std.specs.Prelude.{◌≡◌, ◌≤◌, ◌<◌, false, true, IfErr, IfOk, IfSome, map, option_map};
+//! done, step by step. `gcu sessions SCRIPT` does so what `operate.rt` makes ready.
+ghost use Rattle.std.specs.Prelude.{◌≡◌, ◌≤◌, ◌<◌, false, true, IfErr, IfOk, IfSome, length, map, option_map};
+ghost use Rattle.std.specs.List.{AllPass};
 ghost use Rattle.host_core.specs.Counts.{NoneFell, PrintMayRise};
 ghost use Rattle.host_core.specs.Crashes.{Elapses, LeavesOnly, MayLeaveInPrint, MayLeaveNow};
 ghost use Rattle.host_core.specs.Names.{longest_plain_name};
 ghost use Rattle.host_core.specs.State.{settled, with_pending};
 ghost use Rattle.conf_store.specs.Changes.{IsSettled};
+ghost use Rattle.conf_store.specs.Files.{is_step_name, last_step};
 ghost use Rattle.conf_store.specs.Folds.{StandsFor};
+ghost use Rattle.change_apply.specs.Change.{AreDefined};
+ghost use Rattle.move_core.specs.Operations.{plan_text as text_of};
 ghost use Rattle.move_core.specs.Services.{services_of as services_tied};
 ghost use Rattle.plan_options.specs.Options.{most_budget};
 ghost use Rattle.plan_options.specs.Views.{target_view};
 ghost use Rattle.gcu_output.specs.declared.outcomes.Outcome.TheVariants.{Memory as no_memory, Usage as usage};
-ghost use Rattle.gcu_requests.specs.ChangeAsked.{change_asked, settled_asked};
-ghost use Rattle.gcu_requests.specs.PlanAsked.{planning_asked};
-ghost use Rattle.gcu_requests.specs.ReadPlannings.{HasGoodName, IsReadyToSearch, planning_of};
+ghost use Rattle.gcu_requests.specs.FormView.{task_view};
+ghost use Rattle.gcu_requests.specs.ReadPlannings.{HasGoodName, IsReadyToSearch, IsWellNamed, planning_of};
+ghost use Rattle.gcu_requests.specs.Tasks.{reach};
+ghost use Rattle.gcu_requests.specs.WorkAsked.{change_asked, settled_asked, work_asked};
 ghost use Rattle.gcu_engine.specs.Answers.{HasCause, IsRefusal};
 ghost use Rattle.gcu_engine.specs.Commands.{AnswersTo, CompleteTo, IsReady};
 ghost use Rattle.gcu_engine.specs.Crashes.{LeftChanged, LeftSince};
@@ -23,11 +28,13 @@ ghost use Rattle.gcu_engine.specs.Plannings.{IsPlanFor};
 
 use crate::Outcome;
 use crate::fault_lines::{FaultLines, fault_lines};
+use crate::operate::commits_settled;
 use crate::solving::find_plan;
 use change_apply::{ApplyFault, Ready, close, prepare as prepare_change, run};
 use checkpoints::points_are_in_other_files;
+use conf_store::Stored;
 use gcu_output::say;
-use gcu_requests::{Planning, prepare, test_target};
+use gcu_requests::{Planning, Task, prepare, test_task};
 use host_core::{Host, Memory, Sequence};
 use move_core::{Boxes, Kit, Plan, Settings, listed_moves_are_defined, plan_text};
 use plan_options::{Source, Target};
@@ -38,7 +45,7 @@ use svc_rules::{Services, services_of};
 #[derive(Drop)]
 pub(crate) struct ReadyChange {
     ready: Ready,
-    /// The text of its plan.
+    /// What is printed before its steps.
     text: Vec<u8>,
     /// How many steps it has.
     steps: usize,
@@ -47,11 +54,11 @@ pub(crate) struct ReadyChange {
     lines: FaultLines,
 }
 
-/// Prints a plan for a target and does it, step by step. A name that no checkpoint has is refused before
-/// anything is settled.
+/// Prints what a task does, and does it, step by step. A name that no checkpoint has is refused before anything
+/// is settled.
 pub(crate) fn change<H: Host>(
     alloc: Global,
-    target: Target<'_>,
+    task: Task<'_>,
     budget: u32,
     kit: &mut Kit,
     host: &mut H,
@@ -61,54 +68,55 @@ pub(crate) fn change<H: Host>(
     requires budget { 0 < budget }
     requires most { budget ≤ most_budget }
     ensures kinds { ⟦<Kit as Boxes>⟧.HasKinds kit.new }
-    ensures answers { AnswersTo (change_asked (target_view target.entry) budget)
+    ensures answers { AnswersTo (change_asked (task_view task.entry) budget)
         (H.told host.old) (H.told host.new) (H.counts host.old) (H.counts host.new) result }
     ensures cause { HasCause (H.counts host.old) (H.counts host.new) result }
     ensures counts { NoneFell (H.counts host.old) (H.counts host.new) }
     ensures crash { LeavesOnly H.moment H.left_since host.old host.new
-        (LeftToChange (change_asked (target_view target.entry) budget) (H.told host.old)) }
+        (LeftToChange (change_asked (task_view task.entry) budget) (H.told host.old)) }
     // After a refusal a crash leaves what was there while nothing was written.
     ensures early { IsRefusal result → LeavesOnly H.moment H.left_since host.old host.new
-        (LeftToEarly (change_asked (target_view target.entry) budget) (H.told host.old)) }
+        (LeftToEarly (change_asked (task_view task.entry) budget) (H.told host.old)) }
     ensures goes { H.goes_on host.old host.new }
     ensures form { result ≡ usage → ⊥ }
-    ensures complete { CompleteTo (change_asked (target_view target.entry) budget)
+    ensures complete { CompleteTo (change_asked (task_view task.entry) budget)
         (H.told host.old) (H.counts host.old) (H.counts host.new) result }
 {
-    match test_target(alloc, target) {
-        Ok(()) => change_named(alloc, target, budget, kit, host),
+    match test_task(alloc, task) {
+        Ok(()) => change_named(alloc, task, budget, kit, host),
         Err(outcome) => say(alloc, outcome, host),
     }
 }
 
-/// The same of a target that isn't refused by its name. Once the plan is printed no memory is asked for.
+/// The same of a task that isn't refused by a name. Once all is printed that stands before the steps no memory is
+/// asked for.
 fn change_named<H: Host>(
     alloc: Global,
-    target: Target<'_>,
+    task: Task<'_>,
     budget: u32,
     kit: &mut Kit,
     host: &mut H,
 ) -> Outcome
     requires longest { longest_plain_name ≤ H.longest_name }
-    requires named { HasGoodName (target_view target) }
+    requires named { IsWellNamed (task_view task) }
     requires kinds { ⟦<Kit as Boxes>⟧.HasKinds kit.old }
     requires budget { 0 < budget }
     requires most { budget ≤ most_budget }
     ensures kinds { ⟦<Kit as Boxes>⟧.HasKinds kit.new }
-    ensures answers { AnswersTo (settled_asked (target_view target.entry) budget)
+    ensures answers { AnswersTo (settled_asked (task_view task.entry) budget)
         (H.told host.old) (H.told host.new) (H.counts host.old) (H.counts host.new) result }
     ensures cause { HasCause (H.counts host.old) (H.counts host.new) result }
     ensures counts { NoneFell (H.counts host.old) (H.counts host.new) }
     ensures crash { LeavesOnly H.moment H.left_since host.old host.new
-        (LeftToChange (settled_asked (target_view target.entry) budget) (H.told host.old)) }
+        (LeftToChange (settled_asked (task_view task.entry) budget) (H.told host.old)) }
     ensures early { IsRefusal result → LeavesOnly H.moment H.left_since host.old host.new
-        (LeftToEarly (settled_asked (target_view target.entry) budget) (H.told host.old)) }
+        (LeftToEarly (settled_asked (task_view task.entry) budget) (H.told host.old)) }
     ensures goes { H.goes_on host.old host.new }
     ensures form { result ≡ usage → ⊥ }
-    ensures complete { CompleteTo (settled_asked (target_view target.entry) budget)
+    ensures complete { CompleteTo (settled_asked (task_view task.entry) budget)
         (H.told host.old) (H.counts host.old) (H.counts host.new) result }
 {
-    match make_ready(alloc, target, budget, kit, host) {
+    match make_ready(alloc, task, budget, kit, host) {
         Ok(ready) => {
             points_are_in_other_files();
             do_change(&ready, host)
@@ -120,38 +128,67 @@ fn change_named<H: Host>(
 /// Settles what is pending, and makes a change ready.
 fn make_ready<H: Host>(
     alloc: Global,
-    target: Target<'_>,
+    task: Task<'_>,
     budget: u32,
     kit: &mut Kit,
     host: &mut H,
 ) -> Result<ReadyChange, Outcome>
     requires longest { longest_plain_name ≤ H.longest_name }
-    requires named { HasGoodName (target_view target) }
+    requires named { IsWellNamed (task_view task) }
     requires kinds { ⟦<Kit as Boxes>⟧.HasKinds kit.old }
     requires budget { 0 < budget }
     requires most { budget ≤ most_budget }
     ensures kinds { ⟦<Kit as Boxes>⟧.HasKinds kit.new }
     ensures ready { IfOk result (λ ready. IfSome (H.told host.old) (λ s.
-        IsReadyIn (planning_asked (target_view target.entry) budget s) s ready)) }
+        IsReadyIn (work_asked (task_view task.entry) budget s) s ready)) }
     ensures bytes { IfOk result HasBytes }
     ensures told { IfOk result (λ _.
         H.told host.new ≡ option_map (with_pending settled) (H.told host.old)) }
-    ensures left { IfErr result (IsReady (settled_asked (target_view target.entry) budget)
+    ensures left { IfErr result (IsReady (settled_asked (task_view task.entry) budget)
         (H.told host.old) (H.told host.new)) }
     ensures kept { IfErr result (λ _. IsKept (H.told host.old) (H.told host.new)) }
     ensures cause { IfErr result (RefusesOrEnds (H.counts host.old) (H.counts host.new)) }
     ensures counts { NoneFell (H.counts host.old) (H.counts host.new) }
     ensures crash { LeavesOnly H.moment H.left_since host.old host.new
-        (LeftToEarly (settled_asked (target_view target.entry) budget) (H.told host.old)) }
+        (LeftToEarly (settled_asked (task_view task.entry) budget) (H.told host.old)) }
     ensures goes { H.goes_on host.old host.new }
 {
     match host.settle() {
-        Ok(()) => plan_settled(alloc, target, budget, kit, host),
+        Ok(()) => work_settled(alloc, task, budget, kit, host),
         Err(_) => Err(Outcome::DiskFault { step: 0 }),
     }
 }
 
 /// Makes a change ready, with nothing pending.
+fn work_settled<H: Host>(
+    alloc: Global,
+    task: Task<'_>,
+    budget: u32,
+    kit: &mut Kit,
+    host: &mut H,
+) -> Result<ReadyChange, Outcome>
+    requires longest { longest_plain_name ≤ H.longest_name }
+    requires named { IsWellNamed (task_view task) }
+    requires kinds { ⟦<Kit as Boxes>⟧.HasKinds kit.old }
+    requires budget { 0 < budget }
+    requires most { budget ≤ most_budget }
+    ensures kinds { ⟦<Kit as Boxes>⟧.HasKinds kit.new }
+    ensures prepared { IfSome (H.told host.old) (λ s.
+        IsPrepared (work_asked (task_view task.entry) budget s) s result) }
+    ensures bytes { IfOk result HasBytes }
+    ensures told { H.told host.new ≡ H.told host.old }
+    ensures counts { NoneFell (H.counts host.old) (H.counts host.new) }
+    ensures cause { IfErr result (RefusesOrEnds (H.counts host.old) (H.counts host.new)) }
+    ensures time { Elapses H.moment H.left_since host.old host.new (MayLeaveNow (H.told host.old)) }
+    ensures goes { H.goes_on host.old host.new }
+{
+    match task {
+        Task::Reach { target } => plan_settled(alloc, target, budget, kit, host),
+        Task::RunScript { script } => commits_settled(alloc, script, budget, kit, host),
+    }
+}
+
+/// Makes the change of a plan ready, with nothing pending.
 fn plan_settled<H: Host>(
     alloc: Global,
     target: Target<'_>,
@@ -166,7 +203,7 @@ fn plan_settled<H: Host>(
     requires most { budget ≤ most_budget }
     ensures kinds { ⟦<Kit as Boxes>⟧.HasKinds kit.new }
     ensures prepared { IfSome (H.told host.old) (λ s.
-        IsPrepared (planning_asked (target_view target.entry) budget s) s result) }
+        IsPrepared (work_asked (reach (target_view target.entry)) budget s) s result) }
     ensures bytes { IfOk result HasBytes }
     ensures told { H.told host.new ≡ H.told host.old }
     ensures counts { NoneFell (H.counts host.old) (H.counts host.new) }
@@ -202,18 +239,19 @@ fn ready_change(
     requires found { IsPlanFor (planning_of planning.now) plan.now }
     ensures change { IfOk result (λ r.
         r.ready ≡ change_by planning.now.ctx.settings planning.now.stored plan.now) }
+    ensures text { IfOk result (λ r. r.text.items ≡ text_of plan.now) }
     ensures closes { IfOk result (λ r. r.closes ≡ closes) }
     ensures bytes { IfOk result HasBytes }
     ensures err { IfErr result (λ e. e ≡ no_memory) }
 {
-    match ready_bytes(alloc, planning, plan, closes) {
+    match ready_plan(alloc, planning, plan, closes) {
         Ok(ready) => Ok(ready),
         Err(Memory) => Err(Outcome::Memory),
     }
 }
 
-/// Makes every byte that the change of a plan writes and prints.
-fn ready_bytes(
+/// The same, with every byte that it writes and prints.
+fn ready_plan(
     alloc: Global,
     planning: &Planning,
     plan: &Plan,
@@ -224,15 +262,36 @@ fn ready_bytes(
     requires found { IsPlanFor (planning_of planning.now) plan.now }
     ensures change { IfOk result (λ r.
         r.ready ≡ change_by planning.now.ctx.settings planning.now.stored plan.now) }
+    ensures text { IfOk result (λ r. r.text.items ≡ text_of plan.now) }
     ensures closes { IfOk result (λ r. r.closes ≡ closes) }
     ensures bytes { IfOk result HasBytes }
 {
     listed_moves_are_defined();
-    let settings = &planning.ctx.settings;
-    let services = plan_services(alloc, settings, plan)?;
-    let ready = prepare_change(alloc, &planning.stored, plan, services.items(), settings)?;
-    let lines = fault_lines(alloc, services.items(), settings)?;
     let text = plan_text(alloc, plan)?;
+    let settings = &planning.ctx.settings;
+    ready_bytes(alloc, settings, &planning.stored, plan, text, closes)
+}
+
+/// Makes every byte of a change that does some moves: what it writes, and what it prints behind a text.
+pub(crate) fn ready_bytes(
+    alloc: Global,
+    settings: &Settings,
+    stored: &Stored,
+    plan: &Plan,
+    text: Vec<u8>,
+    closes: bool,
+) -> Result<ReadyChange, Memory>
+    requires defined { AreDefined stored.now.config plan.now }
+    requires few { length plan.now ≤ last_step }
+    requires names { AllPass is_step_name stored.now.steps }
+    ensures change { IfOk result (λ r. r.ready ≡ change_by settings.now stored.now plan.now) }
+    ensures text { IfOk result (λ r. r.text.items ≡ text.items) }
+    ensures closes { IfOk result (λ r. r.closes ≡ closes) }
+    ensures bytes { IfOk result HasBytes }
+{
+    let services = plan_services(alloc, settings, plan)?;
+    let ready = prepare_change(alloc, stored, plan, services.items(), settings)?;
+    let lines = fault_lines(alloc, services.items(), settings)?;
     Ok(ReadyChange {
         ready,
         text,
@@ -243,7 +302,7 @@ fn ready_bytes(
 }
 
 /// The services of each move of a plan.
-fn plan_services(
+pub(crate) fn plan_services(
     alloc: Global,
     settings: &Settings,
     plan: &Plan,
@@ -257,7 +316,7 @@ fn plan_services(
     Ok(all)
 }
 
-/// Prints the plan of a change, and does it.
+/// Prints what stands before the steps of a change, and does it.
 fn do_change<H: Host>(change: &ReadyChange, host: &mut H) -> Outcome
     requires longest { longest_plain_name ≤ H.longest_name }
     requires clean { IfSome (H.told host.old) IsSettled }
@@ -265,12 +324,13 @@ fn do_change<H: Host>(change: &ReadyChange, host: &mut H) -> Outcome
     requires closes { IfSome (H.told host.old)
         (λ s. ClosesAs change.now.closes change.now.ready s.files) }
     requires bytes { HasBytes change.now }
-    ensures answers { EndsChange change.now.ready
+    ensures answers { EndsChange change.now.text.items change.now.ready
         (H.told host.old) (H.told host.new) (H.counts host.old) (H.counts host.new) result }
     ensures cause { HasCause (H.counts host.old) (H.counts host.new) result }
     ensures counts { NoneFell (H.counts host.old) (H.counts host.new) }
     ensures any_moment { IfSome (H.told host.old)
-        (λ s. LeavesOnly H.moment H.left_since host.old host.new (LeftDoing change.now.ready s)) }
+        (λ s. LeavesOnly H.moment H.left_since host.old host.new
+        (LeftDoing change.now.text.items change.now.ready s)) }
     ensures later { H.moment host.old ≤ H.moment host.new }
     ensures goes { H.goes_on host.old host.new }
     ensures works { IsRefusal result → ⊥ }
@@ -282,7 +342,7 @@ fn do_change<H: Host>(change: &ReadyChange, host: &mut H) -> Outcome
     }
 }
 
-/// Does a change whose plan is printed.
+/// Does a change, where all is printed that stands before its steps.
 fn finish_change<H: Host>(change: &ReadyChange, host: &mut H) -> Outcome
     requires longest { longest_plain_name ≤ H.longest_name }
     requires clean { IfSome (H.told host.old) IsSettled }

@@ -1,4 +1,4 @@
-//! `gcu apply-patch PATCH --dry-run`, and `replace FILE` and `rollback NAME` so: the plan by which it would be
+//! `gcu apply-patch PATCH --dry-run`, and `replace FILE`, `rollback NAME` and `sessions SCRIPT` so: what would be
 //! done.
 ghost use Rattle.std.specs.Prelude.{◌≡◌, ◌≤◌, ◌<◌};
 ghost use Rattle.host_core.specs.Counts.{NoneFell};
@@ -6,20 +6,53 @@ ghost use Rattle.host_core.specs.Crashes.{LeavesOnly};
 ghost use Rattle.host_core.specs.Names.{longest_plain_name};
 ghost use Rattle.plan_options.specs.Views.{target_view};
 ghost use Rattle.gcu_output.specs.declared.outcomes.Outcome.TheVariants.{Usage as usage};
-ghost use Rattle.gcu_requests.specs.PlanAsked.{dry_run_asked};
+ghost use Rattle.gcu_requests.specs.FormView.{task_view};
+ghost use Rattle.gcu_requests.specs.Tasks.{reach};
+ghost use Rattle.gcu_requests.specs.WorkAsked.{dry_run_asked};
 ghost use Rattle.gcu_engine.specs.Answers.{HasCause};
 ghost use Rattle.gcu_engine.specs.Commands.{AnswersTo, CompleteTo, LeftTo};
 
 use crate::Outcome;
+use crate::rehearse::rehearse;
 use crate::solving::solve;
 use gcu_output::{say, show_plan};
+use gcu_requests::Task;
 use host_core::Host;
 use move_core::{Boxes, Kit};
 use plan_options::Target;
 use std::alloc::Global;
 
-/// Prints a plan for a target. The folder stays as it is.
+/// Prints what a task would do. The folder stays as it is.
 pub(crate) fn dry_run<H: Host>(
+    alloc: Global,
+    task: Task<'_>,
+    budget: u32,
+    kit: &mut Kit,
+    host: &mut H,
+) -> Outcome
+    requires longest { longest_plain_name ≤ H.longest_name }
+    requires kinds { ⟦<Kit as Boxes>⟧.HasKinds kit.old }
+    requires budget { 0 < budget }
+    ensures kinds { ⟦<Kit as Boxes>⟧.HasKinds kit.new }
+    ensures answers { AnswersTo (dry_run_asked (task_view task.entry) budget)
+        (H.told host.old) (H.told host.new) (H.counts host.old) (H.counts host.new) result }
+    ensures cause { HasCause (H.counts host.old) (H.counts host.new) result }
+    ensures counts { NoneFell (H.counts host.old) (H.counts host.new) }
+    ensures crash { LeavesOnly H.moment H.left_since host.old host.new
+        (LeftTo (dry_run_asked (task_view task.entry) budget) (H.told host.old)) }
+    ensures goes { H.goes_on host.old host.new }
+    ensures form { result ≡ usage → ⊥ }
+    ensures complete { CompleteTo (dry_run_asked (task_view task.entry) budget)
+        (H.told host.old) (H.counts host.old) (H.counts host.new) result }
+{
+    match task {
+        Task::Reach { target } => show_way(alloc, target, budget, kit, host),
+        Task::RunScript { script } => rehearse(alloc, script, budget, kit, host),
+    }
+}
+
+/// Prints a plan for a target. The folder stays as it is.
+fn show_way<H: Host>(
     alloc: Global,
     target: Target<'_>,
     budget: u32,
@@ -30,15 +63,15 @@ pub(crate) fn dry_run<H: Host>(
     requires kinds { ⟦<Kit as Boxes>⟧.HasKinds kit.old }
     requires budget { 0 < budget }
     ensures kinds { ⟦<Kit as Boxes>⟧.HasKinds kit.new }
-    ensures answers { AnswersTo (dry_run_asked (target_view target.entry) budget)
+    ensures answers { AnswersTo (dry_run_asked (reach (target_view target.entry)) budget)
         (H.told host.old) (H.told host.new) (H.counts host.old) (H.counts host.new) result }
     ensures cause { HasCause (H.counts host.old) (H.counts host.new) result }
     ensures counts { NoneFell (H.counts host.old) (H.counts host.new) }
     ensures crash { LeavesOnly H.moment H.left_since host.old host.new
-        (LeftTo (dry_run_asked (target_view target.entry) budget) (H.told host.old)) }
+        (LeftTo (dry_run_asked (reach (target_view target.entry)) budget) (H.told host.old)) }
     ensures goes { H.goes_on host.old host.new }
     ensures form { result ≡ usage → ⊥ }
-    ensures complete { CompleteTo (dry_run_asked (target_view target.entry) budget)
+    ensures complete { CompleteTo (dry_run_asked (reach (target_view target.entry)) budget)
         (H.told host.old) (H.counts host.old) (H.counts host.new) result }
 {
     match solve(alloc, target, budget, kit, host) {

@@ -2,7 +2,9 @@
 #![tactic(auto)]
 
 mod abandon;
+mod apply_scopes;
 mod change;
+mod change_scopes;
 mod check;
 mod check_plan;
 mod delete_checkpoint;
@@ -12,6 +14,8 @@ mod fault_lines;
 mod kit_lists;
 mod list_checkpoints;
 mod migrate_checkpoints;
+mod operate;
+mod plan_scopes;
 mod rehearse;
 mod run_command;
 mod run_form;

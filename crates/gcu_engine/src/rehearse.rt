@@ -7,7 +7,8 @@ ghost use Rattle.gcu_output.specs.Printing.{IsSaid, LeftInText};
 ghost use Rattle.gcu_output.specs.declared.outcomes.Outcome.TheVariants.{Done as done, Memory as no_memory, Usage as usage};
 ghost use Rattle.gcu_requests.specs.Preparing.{Refuses};
 ghost use Rattle.gcu_requests.specs.ReadScripts.{IsReadyToOperate};
-ghost use Rattle.gcu_requests.specs.SessionsAsked.{rehearse_asked};
+ghost use Rattle.gcu_requests.specs.Tasks.{run_script};
+ghost use Rattle.gcu_requests.specs.WorkAsked.{dry_run_asked};
 ghost use Rattle.gcu_engine.specs.Answers.{HasCause};
 ghost use Rattle.gcu_engine.specs.Commands.{AnswersTo, CompleteTo, LeftTo};
 ghost use Rattle.gcu_engine.specs.Rehearsing.{IsRehearsed, SaysText};
@@ -32,15 +33,15 @@ pub(crate) fn rehearse<H: Host>(
     requires kinds { ⟦<Kit as Boxes>⟧.HasKinds kit.old }
     requires budget { 0 < budget }
     ensures kinds { ⟦<Kit as Boxes>⟧.HasKinds kit.new }
-    ensures answers { AnswersTo (rehearse_asked script.now budget)
+    ensures answers { AnswersTo (dry_run_asked (run_script script.now) budget)
         (H.told host.old) (H.told host.new) (H.counts host.old) (H.counts host.new) result }
     ensures cause { HasCause (H.counts host.old) (H.counts host.new) result }
     ensures counts { NoneFell (H.counts host.old) (H.counts host.new) }
     ensures crash { LeavesOnly H.moment H.left_since host.old host.new
-        (LeftTo (rehearse_asked script.now budget) (H.told host.old)) }
+        (LeftTo (dry_run_asked (run_script script.now) budget) (H.told host.old)) }
     ensures goes { H.goes_on host.old host.new }
     ensures form { result ≡ usage → ⊥ }
-    ensures complete { CompleteTo (rehearse_asked script.now budget)
+    ensures complete { CompleteTo (dry_run_asked (run_script script.now) budget)
         (H.told host.old) (H.counts host.old) (H.counts host.new) result }
 {
     match rehearsed(alloc, script, budget, kit, host) {
@@ -74,7 +75,7 @@ fn rehearsed<H: Host>(
     requires budget { 0 < budget }
     ensures kinds { ⟦<Kit as Boxes>⟧.HasKinds kit.new }
     ensures says { IfSome (H.told host.old)
-        (λ s. SaysText (rehearse_asked script.now budget s) s result) }
+        (λ s. SaysText (dry_run_asked (run_script script.now) budget s) s result) }
     ensures told { H.told host.new ≡ H.told host.old }
     ensures counts { NoneFell (H.counts host.old) (H.counts host.new) }
     ensures cause { IfErr result (Refuses (H.counts host.old) (H.counts host.new)) }

@@ -14,9 +14,10 @@ ghost use Rattle.gcu_engine.specs.Resuming.{IsStoppedIn, Resumes};
 ghost use Rattle.gcu_engine.specs.Scoped.{RunsScoped};
 
 use crate::Outcome;
+use crate::apply_scopes::apply_scopes;
 use crate::run_form::run_form;
 use crate::scoped::run_scoped;
-use gcu_requests::{read_form, read_scope_form};
+use gcu_requests::{read_form, read_scope_form, read_scopes_form};
 use host_core::{Host, Txt};
 use move_core::{Boxes, Kit};
 use std::alloc::Global;
@@ -26,19 +27,20 @@ use std::alloc::Global;
 /// plan for the patch and does it, `replace FILE` one for the configuration in a file and `rollback NAME` one
 /// for that of a checkpoint, and each of the three with `--dry-run` only prints it. `status` says whether a
 /// change was stopped, `resume` finishes it, and `abandon` gives it up, and each of the three with `--scope`
-/// does so over the files of one ASIC. `checkpoint NAME` saves the stored configuration under a name,
-/// `list-checkpoints` prints the names of all checkpoints, `delete-checkpoint NAME` deletes one, and
-/// `migrate-checkpoints` puts those of the old format anew. `demo SEED N` plans between two generated
+/// does so over the files of one ASIC. `apply-scopes PATCH` prints a plan for each ASIC that the patch names
+/// and then does these, and with `--dry-run` only prints them. `checkpoint NAME` saves the stored
+/// configuration under a name, `list-checkpoints` prints the names of all checkpoints, `delete-checkpoint NAME`
+/// deletes one, and `migrate-checkpoints` puts those of the old format anew. `demo SEED N` plans between two generated
 /// configurations with `N` ports, and counts the steps. `check-plan PATCH PLAN` says whether the moves in an
-/// input are a plan for the patch, and where they aren't. `sessions SCRIPT --dry-run` says what several
-/// operators do by a script.
+/// input are a plan for the patch, and where they aren't. `sessions SCRIPT` prints what several operators are
+/// told by a script, and does what they commit, or only prints it.
 pub fn run<H: Host>(alloc: Global, words: &[Txt], kit: &mut Kit, host: &mut H) -> Outcome
     requires longest { longest_scoped_name ≤ H.longest_name }
     requires kinds { ⟦<Kit as Boxes>⟧.HasKinds kit.old }
     ensures kinds { ⟦<Kit as Boxes>⟧.HasKinds kit.new }
     // Of words that name no scope the answer is the first refusal, or what the command asks for, and nothing
     // changes but the output, a checkpoint that is saved or deleted, those that are put anew, `intent` that is
-    // given up, and the work of a plan that is done.
+    // given up, and the steps of a plan, or what operators commit, where that is done.
     ensures answers { IsUnscoped words.now → Answers words.now
         (H.told host.old) (H.told host.new) (H.counts host.old) (H.counts host.new) result }
     // A fault is answered only where its count rose.
@@ -46,7 +48,7 @@ pub fn run<H: Host>(alloc: Global, words: &[Txt], kit: &mut Kit, host: &mut H) -
     ensures counts { NoneFell (H.counts host.old) (H.counts host.new) }
     // A crash at a moment of it leaves the folder as it was, or with the checkpoint that is saved, without the
     // one that is deleted or without `intent`, with a front of some output. Of a migration it leaves all
-    // checkpoints and numbers, and of a plan that is done the last acknowledged configuration or the next one.
+    // checkpoints and numbers, and of a change that is done the last acknowledged configuration or the next one.
     ensures crash { IsUnscoped words.now → LeavesOnly H.moment H.left_since host.old host.new
         (LeftMeanwhile words.now (H.told host.old)) }
     // What is printed of a plan is right, a crash leaves what is acknowledged or the next and whole
@@ -54,7 +56,7 @@ pub fn run<H: Host>(alloc: Global, words: &[Txt], kit: &mut Kit, host: &mut H) -
     ensures headline { IsUnscoped words.now → IfSome (H.told host.old)
         (λ s. IsHeadline words.now s (H.told host.new) result
         (H.left_since host.new (H.moment host.old))) }
-    // While a plan is done `intent` holds its goal, unless nothing is written yet or all is.
+    // While a change is done `intent` holds its goal, unless nothing is written yet or all is.
     ensures intent { IsUnscoped words.now → IfSome (H.told host.old)
         (λ s. KeepsIntent words.now s (H.left_since host.new (H.moment host.old))) }
     // What the host's calls keep is kept.
@@ -71,12 +73,16 @@ pub fn run<H: Host>(alloc: Global, words: &[Txt], kit: &mut Kit, host: &mut H) -
         (λ s. NoneRose (H.counts host.old) (H.counts host.new)
         → IsStoppedIn s → Resumes words.now result) }
     // Of words that name a scope all this holds of the folder as the scope shows it, once what was pending is
-    // settled, and every file outside stays as it is.
+    // settled, and every file outside stays as it is. Of a change of several scopes the plans are printed, and
+    // then done scope after scope but for a dry run.
     ensures scoped { IsUnscoped words.now ⊎ RunsScoped H.told H.counts H.moment H.left_since
         words.now host.old host.new result }
 {
     match read_scope_form(words) {
         Some(scoped) => run_scoped(alloc, scoped, kit, host),
-        None => run_form(alloc, read_form(words), kit, host),
+        None => match read_scopes_form(words) {
+            Some(change) => apply_scopes(alloc, change, kit, host),
+            None => run_form(alloc, read_form(words), kit, host),
+        },
     }
 }

@@ -25,7 +25,6 @@ use crate::demo::demo;
 use crate::dry_run::dry_run;
 use crate::list_checkpoints::list_checkpoints;
 use crate::migrate_checkpoints::migrate_checkpoints;
-use crate::rehearse::rehearse;
 use crate::save_checkpoint::save_checkpoint;
 use crate::status::status;
 use gcu_output::{say, show};
@@ -85,13 +84,12 @@ pub(crate) fn run_form<H: Host>(
         Form::MigrateCheckpoints => migrate_checkpoints(alloc, host),
         Form::SaveCheckpoint { name } => save_checkpoint(alloc, name, host),
         Form::DeleteCheckpoint { name } => delete_checkpoint(alloc, name, host),
-        Form::Plan { target, options } => dry_run(alloc, target, options.budget, kit, host),
-        Form::Change { target, options } => change(alloc, target, options.budget, kit, host),
+        Form::Plan { task, options } => dry_run(alloc, task, options.budget, kit, host),
+        Form::Change { task, options } => change(alloc, task, options.budget, kit, host),
         Form::Status => status(alloc, host),
         Form::Abandon => abandon(alloc, host),
         Form::Demo { size } => demo(alloc, size, kit, host),
         Form::CheckPlan { patch, plan } => check_plan(alloc, patch, plan, host),
-        Form::Rehearse { script, options } => rehearse(alloc, script, options.budget, kit, host),
     }
 }
 

@@ -4,14 +4,17 @@ ghost use Rattle.host_core.specs.Counts.{NoneFell};
 ghost use Rattle.host_core.specs.Crashes.{Elapses, MayLeaveNow};
 ghost use Rattle.host_core.specs.Names.{longest_plain_name};
 ghost use Rattle.plan_options.specs.Views.{target_view};
-ghost use Rattle.gcu_requests.specs.PlanAsked.{dry_run_asked};
+ghost use Rattle.gcu_requests.specs.Tasks.{reach};
+ghost use Rattle.gcu_requests.specs.WorkAsked.{dry_run_asked};
 ghost use Rattle.gcu_requests.specs.ReadPlannings.{IsReadyToSearch};
-ghost use Rattle.gcu_engine.specs.PlanCommands.{IsSolved, RefusesOrEnds, SaysPlan};
+ghost use Rattle.gcu_engine.specs.PlanCommands.{IsSolved, RefusesOrEnds, SaysPlan, planning_between};
 
 use crate::Outcome;
+use conf_doc::Config;
+use conf_store::Stored;
 use gcu_requests::{Planning, prepare, test_target};
 use host_core::Host;
-use move_core::{Boxes, Kit, Plan};
+use move_core::{Boxes, Ctx, Kit, Plan};
 use operators::first_plan;
 use plan_options::Target;
 use plan_search::SearchError;
@@ -30,7 +33,7 @@ pub(crate) fn solve<H: Host>(
     requires budget { 0 < budget }
     ensures kinds { ⟦<Kit as Boxes>⟧.HasKinds kit.new }
     ensures says { IfSome (H.told host.old)
-        (λ s. SaysPlan (dry_run_asked (target_view target.entry) budget s) s result) }
+        (λ s. SaysPlan (dry_run_asked (reach (target_view target.entry)) budget s) s result) }
     ensures told { H.told host.new ≡ H.told host.old }
     ensures counts { NoneFell (H.counts host.old) (H.counts host.new) }
     ensures cause { IfErr result (RefusesOrEnds (H.counts host.old) (H.counts host.new)) }
@@ -49,15 +52,30 @@ pub(crate) fn find_plan(alloc: Global, kit: &mut Kit, planning: &Planning) -> Re
     ensures kinds { ⟦<Kit as Boxes>⟧.HasKinds kit.new }
     ensures answer { IsSolved planning.now result }
 {
-    let start = &planning.stored.config;
-    match first_plan(
-        alloc,
-        &planning.ctx,
-        kit,
-        start,
-        &planning.goal,
-        planning.budget,
-    ) {
+    let Planning {
+        ctx,
+        stored,
+        goal,
+        budget,
+    } = planning;
+    plan_between(alloc, kit, ctx, stored, goal, *budget)
+}
+
+/// Searches for a plan from what was loaded to a goal.
+pub(crate) fn plan_between(
+    alloc: Global,
+    kit: &mut Kit,
+    ctx: &Ctx,
+    stored: &Stored,
+    goal: &Config,
+    budget: u32,
+) -> Result<Plan, Outcome>
+    requires kinds { ⟦<Kit as Boxes>⟧.HasKinds kit.old }
+    requires ready { IsReadyToSearch (planning_between ctx.now stored.now goal.now budget) }
+    ensures kinds { ⟦<Kit as Boxes>⟧.HasKinds kit.new }
+    ensures answer { IsSolved (planning_between ctx.now stored.now goal.now budget) result }
+{
+    match first_plan(alloc, ctx, kit, &stored.config, goal, budget) {
         Ok(plan) => Ok(plan),
         Err(SearchError::Unorderable) => Err(Outcome::Unorderable),
         Err(SearchError::Budget(n)) => Err(Outcome::Budget { n }),

@@ -17,7 +17,7 @@ use Rattle.plan_check.specs.declared.errors.NoWhy.TheVariants as plans
 use Rattle.yang_text.specs.declared.errors.ModelWhy.{ModelWhy}
 use Rattle.yang_text.specs.declared.errors.ModelWhy.TheVariants as models
 use Rattle.gcu_output.specs.declared.outcomes.Outcome.{Outcome}
-use Rattle.gcu_output.specs.declared.outcomes.Outcome.TheVariants.{Done, Memory, Usage, InputFault, DiskFault, PrintFault, ServiceFault, NoInput, TooBig, BadJson, BadConfig, BadModels, BadRules, BadPatch, PatchFailed, TargetShape, CurrentInvalid, TargetInvalid, NoModel, EmptyTable, Unorderable, Budget, NoCheckpoint, CheckpointExists, BadName, BadStored, Interrupted, NoIntent, BadIntent, SequenceFull, BadPlan, PlanRejected, BadScript}
+use Rattle.gcu_output.specs.declared.outcomes.Outcome.TheVariants.{Done, Memory, Usage, InputFault, DiskFault, PrintFault, ServiceFault, NoInput, TooBig, BadJson, BadConfig, BadModels, BadRules, BadPatch, PatchFailed, TargetShape, CurrentInvalid, TargetInvalid, NoModel, EmptyTable, Unorderable, Budget, NoCheckpoint, CheckpointExists, BadName, BadStored, Interrupted, NoIntent, BadIntent, SequenceFull, BadPlan, PlanRejected, BadScope, ScopeRefused, BadScript}
 use Rattle.gcu_output.specs.declared.outcomes.PointWhy.{PointWhy}
 use Rattle.gcu_output.specs.declared.outcomes.PointWhy.TheVariants as point
 
@@ -155,6 +155,8 @@ answer BadIntent = (28, codes "bad intent")
 answer SequenceFull = (29, codes "sequence full")
 answer (BadPlan path line) = (30, codes "bad plan " ++ quoted path ++ space ++ decimal line)
 answer (PlanRejected n why) = (31, codes "no plan " ++ decimal n ++ space ++ no_why why)
+answer (BadScope index) = (32, codes "bad scope " ++ decimal index)
+answer (ScopeRefused scope status) = (33, codes "scope " ++ quoted scope ++ space ++ decimal status)
 answer (BadScript line) = (34, codes "bad script " ++ decimal line)
 
 -- the exit status

@@ -146,6 +146,11 @@ fn said(alloc: Global, outcome: &Outcome) -> Result<String, AllocError>
             let why = no_why_name(*why);
             numbered(alloc, "no plan ", *step as usize, why)
         }
+        Outcome::BadScope { index } => format!(in alloc; "bad scope {index}"),
+        Outcome::ScopeRefused { scope, number } => {
+            let scope = quoted(alloc, scope.as_str())?;
+            format!(in alloc; "scope {scope} {number}")
+        }
         Outcome::BadScript { line } => format!(in alloc; "bad script {line}"),
     }
 }

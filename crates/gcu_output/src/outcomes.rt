@@ -87,6 +87,10 @@ pub enum Outcome {
     BadPlan { path: Txt, line: u32 },
     /// The moves of the file are no plan: this step, counted from 1, is the first at fault, and why.
     PlanRejected { step: u32, why: NoWhy },
+    /// This operation of the patch, counted from 0, is in no scope, or its two pointers are in different ones.
+    BadScope { index: usize },
+    /// The change of this scope is refused, by that number.
+    ScopeRefused { scope: Txt, number: u8 },
     /// The script of several operators isn't of its form: this line, counted from 1, is the first at fault.
     BadScript { line: u32 },
 }
@@ -129,6 +133,8 @@ impl Outcome {
             Outcome::SequenceFull => 29,
             Outcome::BadPlan { .. } => 30,
             Outcome::PlanRejected { .. } => 31,
+            Outcome::BadScope { .. } => 32,
+            Outcome::ScopeRefused { .. } => 33,
             Outcome::BadScript { .. } => 34,
         }
     }

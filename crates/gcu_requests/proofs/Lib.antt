@@ -1,7 +1,9 @@
+pub mod Behind
 pub mod Checked
 mod Choices
 pub mod Finding
 mod DemoFinding
+pub mod EachFinding
 mod FirstBreaches
 pub mod IntentFinding
 mod ModelTexts
@@ -9,5 +11,9 @@ mod OneAnswer
 mod OnePlanAnswer
 mod PlanCheckFinding
 mod PlanFinding
+mod ScopesFinding
+mod ScopesInOrder
+mod ScopesPreparing
+pub mod ViewsEnded
 mod SessionFinding
 mod Words

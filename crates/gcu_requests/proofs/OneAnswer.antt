@@ -22,7 +22,6 @@ use Rattle.gcu_output.specs.declared.outcomes.Outcome.{Outcome}
 use Rattle.gcu_output.specs.declared.outcomes.Outcome.TheVariants.{BadModels, CurrentInvalid, TargetInvalid, NoModel, EmptyTable}
 use Rattle.gcu_requests.specs.Asked.{delete_asked, form_asked, list_asked, migrate_asked, preview_asked, save_asked, target_asked}
 use Rattle.gcu_requests.specs.Asking.{Asking, IsRefused, Source, asks, follows, follows_by, settles_first, ◌>>>◌}
-use Rattle.gcu_requests.specs.ChangeAsked.{change_asked}
 use Rattle.gcu_requests.specs.Checking.{IsJudged, check_asked, judging_asked}
 use Rattle.gcu_requests.specs.DemoAsked.{demo_asked, demo_planning_asked, generated_asked}
 use Rattle.gcu_requests.specs.FileAsked.{file_limit}
@@ -32,13 +31,15 @@ use Rattle.gcu_requests.specs.IntentAsked.{abandon_asked, gate_asked, intent_ask
 use Rattle.gcu_requests.specs.ModelFiles.{AreModels, File, IsModelRefusal, Text, bytes_asked, files_asked, list_limit, list_path, model_limit, models_asked, paths_asked, statements_of, texts_asked}
 use Rattle.gcu_requests.specs.OneAnswer.{AskedIsOne, HasOneAnswer}
 use Rattle.gcu_requests.specs.PatchAsked.{patch_asked}
-use Rattle.gcu_requests.specs.PlanAsked.{HasKeys, IsElsewhereAs, IsValidOr, dry_run_asked, goal_asked, judged_asked, made_asked, needs_asked, planning_asked, start_asked, target_answer}
+use Rattle.gcu_requests.specs.PlanAsked.{HasKeys, IsElsewhereAs, IsValidOr, goal_asked, judged_asked, made_asked, needs_asked, planning_asked, start_asked}
 use Rattle.gcu_requests.specs.PlanCheckAsked.{check_plan_asked, moves_asked}
 use Rattle.gcu_requests.specs.PointAsked.{name_answer}
 use Rattle.gcu_requests.specs.Request.{Patched, Request}
 use Rattle.gcu_requests.specs.RulesAsked.{ctx_asked, rules_limit, rules_path, settings_asked}
-use Rattle.gcu_requests.specs.SessionsAsked.{file_of, line_asked, patch_at, patches_asked, rehearse_asked, operating_asked, script_asked, script_limit, unread_asked}
+use Rattle.gcu_requests.specs.SessionsAsked.{file_of, line_asked, patch_at, patches_asked, operating_asked, script_asked, script_limit, unread_asked}
 use Rattle.gcu_requests.specs.StoredAsked.{stored_asked}
+use Rattle.gcu_requests.specs.Tasks.{Task, reach, run_script}
+use Rattle.gcu_requests.specs.WorkAsked.{change_asked, dry_run_asked, task_answer, work_asked}
 use Rattle.gcu_requests.proofs.FirstBreaches.{invalid_one}
 use Rattle.gcu_requests.proofs.OnePlanAnswer.{PlanLaws, accepted_same, plan_same}
 
@@ -272,15 +273,26 @@ module _ (one : (files : List (List Declaration)) (a b : ModelSet) → AreModels
   planning_one : (from : Target) (budget : ℕ) (s : State) → HasOneAnswer (planning_asked from budget s)
   planning_one from budget s = chain_one (gate_asked from s) _ (gate_one from s) (λ u. needs_one from budget s)
 
-  dry_run_one : (word : Target) (budget : ℕ) (s : State) → HasOneAnswer (dry_run_asked word budget s)
-  dry_run_one word budget s =
-      chain_one (follows (target_answer word)) _ (follows_one (target_answer word))
-      (λ from. chain_one (planning_asked from budget s) _ (planning_one from budget s) (λ p. follows_one _))
+  operating_one : (path : List ℕ) (budget : ℕ) (s : State) → HasOneAnswer (operating_asked path budget s)
+  operating_one path budget s =
+      chain_one (uninterrupted s) _ (uninterrupted_one s)
+      (λ u. chain_one (ctx_asked s) _ (ctx_one s)
+      (λ ctx. chain_one (start_asked ctx s) _ (start_one ctx s)
+      (λ start. chain_one (script_asked path s) _ (script_one path s) (λ lines. chain_one (patches_asked [] lines s) _ (patches_one [] lines s) (λ patches. follows_one _)))))
 
-  change_one : (word : Target) (budget : ℕ) (s : State) → HasOneAnswer (change_asked word budget s)
+  work_one : (task : Task) (budget : ℕ) (s : State) → HasOneAnswer (work_asked task budget s)
+  work_one (reach from) budget s = chain_one (planning_asked from budget s) _ (planning_one from budget s) (λ p. follows_one _)
+  work_one (run_script path) budget s = chain_one (operating_asked path budget s) _ (operating_one path budget s) (λ p. follows_one _)
+
+  dry_run_one : (word : Task) (budget : ℕ) (s : State) → HasOneAnswer (dry_run_asked word budget s)
+  dry_run_one word budget s =
+      chain_one (follows (task_answer word)) _ (follows_one (task_answer word))
+      (λ task. chain_one (work_asked task budget s) _ (work_one task budget s) (λ w. follows_one _))
+
+  change_one : (word : Task) (budget : ℕ) (s : State) → HasOneAnswer (change_asked word budget s)
   change_one word budget s =
-      chain_one (follows (target_answer word)) _ (follows_one (target_answer word))
-      (λ from. chain_one settles_first _ settles_one (λ u. chain_one (planning_asked from budget s) _ (planning_one from budget s) (λ p. follows_one _)))
+      chain_one (follows (task_answer word)) _ (follows_one (task_answer word))
+      (λ task. chain_one settles_first _ settles_one (λ u. chain_one (work_asked task budget s) _ (work_one task budget s) (λ w. follows_one _)))
 
   generated_one : (seed ports : ℕ) (ctx : Ctx) → HasOneAnswer (generated_asked seed ports ctx)
   generated_one seed ports ctx =
@@ -299,16 +311,6 @@ module _ (one : (files : List (List Declaration)) (a b : ModelSet) → AreModels
       chain_one (planning_asked (patched patch) default_budget s) _ (planning_one (patched patch) default_budget s)
       (λ p. chain_one (moves_asked plan s) _ (moves_one plan s) (λ ms. record { same = accepted_same laws p ms }))
 
-  operating_one : (path : List ℕ) (budget : ℕ) (s : State) → HasOneAnswer (operating_asked path budget s)
-  operating_one path budget s =
-      chain_one (uninterrupted s) _ (uninterrupted_one s)
-      (λ u. chain_one (ctx_asked s) _ (ctx_one s)
-      (λ ctx. chain_one (start_asked ctx s) _ (start_one ctx s)
-      (λ start. chain_one (script_asked path s) _ (script_one path s) (λ lines. chain_one (patches_asked [] lines s) _ (patches_one [] lines s) (λ patches. follows_one _)))))
-
-  rehearse_one : (path : List ℕ) (budget : ℕ) (s : State) → HasOneAnswer (rehearse_asked path budget s)
-  rehearse_one path budget s = chain_one (operating_asked path budget s) _ (operating_one path budget s) (λ p. follows_one _)
-
   form_one : (f : Option Form) (s : State) → HasOneAnswer (form_asked f s)
   form_one None s = follows_one _
   form_one (Some (forms.preview path)) s = preview_one path s
@@ -317,13 +319,12 @@ module _ (one : (files : List (List Declaration)) (a b : ModelSet) → AreModels
   form_one (Some forms.migrate_checkpoints) s = migrate_one s
   form_one (Some (forms.save_checkpoint name)) s = save_one name s
   form_one (Some (forms.delete_checkpoint name)) s = delete_one name s
-  form_one (Some (forms.plan goal budget)) s = dry_run_one goal budget s
-  form_one (Some (forms.change goal budget)) s = change_one goal budget s
+  form_one (Some (forms.plan task budget)) s = dry_run_one task budget s
+  form_one (Some (forms.change task budget)) s = change_one task budget s
   form_one (Some forms.status) s = status_one s
   form_one (Some forms.abandon) s = abandon_one s
   form_one (Some (forms.demo seed ports)) s = demo_one seed ports s
   form_one (Some (forms.check_plan patch plan)) s = check_plan_one patch plan s
-  form_one (Some (forms.rehearse path budget)) s = rehearse_one path budget s
 
   pub asked_one : AskedIsOne
   asked_one words s = form_one (form words) s

@@ -11,19 +11,17 @@ use Rattle.gcu_output.specs.declared.outcomes.Outcome.{Outcome}
 use Rattle.gcu_output.specs.declared.outcomes.Outcome.TheVariants.{Usage, NoCheckpoint, CheckpointExists, SequenceFull}
 use Rattle.gcu_output.specs.declared.outcomes.PointWhy.TheVariants as why
 use Rattle.gcu_requests.specs.Asking.{Asking, a_file, asks, follows, settles_first, ◌>>>◌}
-use Rattle.gcu_requests.specs.ChangeAsked.{change_asked}
 use Rattle.gcu_requests.specs.Checking.{check_asked}
 use Rattle.gcu_requests.specs.DemoAsked.{demo_asked}
-use Rattle.gcu_requests.specs.Form.{Form, abandon, change, check, check_plan, delete_checkpoint, demo, form, list_checkpoints, migrate_checkpoints, plan, preview, save_checkpoint, status, rehearse}
+use Rattle.gcu_requests.specs.Form.{Form, abandon, change, check, check_plan, delete_checkpoint, demo, form, list_checkpoints, migrate_checkpoints, plan, preview, save_checkpoint, status}
 use Rattle.gcu_requests.specs.IntentAsked.{abandon_asked, status_asked, uninterrupted}
 use Rattle.gcu_requests.specs.PatchAsked.{patch_asked, target}
-use Rattle.gcu_requests.specs.PlanAsked.{dry_run_asked}
 use Rattle.gcu_requests.specs.PlanCheckAsked.{check_plan_asked}
 use Rattle.gcu_requests.specs.PointAsked.{name_answer}
 use Rattle.gcu_requests.specs.Request as request
 use Rattle.gcu_requests.specs.Request.{Request}
-use Rattle.gcu_requests.specs.SessionsAsked.{rehearse_asked}
 use Rattle.gcu_requests.specs.StoredAsked.{stored_asked}
+use Rattle.gcu_requests.specs.WorkAsked.{change_asked, dry_run_asked}
 
 -- ---- checkpoints
 
@@ -111,13 +109,12 @@ form_asked (Some list_checkpoints) s = list_asked s
 form_asked (Some migrate_checkpoints) s = migrate_asked s
 form_asked (Some (save_checkpoint name)) s = save_asked name s
 form_asked (Some (delete_checkpoint name)) s = delete_asked name s
-form_asked (Some (plan goal budget)) s = dry_run_asked goal budget s
-form_asked (Some (change goal budget)) s = change_asked goal budget s
+form_asked (Some (plan task budget)) s = dry_run_asked task budget s
+form_asked (Some (change task budget)) s = change_asked task budget s
 form_asked (Some status) s = status_asked s
 form_asked (Some abandon) s = abandon_asked s
 form_asked (Some (demo seed ports)) s = demo_asked seed ports s
 form_asked (Some (check_plan patch saved)) s = check_plan_asked patch saved s
-form_asked (Some (rehearse path budget)) s = rehearse_asked path budget s
 
 -- what the words ask of a host in this state
 abbrev pub asked : List (List ℕ) → State → Asking Request

@@ -1,6 +1,6 @@
 -- What a command asks of its host before it does anything: which calls are made, and which answers are
 -- right. It is said by relations, as what models and configurations say is no function of the code.
-use Rattle.std.specs.Prelude.{◌≡◌, ◌⊎◌, Result, Ok, Err}
+use Rattle.std.specs.Prelude.{◌≡◌, ◌⊎◌, List, [], ◌∷◌, Result, Ok, Err}
 use Rattle.gcu_output.specs.declared.outcomes.Outcome.{Outcome}
 
 -- what a call of the host reads
@@ -55,3 +55,11 @@ first >>> next =
       Reads = λ s. first.Reads s ⊎ ReadsNext first next s;
       Gives = λ r. IsRefused first r ⊎ GivesNext first next r;
     }
+
+-- the same question of each item, one after the other
+abbrev pub of_each : {X Y : Type 0} → (X → Asking Y) → List X → Asking (List Y)
+of_each ask [] = follows (Ok [])
+of_each ask (x ∷ xs) =
+    ask x >>> λ y.
+    of_each ask xs >>> λ ys.
+    follows (Ok (y ∷ ys))

@@ -2,8 +2,9 @@
 use Rattle.std.specs.Prelude.{ℕ, List, [], ◌∷◌, codes, ◌&&◌, if◌then◌else◌, Option, Some, None, option_and_then, option_map}
 use Rattle.plan_options.specs.Demos.{demo_of}
 use Rattle.plan_options.specs.Options.{Options, default_budget, options}
-use Rattle.plan_options.specs.Targets.{Target, resumed, target_of}
+use Rattle.plan_options.specs.Targets.{resumed}
 use Rattle.plan_options.specs.Words.{is_positional, is_word}
+use Rattle.gcu_requests.specs.Tasks.{Task, reach, task_of}
 
 -- a command with its words
 pub data Form : Type 0 where
@@ -16,24 +17,22 @@ pub data Form : Type 0 where
   save_checkpoint : List ℕ → Form
   -- with the name of the checkpoint
   delete_checkpoint : List ℕ → Form
-  -- with the target and the budget of a plan that is only printed
-  plan : Target → ℕ → Form
-  -- with the target and the budget of a plan that is done
-  change : Target → ℕ → Form
+  -- with a task and the budget of each plan, where it is only printed what would be done
+  plan : Task → ℕ → Form
+  -- the same where it is done
+  change : Task → ℕ → Form
   status : Form
   abandon : Form
   -- with the seed and the number of ports of a plan between generated configurations
   demo : ℕ → ℕ → Form
   -- with the paths of a patch and of a plan for it
   check_plan : List ℕ → List ℕ → Form
-  -- with the path of a script and the budget of each plan, where what operators do is only told
-  rehearse : List ℕ → ℕ → Form
 
 -- a change that was stopped is to be finished: it takes no other option than a budget
 abbrev pub form_of_resume : List (List ℕ) → Option Form
-form_of_resume [] = Some (change resumed default_budget)
+form_of_resume [] = Some (change (reach resumed) default_budget)
 form_of_resume (a ∷ b ∷ []) =
-    option_map (λ given. change resumed given.budget) (options (a ∷ b ∷ []))
+    option_map (λ given. change (reach resumed) given.budget) (options (a ∷ b ∷ []))
 form_of_resume other = None
 
 -- the command that a word is which has to do with a change that was stopped
@@ -52,15 +51,15 @@ form_of_one command =
     else if is_word command (codes "migrate-checkpoints") then Some migrate_checkpoints
     else form_of_interruption command
 
--- a plan is only printed, or done
-abbrev pub planned : Target → Options → Form
-planned target given =
-    if given.dry_run then plan target given.budget else change target given.budget
+-- what a task would do is only printed, or it is done
+abbrev pub planned : Task → Options → Form
+planned task given =
+    if given.dry_run then plan task given.budget else change task given.budget
 
 -- the command that a word, a second one and options are
 abbrev pub form_of_plan : List ℕ → List ℕ → List (List ℕ) → Option Form
 form_of_plan command word ws =
-    option_and_then (λ target. option_map (planned target) (options ws)) (target_of command word)
+    option_and_then (λ task. option_map (planned task) (options ws)) (task_of command word)
 
 -- the demonstration that a seed and a number of ports are
 abbrev pub form_of_demo : List ℕ → List (List ℕ) → Option Form
@@ -73,22 +72,12 @@ form_of_check patch (saved ∷ []) =
     if is_positional patch && is_positional saved then Some (check_plan patch saved) else None
 form_of_check patch other = None
 
--- what operators do is only told
-abbrev pub operated : List ℕ → Options → Option Form
-operated path given = if given.dry_run then Some (rehearse path given.budget) else None
-
--- the script of several operators that a path and options are
-abbrev pub form_of_sessions : List ℕ → List (List ℕ) → Option Form
-form_of_sessions path ws =
-    if is_positional path then option_and_then (operated path) (options ws) else None
-
 -- the command that a word, a second one and more are
 abbrev pub form_of_more : List ℕ → List ℕ → List (List ℕ) → Option Form
 form_of_more command word ws =
     if is_word command (codes "demo") then form_of_demo word ws
     else if is_word command (codes "resume") then form_of_resume (word ∷ ws)
     else if is_word command (codes "check-plan") then form_of_check word ws
-    else if is_word command (codes "sessions") then form_of_sessions word ws
     else form_of_plan command word ws
 
 -- the command that two words are

@@ -1,7 +1,6 @@
 -- what public clauses cite
 pub mod Asked
 pub mod Asking
-pub mod ChangeAsked
 pub mod Checking
 pub mod DemoAsked
 pub mod FileAsked
@@ -21,8 +20,13 @@ pub mod ReadScripts
 pub mod Request
 pub mod RulesAsked
 pub mod ScopeForm
+pub mod ScopesAsked
+pub mod ScopesForm
+pub mod ScopesPlannings
 pub mod SessionsAsked
 pub mod StoredAsked
+pub mod Tasks
 pub mod Trees
+pub mod WorkAsked
 -- what only private clauses cite
 pub mod Judging

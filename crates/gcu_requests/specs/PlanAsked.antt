@@ -16,7 +16,7 @@ use Rattle.gcu_requests.specs.FileAsked.{file_asked}
 use Rattle.gcu_requests.specs.IntentAsked.{gate_asked, intended_asked}
 use Rattle.gcu_requests.specs.PatchAsked.{patch_asked, target}
 use Rattle.gcu_requests.specs.PointAsked.{held_asked, name_answer}
-use Rattle.gcu_requests.specs.Request.{Planning, Request, plan}
+use Rattle.gcu_requests.specs.Request.{Planning}
 use Rattle.gcu_requests.specs.RulesAsked.{ctx_asked}
 use Rattle.gcu_requests.specs.StoredAsked.{stored_asked}
 
@@ -79,19 +79,9 @@ needs_asked from budget s =
 abbrev pub planning_asked : Target → ℕ → State → Asking Planning
 planning_asked from budget s = gate_asked from s >>> λ _. needs_asked from budget s
 
--- a plan for the target, with that budget
-abbrev pub plan_asked : Target → ℕ → State → Asking Request
-plan_asked from budget s = planning_asked from budget s >>> λ p. follows (Ok (plan p))
-
 -- a target by a name that no checkpoint has is refused
 abbrev pub target_answer : Target → Result Target Outcome
 target_answer (patched path) = Ok (patched path)
 target_answer (replaced path) = Ok (replaced path)
 target_answer (rolled_back name) = map_ok rolled_back (name_answer name)
 target_answer resumed = Ok resumed
-
--- the same where the plan is only printed: a name is looked at before anything is read
-abbrev pub dry_run_asked : Target → ℕ → State → Asking Request
-dry_run_asked word budget s =
-    follows (target_answer word) >>> λ from.
-    plan_asked from budget s

@@ -1,5 +1,5 @@
 -- What the parts of a command give before anything is printed.
-use Rattle.std.specs.Prelude.{◌≡◌, Option, Some, None, Result, Ok, Err, IfErr, IfSome, ⊤}
+use Rattle.std.specs.Prelude.{◌≡◌, List, [], ◌∷◌, Option, Some, None, Result, Ok, Err, IfErr, IfSome, ⊤}
 use Rattle.host_core.specs.Counts.{Counts, Rose}
 use Rattle.host_core.specs.State.{State}
 use Rattle.gcu_output.specs.declared.outcomes.Outcome.{Outcome}
@@ -73,3 +73,10 @@ pub record Found {X Y : Type 0} (view : X → Y) (result : Result X Outcome) (as
 abbrev pub Finds : {X Y : Type 0} → Option State → (X → Y) → Result X Outcome
     → (State → Asking Y) → Type 0
 Finds told view result asking = IfSome told (λ s. Found view result (asking s))
+
+-- item after item, what was found of it, seen by view, is what is asked of it
+abbrev pub AreFound : {X Y V : Type 0} → (V → Y) → (X → Asking Y) → List X → List V → Type 0
+AreFound view ask [] [] = ⊤
+AreFound view ask [] (v ∷ vs) = ⊥
+AreFound view ask (x ∷ xs) [] = ⊥
+AreFound view ask (x ∷ xs) (v ∷ vs) = (ask x).Gives (Ok (view v)) × AreFound view ask xs vs

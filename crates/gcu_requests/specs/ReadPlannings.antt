@@ -8,12 +8,18 @@ use Rattle.checkpoints.specs.Names.{is_good_name}
 use Rattle.move_core.specs.Contexts.{AgreeElsewhere, IsNamed, IsValidIn}
 use Rattle.plan_options.specs.Targets.{Target, rolled_back}
 use Rattle.gcu_requests.specs.Request as request
+use Rattle.gcu_requests.specs.Tasks.{Task, reach, run_script}
 use Rattle.gcu_requests.specs.declared.planning.Planning.{Planning}
 
 -- where the target is a checkpoint, its name is good
 abbrev pub HasGoodName : Target → Type 0
 HasGoodName (rolled_back name) = is_good_name name ≡ true
 HasGoodName other = ⊤
+
+-- the same of a task
+abbrev pub IsWellNamed : Task → Type 0
+IsWellNamed (reach from) = HasGoodName from
+IsWellNamed (run_script path) = ⊤
 
 -- what was read for a plan, as a request has it
 abbrev pub planning_of : Planning → request.Planning

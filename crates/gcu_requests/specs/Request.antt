@@ -3,7 +3,9 @@ use Rattle.std.specs.Prelude.{ℕ, List, Option}
 use Rattle.conf_doc.specs.declared.configuration.Config.{Config}
 use Rattle.checkpoints.specs.Migrations.{NewFile}
 use Rattle.move_core.specs.declared.contexts.Ctx.{Ctx}
+use Rattle.move_core.specs.declared.moves.Move.{Move}
 use Rattle.patch_core.specs.Operation.{Operation}
+use Rattle.scopes.specs.declared.scope.Scope.{Scope}
 use Rattle.session_scripts.specs.declared.script_lines.ScriptLine.{ScriptLine}
 use Rattle.gcu_output.specs.declared.statuses.Intent.{Intent}
 
@@ -27,6 +29,25 @@ pub record Operating : Type 0 where
   pub patches : List Patched
   pub budget : ℕ
 
+-- what is done step by step: a plan, or what several operators do
+pub data Work : Type 0 where
+  planned : Planning → Work
+  operated : Operating → Work
+
+-- by which models and settings it is done
+abbrev pub ctx_of : Work → Ctx
+ctx_of (planned p) = p.ctx
+ctx_of (operated p) = p.ctx
+
+-- from which configuration
+abbrev pub start_of : Work → Config
+start_of (planned p) = p.start
+start_of (operated p) = p.start
+
+-- a scope with the moves of its plan
+abbrev pub ScopePlan : Type 0
+ScopePlan = Scope × List Move
+
 -- a command with all that it needs
 pub data Request : Type 0 where
   -- print this configuration
@@ -41,10 +62,10 @@ pub data Request : Type 0 where
   save_checkpoint : List ℕ → Config → Request
   -- delete the checkpoint of this name
   delete_checkpoint : List ℕ → Request
-  -- print such a plan
-  plan : Planning → Request
-  -- print such a plan and do it
-  change : Planning → Request
+  -- print what a work would do
+  plan : Work → Request
+  -- print it and do it
+  change : Work → Request
   -- say what the file of a change under way is, and how many step files are applied
   status : Intent → ℕ → Request
   -- give up the change that was stopped
@@ -53,5 +74,5 @@ pub data Request : Type 0 where
   demo : Planning → ℕ → Request
   -- say that moves are a plan, of so many steps
   accept_plan : ℕ → Request
-  -- say what several operators do
-  rehearse : Operating → Request
+  -- print these plans of scopes
+  plan_scopes : List ScopePlan → Request

@@ -1,4 +1,4 @@
--- Which words are a command over the files of one ASIC: the option `--scope`.
+-- Which words are a command over the files of one ASIC, by the option `--scope`, and which are about no scope.
 use Rattle.std.specs.Prelude.{◌≡◌, ◌<◌, ℕ, List, [], ◌∷◌, codes, Bool, ◌&&◌, ◌||◌, if◌then◌else◌, IsSome, Option, Some, None}
 use Rattle.plan_options.specs.Words.{is_word}
 use Rattle.scopes.specs.Scopes.{most_asics, scope_name}
@@ -6,6 +6,7 @@ use Rattle.scopes.specs.declared.scope.Scope.{Scope}
 use Rattle.scopes.specs.declared.scope.Scope.TheVariants.{Asic}
 use Rattle.gcu_requests.specs.Form.{form}
 use Rattle.gcu_requests.specs.FormView.{form_view}
+use Rattle.gcu_requests.specs.ScopesForm.{scopes_form}
 use Rattle.gcu_requests.specs.declared.scope_form.ScopeForm.{ScopeForm}
 
 -- the word before the name of a scope
@@ -49,9 +50,13 @@ pub record IsScoped (words : List (List ℕ)) (scope : Scope) (plain : List (Lis
   pub cut : cut_scope words ≡ Some (scope_name scope, plain)
   pub command : IsSome (form plain)
 
--- the words name no scope
+-- the words name no scope by the option
+abbrev pub HasNoScope : List (List ℕ) → Type 0
+HasNoScope words = (scope : Scope) (plain : List (List ℕ)) → ¬ IsScoped words scope plain
+
+-- the words are about no scope: they name none by the option, and are no change of several
 abbrev pub IsUnscoped : List (List ℕ) → Type 0
-IsUnscoped words = (scope : Scope) (plain : List (List ℕ)) → ¬ IsScoped words scope plain
+IsUnscoped words = HasNoScope words × (scopes_form words ≡ None)
 
 -- the words are no command
 abbrev pub IsNoCommand : List (List ℕ) → Type 0

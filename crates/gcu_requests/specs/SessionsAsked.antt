@@ -16,7 +16,7 @@ use Rattle.gcu_requests.specs.IntentAsked.{uninterrupted}
 use Rattle.gcu_requests.specs.ModelFiles.{bytes_asked}
 use Rattle.gcu_requests.specs.PatchAsked.{patch_asked, target}
 use Rattle.gcu_requests.specs.PlanAsked.{judged_asked, start_asked}
-use Rattle.gcu_requests.specs.Request.{Operating, Patched, Request, rehearse}
+use Rattle.gcu_requests.specs.Request.{Operating, Patched}
 use Rattle.gcu_requests.specs.RulesAsked.{ctx_asked}
 
 -- ---- the script
@@ -85,10 +85,6 @@ script_needs_asked path budget s =
 -- the same, where no change is under way
 abbrev pub operating_asked : List ℕ → ℕ → State → Asking Operating
 operating_asked path budget s = uninterrupted s >>> λ _. script_needs_asked path budget s
-
--- what the operators do is only told
-abbrev pub rehearse_asked : List ℕ → ℕ → State → Asking Request
-rehearse_asked path budget s = operating_asked path budget s >>> λ p. follows (Ok (rehearse p))
 
 -- ---- a goal
 

@@ -1,14 +1,16 @@
 //! Which words are a command.
 ghost use Rattle.std.specs.Prelude.{◌≡◌, ◌∷◌, [], Some};
 ghost use Rattle.plan_options.specs.Targets.{resumed as resume_target};
-ghost use Rattle.plan_options.specs.Views.{options_view, target_view};
-ghost use Rattle.gcu_requests.specs.Form.{change as change_of, form, form_of_check, form_of_demo, form_of_interruption, form_of_more, form_of_one, form_of_plan, form_of_resume, form_of_sessions, form_of_two, operated, planned};
-ghost use Rattle.gcu_requests.specs.FormView.{form_view};
+ghost use Rattle.plan_options.specs.Views.{options_view};
+ghost use Rattle.gcu_requests.specs.Form.{change as change_of, form, form_of_check, form_of_demo, form_of_interruption, form_of_more, form_of_one, form_of_plan, form_of_resume, form_of_two, planned};
+ghost use Rattle.gcu_requests.specs.FormView.{form_view, task_view};
+ghost use Rattle.gcu_requests.specs.Tasks.{reach};
 
+use crate::tasks::{Task, read_task};
 use host_core::Txt;
 use plan_options::{
     DEFAULT_BUDGET, Demo, Options, Source, Target, is_positional, read_budget_option, read_demo,
-    read_options, read_target,
+    read_options,
 };
 
 /// A command with its words.
@@ -17,9 +19,7 @@ pub enum Form<'a> {
     /// The words are no command.
     Unknown,
     /// Prints the stored configuration as the patch of this input would leave it.
-    Preview {
-        patch: &'a Txt,
-    },
+    Preview { patch: &'a Txt },
     /// Says whether the stored configuration is valid.
     Check,
     /// Prints the names of all checkpoints.
@@ -27,41 +27,21 @@ pub enum Form<'a> {
     /// Puts the files of the old format anew.
     MigrateCheckpoints,
     /// Saves the stored configuration as the checkpoint of this name.
-    SaveCheckpoint {
-        name: &'a Txt,
-    },
+    SaveCheckpoint { name: &'a Txt },
     /// Deletes the checkpoint of this name.
-    DeleteCheckpoint {
-        name: &'a Txt,
-    },
-    /// Prints a plan for the target.
-    Plan {
-        target: Target<'a>,
-        options: Options,
-    },
-    /// Does a plan for the target.
-    Change {
-        target: Target<'a>,
-        options: Options,
-    },
+    DeleteCheckpoint { name: &'a Txt },
+    /// Prints what a task would do.
+    Plan { task: Task<'a>, options: Options },
+    /// Does a task.
+    Change { task: Task<'a>, options: Options },
     /// Says whether a change was stopped, and how far it is.
     Status,
     /// Gives up a change that was stopped.
     Abandon,
     /// Counts the steps of a plan between generated configurations.
-    Demo {
-        size: Demo,
-    },
+    Demo { size: Demo },
     /// Says whether an input holds a plan for the patch of another one.
-    CheckPlan {
-        patch: &'a Txt,
-        plan: &'a Txt,
-    },
-    /// Says what several operators do by a script.
-    Rehearse {
-        script: &'a Txt,
-        options: Options,
-    },
+    CheckPlan { patch: &'a Txt, plan: &'a Txt },
 }
 
 /// The command that the words are.
@@ -114,13 +94,14 @@ fn form_of_interruption(command: &Txt) -> Form<'_>
 
 /// A change that was stopped is to be finished.
 pub(crate) fn resumed(command: &Txt, options: Options) -> Form<'_>
-    ensures { form_view result ≡ Some (change_of resume_target options.budget) }
+    ensures { form_view result ≡ Some (change_of (reach resume_target) options.budget) }
 {
     let target = Target {
         source: Source::Intent,
         word: command,
     };
-    Form::Change { target, options }
+    let task = Task::Reach { target };
+    Form::Change { task, options }
 }
 
 /// The same with the options that words are.
@@ -166,9 +147,6 @@ fn form_of_more<'a>(command: &'a Txt, word: &'a Txt, words: &'a [Txt]) -> Form<'
     if command.as_str() == "check-plan" {
         return form_of_check(word, words);
     }
-    if command.as_str() == "sessions" {
-        return form_of_sessions(word, words);
-    }
     form_of_plan(command, word, words)
 }
 
@@ -205,46 +183,22 @@ fn check_of_two<'a>(patch: &'a Txt, plan: &'a Txt) -> Form<'a>
     Form::Unknown
 }
 
-/// The script of several operators that a path and options are.
-fn form_of_sessions<'a>(script: &'a Txt, words: &[Txt]) -> Form<'a>
-    ensures { form_view result ≡ form_of_sessions script.now words.now }
-{
-    if !is_positional(script) {
-        return Form::Unknown;
-    }
-    match read_options(words) {
-        Some(options) => operated(script, options),
-        None => Form::Unknown,
-    }
-}
-
-/// What operators do is only told.
-fn operated(script: &Txt, options: Options) -> Form<'_>
-    ensures { form_view result ≡ operated script.now (options_view options) }
-{
-    if options.dry_run {
-        return Form::Rehearse { script, options };
-    }
-    Form::Unknown
-}
-
 /// The command that a word, a second one and options are.
 fn form_of_plan<'a>(command: &Txt, word: &'a Txt, words: &[Txt]) -> Form<'a>
     ensures { form_view result ≡ form_of_plan command.now word.now words.now }
 {
-    match (read_target(command, word), read_options(words)) {
-        (Some(target), Some(options)) => planned(target, options),
+    match (read_task(command, word), read_options(words)) {
+        (Some(task), Some(options)) => planned(task, options),
         _ => Form::Unknown,
     }
 }
 
-/// A plan is only printed, or done.
-fn planned(target: Target<'_>, options: Options) -> Form<'_>
-    ensures { form_view result
-        ≡ Some (planned (target_view target.entry) (options_view options)) }
+/// What a task would do is only printed, or it is done.
+fn planned(task: Task<'_>, options: Options) -> Form<'_>
+    ensures { form_view result ≡ Some (planned (task_view task.entry) (options_view options)) }
 {
     if options.dry_run {
-        return Form::Plan { target, options };
+        return Form::Plan { task, options };
     }
-    Form::Change { target, options }
+    Form::Change { task, options }
 }

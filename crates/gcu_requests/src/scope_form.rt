@@ -5,7 +5,7 @@ ghost use Rattle.scopes.specs.Scopes.{most_asics, scope_name};
 ghost use Rattle.scopes.specs.declared.scope.Scope.TheVariants.{Asic as asic};
 ghost use Rattle.gcu_requests.specs.Form.{form};
 ghost use Rattle.gcu_requests.specs.FormView.{form_view};
-ghost use Rattle.gcu_requests.specs.ScopeForm.{IsReadScoped, IsUnscoped, cut_options as options_cut, cut_scope as scope_cut, resume_word, scope_word, takes_scope as may_take};
+ghost use Rattle.gcu_requests.specs.ScopeForm.{HasNoScope, IsReadScoped, cut_options as options_cut, cut_scope as scope_cut, resume_word, scope_word, takes_scope as may_take};
 
 use crate::form::{Form, form_of_one, resumed};
 use host_core::Txt;
@@ -34,7 +34,7 @@ struct Cut<'a> {
 
 /// The command over the files of one ASIC that the words are, where they are one.
 pub fn read_scope_form(words: &[Txt]) -> Option<ScopeForm<'_>>
-    ensures { MatchOption result (IsUnscoped words.now) (IsReadScoped words.now) }
+    ensures { MatchOption result (HasNoScope words.now) (IsReadScoped words.now) }
 {
     let cut = cut_scope(words)?;
     let scope = asic_named(cut.name)?;

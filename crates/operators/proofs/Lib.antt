@@ -1,2 +1,3 @@
+pub mod CommitMoves
 pub mod ScriptRuns
 pub mod WorldsKept

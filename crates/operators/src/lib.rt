@@ -2,6 +2,7 @@
 #![tactic(auto)]
 
 mod aims;
+mod commits;
 mod laws;
 mod lines;
 mod operating;
@@ -9,6 +10,7 @@ mod replies;
 mod searching;
 mod turns;
 
+pub use commits::moves_of;
 pub use laws::{scripts_keep_worlds, scripts_run_worlds};
 pub use operating::{Operated, operate};
 pub use searching::first_plan;

@@ -34,7 +34,7 @@ returns-in_err-plan-clause-cause g c =
 pub returns-clause-prepared : goal.returns-clause-prepared
 returns-clause-prepared g c =
     made_ready (target_view c.args.target) c.args.budget (g.H.Host.told c.args.host.now) c.in_ok-planning.planning c.in_ok-plan.plan c.ready_change.result
-    c.in_ok-planning.ensures.answer c.in_ok-plan.ensures.answer c.in_ok-planning.ensures.stands c.ready_change.ensures.change c.ready_change.ensures.err
+    c.in_ok-planning.ensures.answer c.in_ok-plan.ensures.answer c.in_ok-planning.ensures.stands c.ready_change.ensures.change c.ready_change.ensures.text c.ready_change.ensures.err
     (subst (λ b. IfOk c.ready_change.result (λ ready. ready.closes ≡ b)) c.closes_stopped-closes.ensures c.ready_change.ensures.closes)
 
 pub returns-clause-cause : goal.returns-clause-cause

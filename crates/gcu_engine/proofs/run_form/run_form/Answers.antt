@@ -1,12 +1,11 @@
 use Rattle.std.proofs.Common.{◌≡◌, ℕ, List, None, Some, IsSome, refl, ap, sym, ◌∙◌, ◌++◌}
 use Rattle.conf_doc.specs.Trees.{document}
-use Rattle.plan_options.specs.Views.{target_view}
 use Rattle.gcu_output.specs.Lines.{last_line}
 use Rattle.gcu_output.specs.Printing.{text_in_lines}
 use Rattle.gcu_output.specs.declared.outcomes.Outcome.{Outcome}
 use Rattle.gcu_output.specs.declared.outcomes.Outcome.TheVariants.{Usage, Done}
 use Rattle.gcu_requests.specs.Form.{abandon, check, form, list_checkpoints, migrate_checkpoints, status}
-use Rattle.gcu_requests.specs.FormView.{form_view}
+use Rattle.gcu_requests.specs.FormView.{form_view, task_view}
 use Rattle.gcu_requests.specs.declared.form.Form.{Form}
 use Rattle.gcu_engine.specs.Answers.{TellsUsage}
 use Rattle.gcu_engine.proofs.Completing.{complete_by}
@@ -238,28 +237,14 @@ returns-in-CheckPlan-clause-answers g c words is =
     answers_by words _ (g.H.Host.told c.args.host.now) (g.H.Host.told c.check_plan.new.host) (g.H.Host.counts c.args.host.now) (g.H.Host.counts c.check_plan.new.host) c.check_plan.result
     (of words c.args.command _ is c.in-CheckPlan.is) c.check_plan.ensures.answers
 
-pub returns-in-Rehearse-clause-answers : goal.returns-in-Rehearse-clause-answers
-returns-in-Rehearse-clause-answers g c words is =
-    answers_by words _ (g.H.Host.told c.args.host.now) (g.H.Host.told c.rehearse.new.host) (g.H.Host.counts c.args.host.now) (g.H.Host.counts c.rehearse.new.host) c.rehearse.result
-    (of words c.args.command _ is c.in-Rehearse.is) c.rehearse.ensures.answers
-
 pub returns-in-CheckPlan-clause-crash : goal.returns-in-CheckPlan-clause-crash
 returns-in-CheckPlan-clause-crash g c words is =
     leaves_by g.H.Host.moment g.H.Host.left_since words _ c.args.host.now c.check_plan.new.host (g.H.Host.told c.args.host.now) (of words c.args.command _ is c.in-CheckPlan.is) (λ s left h. h) c.check_plan.ensures.crash
-
-pub returns-in-Rehearse-clause-crash : goal.returns-in-Rehearse-clause-crash
-returns-in-Rehearse-clause-crash g c words is =
-    leaves_by g.H.Host.moment g.H.Host.left_since words _ c.args.host.now c.rehearse.new.host (g.H.Host.told c.args.host.now) (of words c.args.command _ is c.in-Rehearse.is) (λ s left h. h) c.rehearse.ensures.crash
 
 pub returns-in-CheckPlan-clause-complete : goal.returns-in-CheckPlan-clause-complete
 returns-in-CheckPlan-clause-complete g c words is =
     complete_by words _ (g.H.Host.told c.args.host.now) (g.H.Host.counts c.args.host.now) (g.H.Host.counts c.check_plan.new.host) c.check_plan.result
     (of words c.args.command _ is c.in-CheckPlan.is) c.check_plan.ensures.complete
-
-pub returns-in-Rehearse-clause-complete : goal.returns-in-Rehearse-clause-complete
-returns-in-Rehearse-clause-complete g c words is =
-    complete_by words _ (g.H.Host.told c.args.host.now) (g.H.Host.counts c.args.host.now) (g.H.Host.counts c.rehearse.new.host) c.rehearse.result
-    (of words c.args.command _ is c.in-Rehearse.is) c.rehearse.ensures.complete
 
 -- ---- the promise of the whole
 
@@ -310,7 +295,7 @@ returns-in-Plan-clause-headline g c words is =
 
 pub returns-in-Change-clause-headline : goal.returns-in-Change-clause-headline
 returns-in-Change-clause-headline g c words is =
-    change_headline g.H.Host.moment g.H.Host.left_since words (target_view c.in-Change.target) c.in-Change.options.budget (g.H.Host.told c.args.host.now) (g.H.Host.told c.change.new.host) c.args.host.now c.change.new.host
+    change_headline g.H.Host.moment g.H.Host.left_since words (task_view c.in-Change.task) c.in-Change.options.budget (g.H.Host.told c.args.host.now) (g.H.Host.told c.change.new.host) c.args.host.now c.change.new.host
     (g.H.Host.counts c.args.host.now) (g.H.Host.counts c.change.new.host) c.change.result c.asked_has_one_answer.ensures (returns-in-Change-clause-answers g c words is) (returns-in-Change-clause-crash g c words is) c.change.ensures.early
 
 pub returns-in-Status-clause-headline : goal.returns-in-Status-clause-headline
@@ -332,11 +317,6 @@ pub returns-in-CheckPlan-clause-headline : goal.returns-in-CheckPlan-clause-head
 returns-in-CheckPlan-clause-headline g c words is =
     headline g.H.Host.moment g.H.Host.left_since words _ (g.H.Host.told c.args.host.now) (g.H.Host.told c.check_plan.new.host) c.args.host.now c.check_plan.new.host
     (g.H.Host.counts c.args.host.now) (g.H.Host.counts c.check_plan.new.host) c.check_plan.result (of words c.args.command _ is c.in-CheckPlan.is) tt c.asked_has_one_answer.ensures (returns-in-CheckPlan-clause-answers g c words is) (returns-in-CheckPlan-clause-crash g c words is)
-
-pub returns-in-Rehearse-clause-headline : goal.returns-in-Rehearse-clause-headline
-returns-in-Rehearse-clause-headline g c words is =
-    headline g.H.Host.moment g.H.Host.left_since words _ (g.H.Host.told c.args.host.now) (g.H.Host.told c.rehearse.new.host) c.args.host.now c.rehearse.new.host
-    (g.H.Host.counts c.args.host.now) (g.H.Host.counts c.rehearse.new.host) c.rehearse.result (of words c.args.command _ is c.in-Rehearse.is) tt c.asked_has_one_answer.ensures (returns-in-Rehearse-clause-answers g c words is) (returns-in-Rehearse-clause-crash g c words is)
 
 -- ---- the file intent
 
@@ -395,10 +375,6 @@ returns-in-Demo-clause-intent g c words is =
 pub returns-in-CheckPlan-clause-intent : goal.returns-in-CheckPlan-clause-intent
 returns-in-CheckPlan-clause-intent g c words is =
     keeps_intent g.H.Host.moment g.H.Host.left_since words (g.H.Host.told c.args.host.now) c.args.host.now c.check_plan.new.host (returns-in-CheckPlan-clause-crash g c words is)
-
-pub returns-in-Rehearse-clause-intent : goal.returns-in-Rehearse-clause-intent
-returns-in-Rehearse-clause-intent g c words is =
-    keeps_intent g.H.Host.moment g.H.Host.left_since words (g.H.Host.told c.args.host.now) c.args.host.now c.rehearse.new.host (returns-in-Rehearse-clause-crash g c words is)
 
 -- ---- a change that was stopped
 
@@ -471,11 +447,6 @@ returns-in-CheckPlan-clause-resumes g c words is =
     resumes c.listed_moves_have_models.ensures c.asked_has_one_answer.ensures words (g.H.Host.told c.args.host.now)
     (g.H.Host.counts c.args.host.now) (g.H.Host.counts c.check_plan.new.host) c.check_plan.result (returns-in-CheckPlan-clause-complete g c words is)
 
-pub returns-in-Rehearse-clause-resumes : goal.returns-in-Rehearse-clause-resumes
-returns-in-Rehearse-clause-resumes g c words is =
-    resumes c.listed_moves_have_models.ensures c.asked_has_one_answer.ensures words (g.H.Host.told c.args.host.now)
-    (g.H.Host.counts c.args.host.now) (g.H.Host.counts c.rehearse.new.host) c.rehearse.result (returns-in-Rehearse-clause-complete g c words is)
-
 -- ---- whether the words are a command
 
 pub returns-in-Unknown-clause-usage : goal.returns-in-Unknown-clause-usage
@@ -519,6 +490,3 @@ returns-in-Demo-clause-only_usage g c none = told_usage c.args.command _ c.demo.
 
 pub returns-in-CheckPlan-clause-only_usage : goal.returns-in-CheckPlan-clause-only_usage
 returns-in-CheckPlan-clause-only_usage g c none = told_usage c.args.command _ c.check_plan.result c.in-CheckPlan.is refl none
-
-pub returns-in-Rehearse-clause-only_usage : goal.returns-in-Rehearse-clause-only_usage
-returns-in-Rehearse-clause-only_usage g c none = told_usage c.args.command _ c.rehearse.result c.in-Rehearse.is refl none
