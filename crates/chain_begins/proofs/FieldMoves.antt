@@ -14,8 +14,8 @@ use Rattle.move_core.specs.declared.moves.Move.{Move}
 use Rattle.move_core.specs.declared.moves.Move.TheVariants.{Add, Remove, Replace, AddItem, RemoveItem}
 use Rattle.chain_begins.specs.Given.{IsChangedEntry, IsOfFields, IsOfTable, IsRemovedField, IsSetField, own_move}
 use Rattle.chain_begins.specs.Giving.{IsOfSome}
-use Rattle.chain_begins.proofs.Owned.{apart_add, apart_replace, of_its_place, owned}
-use Rattle.chain_begins.proofs.Parted.{IsEntryAt, entry_there, lacks_value, no_value, some_there, some_value, there_entry, there_value, value_there}
+use Rattle.chain_begins.proofs.OwnPlaces.{apart_add, apart_replace, of_its_place, owned}
+use Rattle.chain_begins.proofs.PlaceParts.{IsEntryAt, entry_there, lacks_value, no_value, some_there, some_value, there_entry, there_value, value_there}
 
 -- ---- one entry
 

@@ -12,8 +12,8 @@ use Rattle.move_core.specs.declared.moves.Move.{Move}
 use Rattle.move_core.specs.declared.moves.Move.TheVariants.{Add, Remove, Replace, AddItem, RemoveItem}
 use Rattle.chain_begins.specs.Given.{IsAddedEntry, IsOfTable, IsRemovedEntry, move_for, own_move}
 use Rattle.chain_begins.specs.Giving.{IsOfSome}
-use Rattle.chain_begins.proofs.Owned.{apart_add, of_its_place, owned}
-use Rattle.chain_begins.proofs.Parted.{entry_there, some_there, there_entry}
+use Rattle.chain_begins.proofs.OwnPlaces.{apart_add, of_its_place, owned}
+use Rattle.chain_begins.proofs.PlaceParts.{entry_there, some_there, there_entry}
 
 -- ---- entries added
 

@@ -14,7 +14,7 @@ use Rattle.conf_check.specs.declared.want_iter.WantPlace.{WantPlace}
 use Rattle.move_core.specs.Contexts.{HasWant, field_names, item_at, names_of}
 use Rattle.yang_model.specs.ModelSets.{ModelSet}
 use Rattle.chain_begins.specs.FieldWants.{AreElsewhere}
-use Rattle.chain_begins.proofs.Owned.{mapped_as}
+use Rattle.chain_begins.proofs.OwnPlaces.{mapped_as}
 
 same_Some : {A : Type 0} (x y : A) → Some x ≡ Some y → x ≡ y
 same_Some x y e = cc

@@ -16,10 +16,10 @@ use Rattle.chain_extends.specs.Mentions.{GivesOfTable}
 use Rattle.chain_extends.specs.Referrers.{GivesRemovals, IsBroken}
 use Rattle.chain_extends.specs.declared.changes.Change.{Change}
 use Rattle.chain_extends.proofs.AtKeys.{by_key, same_entry, second_name}
-use Rattle.chain_extends.proofs.Finding.{item_at}
+use Rattle.chain_extends.proofs.DistinctLists.{item_at}
 use Rattle.chain_extends.proofs.KeptKeys.{entry_of_key, key_of_entry}
 use Rattle.chain_extends.proofs.Texts.{Stands, row_stands}
-use Rattle.chain_extends.proofs.Wanted.{want_satisfied}
+use Rattle.chain_extends.proofs.SatisfiedWants.{want_satisfied}
 
 pub breaks_parts : (models : ModelSet) (cur next : Config) (m : Move) (t k : List ℕ) → next ≡ step cur m → t ≡ table_of (place m) → slice_get (place m) 1 ≡ Some k
     → (at : WantPlace) (w : Want) → IsWantAt models cur at w → IsBroken models next t w → Contains (key_parts k) w.text

@@ -19,7 +19,7 @@ use Rattle.move_core.specs.declared.moves.Move.{Move}
 use Rattle.move_core.specs.declared.moves.Move.TheVariants.{Add, Remove, Replace, AddItem, RemoveItem}
 use Rattle.chain_extends.specs.KeptKeys.{HasKeys, KeepsAlways, KeepsKey, KeepsKeys}
 use Rattle.chain_extends.proofs.AtKeys.{by_key, found_key, key_found, same_entry, second_name, stands, there}
-use Rattle.chain_extends.proofs.Kept.{apart_by, other_key, own_key, same_by}
+use Rattle.chain_extends.proofs.UntouchedPlaces.{apart_by, other_key, own_key, same_by}
 
 -- ---- keys and entries
 

@@ -28,7 +28,7 @@ use Rattle.chain_extends.specs.Mentions.{GivesOfTable}
 use Rattle.chain_extends.specs.Referrers.{GivesRemovals}
 use Rattle.chain_extends.specs.Referring.{MayRefer, member_refers, shape_refers, type_refers}
 use Rattle.chain_extends.specs.declared.changes.Change.{Change}
-use Rattle.chain_extends.proofs.Finding.{item_at}
+use Rattle.chain_extends.proofs.DistinctLists.{item_at}
 use Rattle.chain_extends.proofs.Texts.{Stands, row_stands}
 
 -- ---- tests of lists

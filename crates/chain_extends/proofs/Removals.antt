@@ -25,12 +25,12 @@ use Rattle.move_core.specs.declared.moves.Move.{Move}
 use Rattle.chain_extends.specs.Found.{IsLast}
 use Rattle.chain_extends.specs.KeptKeys.{KeepsKeys}
 use Rattle.chain_extends.specs.Referrers.{AddsRemoval, GivesRemovals, IsBroken, place_of, removal_at, removal_of}
-use Rattle.chain_extends.proofs.Finding.{appends_found, finds_none, item_at}
-use Rattle.chain_extends.proofs.Kept.{apart_by, other_table, same_by}
+use Rattle.chain_extends.proofs.DistinctLists.{appends_found, finds_none, item_at}
+use Rattle.chain_extends.proofs.UntouchedPlaces.{apart_by, other_table, same_by}
 use Rattle.chain_extends.proofs.KeptKeys.{satisfied_elsewhere, still_satisfied}
 use Rattle.chain_extends.proofs.Names.{names_named}
 use Rattle.chain_extends.proofs.Slots.{IsOneSlot, between, item_less, one_slot, slot_names}
-use Rattle.chain_extends.proofs.Wanted.{want_satisfied}
+use Rattle.chain_extends.proofs.SatisfiedWants.{want_satisfied}
 
 -- ---- which they are
 

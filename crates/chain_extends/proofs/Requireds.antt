@@ -27,8 +27,8 @@ use Rattle.chain_extends.specs.Found.{Finds}
 use Rattle.chain_extends.specs.Requireds.{Differs, GivesAt, GivesValue, LacksValue, RulesGive, TableGives, is_field_at, may_change, may_change_one}
 use Rattle.chain_extends.specs.declared.changes.Change.{Change}
 use Rattle.chain_extends.proofs.AtKeys.{by_key, by_table, found_key, same_entry, same_field, same_value, second_name}
-use Rattle.chain_extends.proofs.Finding.{finds_as}
-use Rattle.chain_extends.proofs.Kept.{apart_by, other_field, other_key, same_by}
+use Rattle.chain_extends.proofs.DistinctLists.{finds_as}
+use Rattle.chain_extends.proofs.UntouchedPlaces.{apart_by, other_field, other_key, same_by}
 
 same_place : (a b : Config) (t key : List ℕ) (field : Option (List ℕ)) → entry_of a t key ≡ entry_of b t key
     → part_at a (t ∷ key ∷ option_to_list field) ≡ part_at b (t ∷ key ∷ option_to_list field)

@@ -22,8 +22,8 @@ use Rattle.chain_extends.specs.Entries.{entry_of}
 use Rattle.chain_extends.specs.Mentions.{BreaksOnly, GivesOfEntry, HasFieldText, HasText, Mentions, texts_of_value}
 use Rattle.chain_extends.specs.declared.changes.Change.{Change}
 use Rattle.move_core.specs.declared.moves.Move.{Move}
-use Rattle.chain_extends.proofs.Finding.{item_at}
-use Rattle.chain_extends.proofs.Named.{part_at}
+use Rattle.chain_extends.proofs.DistinctLists.{item_at}
+use Rattle.chain_extends.proofs.NonemptyNames.{part_at}
 
 -- ---- pairs
 

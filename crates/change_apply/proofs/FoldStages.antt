@@ -11,7 +11,7 @@ use Rattle.conf_store.specs.Files.{folded_file, intent_file}
 use Rattle.conf_store.specs.Folds.{IsFolded, KeepsStored, StandsFor}
 use Rattle.conf_store.specs.Stored.{config_in, stored}
 use Rattle.conf_store.specs.declared.loaded.Stored.{Stored}
-use Rattle.conf_store.proofs.Standing.{keeps_itself}
+use Rattle.conf_store.proofs.FoldResults.{keeps_itself}
 use Rattle.change_apply.specs.Acknowledgements.{acks}
 use Rattle.change_apply.specs.Change.{Change, conf_at, goal, restarted, restarts_at, steps}
 use Rattle.change_apply.specs.Crashes.{IsLeft, KeepsOthers}

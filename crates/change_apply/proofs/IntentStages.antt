@@ -12,7 +12,7 @@ use Rattle.conf_store.specs.Puts.{IsPutOrNot, IsSame, after_put, put}
 use Rattle.conf_store.specs.Stored.{stored}
 use Rattle.conf_store.proofs.Entries.{same_steps}
 use Rattle.conf_store.proofs.FileMaps.{get_other, get_there, gone_twice}
-use Rattle.conf_store.proofs.Standing.{config_not_scratch, folded_not_scratch, same_stored, seen, step_not_scratch}
+use Rattle.conf_store.proofs.FoldResults.{config_not_scratch, folded_not_scratch, same_stored, seen, step_not_scratch}
 use Rattle.change_apply.specs.Acknowledgements.{acks}
 use Rattle.change_apply.specs.Change.{Change, conf_at, goal, restarted, restarts_at, steps}
 use Rattle.change_apply.specs.Crashes.{IsLeft, KeepsOthers}

@@ -30,7 +30,7 @@ use Rattle.move_core.specs.Operations.{op}
 use Rattle.move_core.specs.Plans.{conf}
 use Rattle.move_core.specs.declared.moves.Move.{Move}
 use Rattle.move_core.specs.declared.moves.Move.TheVariants.{Add, Remove, Replace, AddItem, RemoveItem}
-use Rattle.move_core.proofs.Operated.{plainly}
+use Rattle.move_core.proofs.OperationResults.{plainly}
 use Rattle.move_core.specs.declared.settings.ServiceTie.{ServiceTie}
 use Rattle.move_core.specs.declared.settings.Settings.{Settings}
 use Rattle.change_apply.specs.Change.{AreDefined, name_at, restart_of, step_text}

@@ -23,7 +23,7 @@ use Rattle.conf_store.specs.declared.errors.StoredWhy.TheVariants.{NoFile}
 use Rattle.conf_store.proofs.Digits.{names_same}
 use Rattle.conf_store.proofs.Entries.{no_step, same_steps}
 use Rattle.conf_store.proofs.FileMaps.{get_other, get_there}
-use Rattle.conf_store.proofs.Standing.{by_config, by_folded, config_not_scratch, folded_not_scratch, seen, step_not_scratch}
+use Rattle.conf_store.proofs.FoldResults.{by_config, by_folded, config_not_scratch, folded_not_scratch, seen, step_not_scratch}
 use Rattle.move_core.specs.Plans.{conf}
 use Rattle.move_core.specs.declared.moves.Move.{Move}
 use Rattle.change_apply.specs.Change.{Change, conf_at, goal, step_text, steps}

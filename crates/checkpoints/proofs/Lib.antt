@@ -1,16 +1,16 @@
-mod Changed
+mod FileChanges
 mod Contents
 mod Counting
 mod Decimals
-mod FilesAnew
+mod FileRewrites
 mod Moments
 mod NamesOfFiles
-mod NumbersListed
-mod NumbersPut
+mod NumberListings
+mod NumberWrites
 mod PointMaps
 mod ReadCalls
 mod Sorting
-mod StoredKept
-mod OldOnes
+mod StoredConfigurations
+mod OldCheckpoints
 pub mod OtherFiles
-mod Written
+mod FileTexts

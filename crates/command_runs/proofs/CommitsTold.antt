@@ -18,7 +18,7 @@ use Rattle.sessions.specs.declared.replies.Reply.TheVariants.{Applied, Began, En
 use Rattle.gcu_requests.specs.Request.{Operating, Patched}
 use Rattle.command_runs.specs.Works.{FitTheirPlaces, HaveNames, Told, committed, moves_told, told_lines, told_text}
 use Rattle.command_runs.proofs.Fitting.{commits_fit}
-use Rattle.command_runs.proofs.WorksTold.{AreToldBy}
+use Rattle.command_runs.proofs.WorkOutputs.{AreToldBy}
 
 -- scripts keep what every world keeps
 abbrev pub KeepsWorlds : Type 0

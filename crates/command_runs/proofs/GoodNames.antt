@@ -17,7 +17,7 @@ use Rattle.checkpoints.specs.Migrations.{NewFile, migration, new_file, new_files
 use Rattle.checkpoints.specs.Names.{is_good_name, is_name_character, is_point_file, point_name}
 use Rattle.checkpoints.specs.Points.{Held, held, point, points}
 use Rattle.gcu_engine.proofs.Lines.{IsOneLine}
-use Rattle.command_runs.proofs.CompactTold.{heads, tails}
+use Rattle.command_runs.proofs.CompactTexts.{heads, tails}
 
 -- ---- characters
 

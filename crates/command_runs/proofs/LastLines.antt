@@ -4,9 +4,9 @@ use Rattle.std.specs.Prelude.{codes, decimal}
 use Rattle.gcu_output.specs.Lines.{last_line, line_feed, number, numbered_line, quoted, said, service_line, space}
 use Rattle.gcu_output.specs.declared.outcomes.Outcome.{Outcome}
 use Rattle.gcu_output.specs.declared.outcomes.Outcome.TheVariants.{Done, PrintFault, ServiceFault}
-use Rattle.command_runs.proofs.Acked as acked
-use Rattle.command_runs.proofs.Acked.{Quiet, silent}
-use Rattle.command_runs.proofs.CompactTold.{heads}
+use Rattle.command_runs.proofs.Acknowledgements as acked
+use Rattle.command_runs.proofs.Acknowledgements.{Quiet, silent}
+use Rattle.command_runs.proofs.CompactTexts.{heads}
 use Rattle.command_runs.proofs.NothingTold.{number_has_no_told, one_word_has_no_told}
 use Rattle.command_runs.proofs.OperatorsTold.{HasNoTold}
 use Rattle.command_runs.proofs.SessionLines.{decimal_is_low, low_more}

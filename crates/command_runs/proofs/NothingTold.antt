@@ -8,8 +8,8 @@ use Rattle.operators.specs.Replies.{commits_line, said}
 use Rattle.sessions.specs.declared.replies.Reply.{Reply}
 use Rattle.gcu_engine.proofs.Lines.{IsOneLine, first_lines}
 use Rattle.command_runs.specs.Works.{Told, told_lines}
-use Rattle.command_runs.proofs.Acked.{not_empty}
-use Rattle.command_runs.proofs.CompactTold.{heads, tails}
+use Rattle.command_runs.proofs.Acknowledgements.{not_empty}
+use Rattle.command_runs.proofs.CompactTexts.{heads, tails}
 use Rattle.command_runs.proofs.GoodNames.{Lacks, characters, first_words, name_lacks}
 use Rattle.command_runs.proofs.OperatorsTold.{HasNoTold, commits_is, commits_plain, first_told, name_plain, said_is_line}
 use Rattle.command_runs.proofs.PlanLines.{counted}

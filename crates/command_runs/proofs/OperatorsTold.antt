@@ -14,10 +14,10 @@ use Rattle.sessions.specs.declared.replies.Reply.TheVariants.{Began, Exists, Unk
 use Rattle.gcu_engine.proofs.CompactLines.{compact_is_one_line}
 use Rattle.gcu_engine.proofs.Lines.{IsOneLine, decimal_is_one_line, first_lines, one_line-append}
 use Rattle.command_runs.specs.Works.{FitTheirPlaces, HaveNames, Told, committed, moves_told, told_lines, told_text}
-use Rattle.command_runs.proofs.Acked as acked
-use Rattle.command_runs.proofs.CompactTold.{compacts_split}
+use Rattle.command_runs.proofs.Acknowledgements as acked
+use Rattle.command_runs.proofs.CompactTexts.{compacts_split}
 use Rattle.command_runs.proofs.GoodNames.{Lacks, characters, name_is_one_line, name_lacks, no_space}
-use Rattle.command_runs.proofs.MovesTold.{ReadsTokens, move_is_told}
+use Rattle.command_runs.proofs.MoveOperations.{ReadsTokens, move_is_told}
 use Rattle.command_runs.proofs.PlansTold.{HasNone, quiet_has_none}
 use Rattle.command_runs.proofs.SessionLines.{behind_space, decimal_is_low, low_more, no_low_reply, no_plan_first, one_reply, same_letter}
 

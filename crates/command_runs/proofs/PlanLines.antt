@@ -11,8 +11,8 @@ use Rattle.move_core.specs.declared.moves.Move.{Move}
 use Rattle.gcu_engine.proofs.CompactLines.{compact_is_one_line}
 use Rattle.gcu_engine.proofs.Lines.{IsOneLine, decimal_is_one_line, first_lines, one_line-append}
 use Rattle.command_runs.specs.Works.{FitTheirPlaces}
-use Rattle.command_runs.proofs.CompactTold.{compacts_split}
-use Rattle.command_runs.proofs.MovesTold.{ReadsTokens, move_is_told}
+use Rattle.command_runs.proofs.CompactTexts.{compacts_split}
+use Rattle.command_runs.proofs.MoveOperations.{ReadsTokens, move_is_told}
 
 -- a line without its end
 abbrev line : ℕ → Move → List ℕ

@@ -4,9 +4,9 @@ use Rattle.host_core.specs.State.{IsFront}
 use Rattle.move_core.specs.Operations.{plan_text}
 use Rattle.move_core.specs.declared.moves.Move.{Move}
 use Rattle.command_runs.specs.Works.{FitTheirPlaces}
-use Rattle.command_runs.proofs.Acked.{Quiet, not_empty, other, silent}
-use Rattle.command_runs.proofs.CompactTold.{heads}
-use Rattle.command_runs.proofs.MovesTold.{ReadsTokens}
+use Rattle.command_runs.proofs.Acknowledgements.{Quiet, not_empty, other, silent}
+use Rattle.command_runs.proofs.CompactTexts.{heads}
+use Rattle.command_runs.proofs.MoveOperations.{ReadsTokens}
 use Rattle.command_runs.proofs.PlanLines.{plans_split}
 
 -- a plan is told by its text

@@ -24,8 +24,8 @@ use Rattle.move_core.specs.declared.moves.Move.{Move}
 use Rattle.gcu_engine.proofs.Lines.{IsOneLine, decimal_is_one_line, first_lines, one_line-append}
 use Rattle.operators.specs.Replies.{said}
 use Rattle.command_runs.specs.Works.{HaveNames, Told, moves_told, told_text}
-use Rattle.command_runs.proofs.Acked.{not_empty}
-use Rattle.command_runs.proofs.CompactTold.{heads}
+use Rattle.command_runs.proofs.Acknowledgements.{not_empty}
+use Rattle.command_runs.proofs.CompactTexts.{heads}
 use Rattle.command_runs.proofs.GoodNames.{AreGood, Lacks, characters, characters_are_one_line, first_words, name_lacks, no_space, points_good}
 use Rattle.command_runs.proofs.LastLines.{last_line_has_no_told, last_line_is_quiet}
 use Rattle.command_runs.proofs.NothingTold.{reply_behind}
@@ -33,7 +33,7 @@ use Rattle.command_runs.proofs.OperatorsTold.{commits_is, commits_plain, said_is
 use Rattle.command_runs.proofs.PlanLines.{count, count_is_one, counted}
 use Rattle.command_runs.proofs.PlansTold.{quiet_has_none}
 use Rattle.command_runs.proofs.SessionLines.{decimal_is_low, low_more, no_broken, no_low_reply}
-use Rattle.command_runs.proofs.WorksTold.{HasNoSteps}
+use Rattle.command_runs.proofs.WorkOutputs.{HasNoSteps}
 
 -- ---- names rise
 

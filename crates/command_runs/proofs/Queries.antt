@@ -42,11 +42,11 @@ use Rattle.gcu_engine.specs.Plannings.{IsPlanFor}
 use Rattle.gcu_engine.specs.Summary.{counted, summary, yes_line}
 use Rattle.gcu_engine.specs.Works.{IsWorkOf}
 use Rattle.command_runs.specs.Works.{FitTheirPlaces, IsWork}
-use Rattle.command_runs.proofs.Acked as acked
-use Rattle.command_runs.proofs.Acked.{Quiet}
+use Rattle.command_runs.proofs.Acknowledgements as acked
+use Rattle.command_runs.proofs.Acknowledgements.{Quiet}
 use Rattle.command_runs.proofs.Budgets.{IsBudgeted}
 use Rattle.command_runs.proofs.CommitsTold.{KeepsWorlds, operated_told}
-use Rattle.command_runs.proofs.CompactTold.{heads, tails}
+use Rattle.command_runs.proofs.CompactTexts.{heads, tails}
 use Rattle.command_runs.proofs.Fitting.{way_fits}
 use Rattle.command_runs.proofs.GoodNames.{Lacks}
 use Rattle.command_runs.proofs.LastLines.{IsPlain, last_is_plain, last_line_is_quiet}
@@ -55,7 +55,7 @@ use Rattle.command_runs.proofs.OperatorsTold.{HasNoTold}
 use Rattle.command_runs.proofs.PlansTold.{quiet_has_none}
 use Rattle.command_runs.proofs.PointNames.{points_have_no_steps}
 use Rattle.command_runs.proofs.SessionLines.{decimal_is_low, low_more, no_broken, no_none, no_whole}
-use Rattle.command_runs.proofs.WorksTold.{AreToldBy, HasNeither, HasNoSteps, front_of_no_steps, front_of_work, unplanned_front}
+use Rattle.command_runs.proofs.WorkOutputs.{AreToldBy, HasNeither, HasNoSteps, front_of_no_steps, front_of_work, unplanned_front}
 
 -- ---- what is asked
 

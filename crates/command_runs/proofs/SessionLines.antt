@@ -8,7 +8,7 @@ use Rattle.move_core.specs.Operations.{plan_lines}
 use Rattle.operators.specs.Replies.{reply_line, said}
 use Rattle.sessions.specs.declared.replies.Reply.{Reply}
 use Rattle.sessions.specs.declared.replies.Reply.TheVariants.{Began, Exists, Unknown, Refused, Moved, Idle, Applied, Retargeted, Ended}
-use Rattle.command_runs.proofs.CompactTold.{heads, tails}
+use Rattle.command_runs.proofs.CompactTexts.{heads, tails}
 use Rattle.command_runs.proofs.GoodNames.{Lacks, characters, name_lacks, no_space}
 use Rattle.command_runs.proofs.PlanLines.{counted}
 use Rattle.command_runs.proofs.PlansTold.{HasNone}

@@ -12,7 +12,7 @@ use Rattle.conf_check.specs.declared.faults.Fault.{Fault}
 use Rattle.conf_check.specs.declared.leaves.ShapedEntry.{ShapedEntry}
 use Rattle.conf_check.specs.declared.violations.Violation.{Violation}
 use Rattle.conf_check.proofs.EntryFaults.{shape_first}
-use Rattle.conf_check.proofs.Found.{some_from}
+use Rattle.conf_check.proofs.ItemPlaces.{some_from}
 use Rattle.conf_check.proofs.RowPlaces.{past_keys, past_tables}
 use Rattle.conf_check.proofs.ShapedEntries.{row_from, row_here}
 

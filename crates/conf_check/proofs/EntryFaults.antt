@@ -10,7 +10,7 @@ use Rattle.conf_check.specs.declared.faults.Fault.{Fault}
 use Rattle.conf_check.specs.declared.violations.Rule.{Rule}
 use Rattle.conf_check.specs.declared.violations.Rule.TheVariants.{KeyShape, KeyReference, UnknownField, WrongKind, BadValue, DuplicateItem, MissingField, Must}
 use Rattle.conf_check.proofs.FirstFaults.{fields_stage}
-use Rattle.conf_check.proofs.Shaped.{shape_once, not_both}
+use Rattle.conf_check.proofs.TableShapes.{shape_once, not_both}
 
 later : (m n : ℕ) (X : Type 0) → n < m → (m < n) ⊎ ((m ≡ n) × X) → ⊥
 later m n X lt (inl h) = omega arith

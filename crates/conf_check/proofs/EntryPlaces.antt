@@ -11,7 +11,7 @@ use Rattle.conf_check.specs.FirstWants.{IsFirstOfEntry}
 use Rattle.conf_check.specs.Rows.{row_at, IsEntryAt, HasNoShape}
 use Rattle.conf_check.specs.declared.want_iter.WantPlace.{WantPlace}
 use Rattle.conf_check.proofs.Places.{left_at, named_at}
-use Rattle.conf_check.proofs.Shaped.{not_both}
+use Rattle.conf_check.proofs.TableShapes.{not_both}
 use Rattle.conf_check.proofs.ShapedEntries.{StandsAt, stands}
 
 some_same : {A : Type 0} (x y : A) → Some x ≡ Some y → x ≡ y

@@ -12,7 +12,7 @@ use Rattle.yang_types.specs.Accepts.{Accepts}
 use Rattle.yang_types.specs.DataType.{DataType}
 use Rattle.conf_check.specs.EntryShapes.{IsShapeAt}
 use Rattle.conf_check.specs.Rows.{IsShapeOf}
-use Rattle.conf_check.proofs.BelongingsTold.{belongs_told}
+use Rattle.conf_check.proofs.ShapeDecisions.{belongs_told}
 
 some_same : {A : Type 0} (x y : A) → Some x ≡ Some y → x ≡ y
 some_same x y e = cc

@@ -1,7 +1,7 @@
-mod Belonged
-mod BelongingsTold
+mod EntryShapes
+mod ShapeDecisions
 mod Breaches
-mod Coming
+mod RemainingPlaces
 mod Entries
 mod EntryBreaches
 mod EntryFaults
@@ -10,8 +10,8 @@ mod EntryPlaces
 mod EqualItems
 mod FalseMusts
 mod FirstFaults
-mod Found
-mod Judged
+mod ItemPlaces
+mod UnionVerdicts
 mod KeptShapes
 mod Keys
 mod LeafNodes
@@ -25,7 +25,7 @@ mod Places
 mod RowPlaces
 mod SameTruth
 mod Searches
-mod Shaped
+mod TableShapes
 mod ShapedEntries
 mod SpotNodes
 mod TreeNodes
@@ -33,5 +33,5 @@ mod WantOrder
 mod WantPlaces
 mod WantSlots
 mod WantSteps
-mod WantsAhead
-mod WantsOnce
+mod RemainingWants
+mod SingleWants

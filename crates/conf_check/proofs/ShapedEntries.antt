@@ -12,7 +12,7 @@ use Rattle.yang_model.specs.declared.shapes.Shape.{Shape}
 use Rattle.conf_check.specs.Belongings.{Belongings, AreBelongings, shape_at}
 use Rattle.conf_check.specs.ConfigTree.{module_node, module_of_table, shaped_row}
 use Rattle.conf_check.specs.Rows.{Row, row_of, row_at, if_modelled, HasShape, HasNoShape}
-use Rattle.conf_check.proofs.Belonged.{belongings_at}
+use Rattle.conf_check.proofs.EntryShapes.{belongings_at}
 
 some_same : {A : Type 0} (x y : A) → Some x ≡ Some y → x ≡ y
 some_same x y e = cc

@@ -27,7 +27,7 @@ use Rattle.yang_model.specs.declared.shapes.Shape.{Shape}
 use Rattle.conf_check.specs.Belongings.{Belongings, AreBelongings, AreBelongingsOf, shape_at}
 use Rattle.conf_check.specs.ConfigTree.{Held, absent, one, items, counted_from, entries_from, entry_node, held_at, held_nodes, held_text, is_shape_named, item_node, leaf_names, module_node, node, node_tree, root_node, shaped_row, table_node}
 use Rattle.conf_check.specs.Rows.{Row, row_of, row_at}
-use Rattle.conf_check.proofs.Belonged.{belongings_at}
+use Rattle.conf_check.proofs.EntryShapes.{belongings_at}
 use Rattle.conf_check.proofs.Entries.{stands_nowhere}
 use Rattle.conf_check.proofs.Keys.{rising_at}
 use Rattle.conf_check.proofs.NamePlaces.{place_holds}

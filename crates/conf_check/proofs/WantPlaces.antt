@@ -13,7 +13,7 @@ use Rattle.conf_check.specs.declared.first_wants.SlotWant.{SlotWant}
 use Rattle.conf_check.specs.declared.want_iter.WantAt.{WantAt}
 use Rattle.conf_check.specs.declared.want_iter.WantPlace.{WantPlace}
 use Rattle.conf_check.proofs.RowPlaces.{past_keys, past_tables, row_only, row_there}
-use Rattle.conf_check.proofs.Shaped.{shape_once}
+use Rattle.conf_check.proofs.TableShapes.{shape_once}
 
 -- an entry wants what its texts want by its shape
 module _ (models : ModelSet) (config : Config) (row : Row) where

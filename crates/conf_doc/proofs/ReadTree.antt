@@ -33,10 +33,10 @@ use Rattle.conf_doc.specs.declared.configuration.Value.TheVariants.{Text, List a
 use Rattle.conf_doc.specs.declared.configuration.Entry.{Entry}
 use Rattle.conf_doc.specs.declared.configuration.Table.{Table}
 use Rattle.conf_doc.specs.declared.configuration.Config.{Config}
-use Rattle.conf_doc.proofs.Parsed.{json_read}
+use Rattle.conf_doc.proofs.JsonValues.{json_read}
 use Rattle.conf_doc.proofs.Names.{rising-map}
-use Rattle.conf_doc.proofs.ReadBack.{ArePlain, ArePlain-append, ArePrintable-plain, tokens-print_line, tokens-pretty_line, print_utf8, pretty_utf8, line_feed_utf8}
-use Rattle.conf_doc.proofs.Equal.{pairs-members_of}
+use Rattle.conf_doc.proofs.TextReadings.{ArePlain, ArePlain-append, ArePrintable-plain, tokens-print_line, tokens-pretty_line, print_utf8, pretty_utf8, line_feed_utf8}
+use Rattle.conf_doc.proofs.Equalities.{pairs-members_of}
 
 -- a document's tokens are brackets, keys and strings
 mutual

@@ -9,7 +9,7 @@ use Rattle.conf_store.specs.Folds.{IsBegun, IsFolded, KeepsStored, StandsFor}
 use Rattle.conf_store.specs.Puts.{IsPutOrNot, after_put, put}
 use Rattle.conf_store.specs.Stored.{config_in}
 use Rattle.conf_store.specs.declared.loaded.Stored.{Stored}
-use Rattle.conf_store.proofs.Standing.{begun_put, begun_there, is_folded, keeps_clearing, keeps_ending, keeps_put, still_folded}
+use Rattle.conf_store.proofs.FoldResults.{begun_put, begun_there, is_folded, keeps_clearing, keeps_ending, keeps_put, still_folded}
 
 module _ (what : Stored) (bytes : List ℕ) (holds : config_in bytes ≡ Ok what.config) where
   pub put_keeps : (o : Option State) → IfSome o (λ s. StandsFor what s.files)

@@ -10,7 +10,7 @@ use Rattle.host_core.specs.Answers.{map_ok}
 use Rattle.host_core.specs.Names.{name_cmp}
 use Rattle.conf_doc.specs.Document.{Document, text, list, object, documents, pairs, items_of, members_of}
 use Rattle.conf_doc.specs.Pairs.{find, put, without}
-use Rattle.conf_doc.proofs.Equal.{documents-items_of, pairs-members_of}
+use Rattle.conf_doc.proofs.Equalities.{documents-items_of, pairs-members_of}
 use Rattle.patch_core.specs.Apply.{below, with_below, without_below, with_new}
 use Rattle.patch_core.specs.Indexes.{ListToken, index, behind_last, no_index, list_token}
 use Rattle.patch_core.specs.declared.errors.FailWhy.{FailWhy}

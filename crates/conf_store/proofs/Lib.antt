@@ -5,18 +5,18 @@ mod Finds
 pub mod FileMaps
 pub mod FileTexts
 mod FoldStages
-mod KeepsShape
+mod ShapePreservation
 mod Levels
 mod Listings
 mod Moments
-mod NamesKept
+mod StepNameWalks
 mod Reading
 mod ShapeWalks
 mod Shaping
 mod Stages
-pub mod Standing
+pub mod FoldResults
 mod Stepping
 mod StepCount
 mod StepWalk
-mod StepsTaken
+mod StepRemovals
 mod Walking

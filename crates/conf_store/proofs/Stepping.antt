@@ -21,7 +21,7 @@ use Rattle.conf_store.specs.declared.errors.StoredWhy.{StoredWhy}
 use Rattle.conf_store.specs.declared.errors.StoredWhy.TheVariants.{BadStep, NoFile}
 use Rattle.conf_store.proofs.Digits.{names_same}
 use Rattle.conf_store.proofs.FileMaps.{get_other, get_there, gone_twice}
-use Rattle.conf_store.proofs.Standing.{config_not_scratch, ends_there, folded_not_scratch, no_steps, same_stored, seen, step_not_scratch}
+use Rattle.conf_store.proofs.FoldResults.{config_not_scratch, ends_there, folded_not_scratch, no_steps, same_stored, seen, step_not_scratch}
 
 -- ---- one step more
 

@@ -46,7 +46,7 @@ use Rattle.gcu_engine.specs.declared.change.ReadyChange.{ReadyChange}
 use Rattle.gcu_engine.proofs.FaultTexts.{all_named}
 use Rattle.gcu_engine.proofs.Answering.{says_prints}
 use Rattle.gcu_engine.proofs.Causes.{rose_from}
-use Rattle.gcu_engine.proofs.Closed.{begun_output, begun_points}
+use Rattle.gcu_engine.proofs.IntentRemovals.{begun_output, begun_points}
 use Rattle.gcu_engine.proofs.Elapsing.{no_front, with_none}
 use Rattle.gcu_engine.proofs.Savings.{models_settled}
 use Rattle.gcu_engine.proofs.Writing.{as_is}

@@ -10,7 +10,7 @@ use Rattle.gcu_requests.specs.Checking.{check_asked}
 use Rattle.gcu_requests.specs.Preparing.{Finds, Refuses}
 use Rattle.gcu_requests.specs.Request as request
 use Rattle.gcu_engine.specs.Answers.{Says}
-use Rattle.gcu_requests.proofs.Checked.{check_of}
+use Rattle.gcu_requests.proofs.ValidityFinding.{check_of}
 use Rattle.gcu_engine.proofs.Answering.{refused_says}
 
 -- what is printed of a valid configuration is what is asked for

@@ -27,7 +27,7 @@ use Rattle.gcu_engine.specs.FaultLines.{line_at}
 use Rattle.gcu_engine.specs.Doing.{ClosesAs, EndsFrom, EndsWork, HasBytes, IsEnded}
 use Rattle.gcu_engine.specs.declared.change.ReadyChange.{ReadyChange}
 use Rattle.gcu_engine.proofs.Changes.{work_since}
-use Rattle.gcu_engine.proofs.Closed.{closed_stands}
+use Rattle.gcu_engine.proofs.IntentRemovals.{closed_stands}
 use Rattle.gcu_engine.proofs.FaultTexts.{disk_there}
 
 -- the line of a fault before the first step

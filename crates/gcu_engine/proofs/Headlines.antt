@@ -33,10 +33,10 @@ use Rattle.gcu_engine.specs.Crashes.{LeftByForm, LeftChanged, LeftEarly, LeftMea
 use Rattle.gcu_engine.specs.Doing.{LeftToEarly}
 use Rattle.gcu_engine.specs.Headline.{HasNoOrder, IsBefore, IsForeseen, IsHeadline, IsLastOrNext, IsQuiet, PrintsTask, StoresPoint, StoresTarget}
 use Rattle.gcu_engine.specs.Plannings.{IsUnsolved}
-use Rattle.gcu_engine.proofs.Acknowledged.{acked_is}
+use Rattle.gcu_engine.proofs.AcknowledgementCounts.{acked_is}
 use Rattle.gcu_engine.proofs.ChangeEnds.{is_last_line}
 use Rattle.gcu_engine.proofs.Changes.{some_is}
-use Rattle.gcu_engine.proofs.Closed.{begun_output, either_points, either_stored}
+use Rattle.gcu_engine.proofs.IntentRemovals.{begun_output, either_points, either_stored}
 use Rattle.gcu_engine.proofs.FormPromises.{IsOneChange, LacksOrder, PointsAfter, StandsAfter, change_of_words, order_by_words, other_by_words, points_by_words, task_in, task_of_words}
 use Rattle.gcu_engine.proofs.LastLines.{last_line_of, refusal_line, service_last_line}
 use Rattle.gcu_engine.proofs.PlanPrints.{change_prints, no_request, plan_prints, same_change, unknown_line, unknown_prints, untouched_output}

@@ -10,7 +10,7 @@ use Rattle.conf_store.specs.Files.{intent_file}
 use Rattle.conf_store.specs.Puts.{IsSame}
 use Rattle.conf_store.specs.Stored.{stored}
 use Rattle.conf_store.proofs.FileMaps.{get_there}
-use Rattle.conf_store.proofs.Standing.{seen}
+use Rattle.conf_store.proofs.FoldResults.{seen}
 use Rattle.move_core.specs.Plans.{conf}
 use Rattle.move_core.specs.declared.moves.Move.{Move}
 use Rattle.change_apply.specs.Acknowledgements.{acks}
@@ -28,9 +28,9 @@ use Rattle.gcu_engine.specs.Crashes.{LeftByForm, LeftChanged, LeftMeanwhile, Lef
 use Rattle.gcu_engine.specs.Headline.{IsNoneWhole}
 use Rattle.gcu_engine.specs.Intending as intending
 use Rattle.gcu_engine.specs.Intending.{HasIntent, HoldsText, IsIntended, IsKept, IsOver}
-use Rattle.gcu_engine.proofs.Acknowledged.{acked_is}
+use Rattle.gcu_engine.proofs.AcknowledgementCounts.{acked_is}
 use Rattle.gcu_engine.proofs.ChangeEnds.{is_last_line}
-use Rattle.gcu_engine.proofs.Closed.{begun_output}
+use Rattle.gcu_engine.proofs.IntentRemovals.{begun_output}
 use Rattle.gcu_engine.proofs.Closing.{at_first}
 use Rattle.gcu_engine.proofs.Headlines.{early_before, settled_files}
 use Rattle.gcu_engine.proofs.PlanPrints.{same_change}

@@ -1,12 +1,12 @@
 mod Abandoning
-mod Acknowledged
+mod AcknowledgementCounts
 mod Answering
 mod Causes
 mod ChangeBegins
 mod ChangeEnds
 mod Changes
 mod CheckSaying
-pub mod Closed
+pub mod IntentRemovals
 mod Closing
 mod CommandWords
 pub mod CompactLines
@@ -29,7 +29,7 @@ mod PlanCheckSaying
 mod PlanPrints
 mod PlanSaying
 mod ReadyChanges
-mod ReadyOrNot
+mod Readiness
 mod RehearseSaying
 mod Requests
 mod Resuming

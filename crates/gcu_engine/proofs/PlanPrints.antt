@@ -20,7 +20,7 @@ use Rattle.gcu_engine.specs.Answers.{IsDoneOutput, IsUntouched, LeavesDone, Leav
 use Rattle.gcu_engine.specs.Changing.{IsBegun, IsChangeFor, IsLastLine, begun}
 use Rattle.gcu_engine.specs.Headline.{IsTaskOutput, PrintsTask}
 use Rattle.gcu_engine.proofs.Changes.{some_is}
-use Rattle.gcu_engine.proofs.Closed.{begun_output}
+use Rattle.gcu_engine.proofs.IntentRemovals.{begun_output}
 use Rattle.gcu_engine.proofs.LastLines.{HasLastLine, last_line_of}
 use Rattle.gcu_engine.proofs.Requests.{change_given, plan_given}
 use Rattle.gcu_engine.proofs.RightPlans.{IsWorkAsked, right_work}

@@ -26,7 +26,7 @@ use Rattle.gcu_requests.specs.ReadScripts.{operating_of}
 use Rattle.gcu_requests.specs.Request.{Operating}
 use Rattle.gcu_requests.specs.declared.session_preparing.Operating as code
 use Rattle.operators.specs.Runs.{IsOperated}
-use Rattle.operators.proofs.WorldsKept.{operated_ctx, operated_few, operated_kept, operated_opening}
+use Rattle.operators.proofs.WorldInvariants.{operated_ctx, operated_few, operated_kept, operated_opening}
 use Rattle.gcu_engine.specs.FaultLines.{AreFaultLines, AreNamed}
 use Rattle.gcu_engine.specs.Doing.{HasBytes, IsReadyRun, change_by}
 use Rattle.gcu_engine.specs.declared.change.ReadyChange.{ReadyChange}

@@ -24,11 +24,11 @@ use Rattle.gcu_requests.specs.Tasks.{Task, reach, run_script}
 use Rattle.gcu_requests.specs.WorkAsked.{work_asked}
 use Rattle.operators.specs.Replies.{commits_line}
 use Rattle.operators.specs.Runs.{IsOperated, reply_lines}
-use Rattle.operators.proofs.WorldsKept.{operated_ctx, operated_kept, operated_opening}
+use Rattle.operators.proofs.WorldInvariants.{operated_ctx, operated_kept, operated_opening}
 use Rattle.sessions.specs.Runs.{moves_of}
 use Rattle.sessions.specs.Worlds.{Leads, WorldState}
 use Rattle.sessions.specs.declared.commits.Commit.{Commit}
-use Rattle.sessions.proofs.Led.{each_is_valid}
+use Rattle.sessions.proofs.CommitWays.{each_is_valid}
 use Rattle.gcu_engine.specs.Contents.{IsContextIn, IsMade}
 use Rattle.gcu_engine.specs.Headline.{IsGoal, IsRightWork, IsTextOf}
 use Rattle.gcu_engine.specs.Plannings.{IsPlanFor}

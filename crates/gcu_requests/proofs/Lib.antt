@@ -1,5 +1,5 @@
 pub mod Behind
-pub mod Checked
+pub mod ValidityFinding
 mod Choices
 pub mod Finding
 mod DemoFinding

@@ -24,8 +24,8 @@ use Rattle.move_core.specs.Generated.{IsItemMove}
 use Rattle.move_core.specs.Moves.{IsDefined, Place, list_at, list_in}
 use Rattle.move_core.specs.declared.moves.Move.{Move}
 use Rattle.move_core.specs.declared.moves.Move.TheVariants.{Add, Remove, Replace, AddItem, RemoveItem}
-use Rattle.move_core.proofs.Defined.{names_there, some_and, value_here}
-use Rattle.move_core.proofs.Operated.{ListNames, list_names}
+use Rattle.move_core.proofs.DefinedMoves.{names_there, some_and, value_here}
+use Rattle.move_core.proofs.OperationResults.{ListNames, list_names}
 
 same_Some : {A : Type 0} (x y : A) → Some x ≡ Some y → x ≡ y
 same_Some x y e = cc

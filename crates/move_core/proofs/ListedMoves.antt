@@ -11,7 +11,7 @@ use Rattle.move_core.specs.declared.contexts.Ctx.{Ctx}
 use Rattle.move_core.specs.declared.moves.Generated.{Generated}
 use Rattle.move_core.specs.declared.moves.Move.{Move}
 use Rattle.move_core.proofs.ItemMoves.{item_defined, want_defined}
-use Rattle.move_core.proofs.Defined.{added_defined, delete_defined, field_defined, key_remove_defined, put_defined, table_defined, upper_defined}
+use Rattle.move_core.proofs.DefinedMoves.{added_defined, delete_defined, field_defined, key_remove_defined, put_defined, table_defined, upper_defined}
 
 entry_defined : (IsAs : SaysOfEntry) (cur goal : Config) (g : Generated) → AddsEntry IsAs cur goal g → IsDefined cur g.mv
 entry_defined IsAs cur goal g is = subst (IsDefined cur) (sym is.move) (added_defined cur is.table is.key is.new is.lacks)

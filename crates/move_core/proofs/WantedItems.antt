@@ -16,8 +16,8 @@ use Rattle.yang_types.specs.DataType.{DataType}
 use Rattle.yang_types.specs.DataTypes.{data_type}
 use Rattle.move_core.specs.Contexts.{HasWant, field_names, names_of}
 use Rattle.move_core.specs.Moves.{Place, list_at}
-use Rattle.move_core.proofs.Defined.{some_and}
-use Rattle.move_core.proofs.Operated.{list_names}
+use Rattle.move_core.proofs.DefinedMoves.{some_and}
+use Rattle.move_core.proofs.OperationResults.{list_names}
 
 same_Some : {A : Type 0} (x y : A) → Some x ≡ Some y → x ≡ y
 same_Some x y e = cc

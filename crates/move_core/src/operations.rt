@@ -59,7 +59,7 @@ fn pointer_to_item(alloc: Global, path: &Path, index: usize) -> Result<Pointer, 
 }
 
 /// An index in decimal.
-#[tactic(auto, using(crate::proofs::Indexed::written_index))]
+#[tactic(auto, using(crate::proofs::IndexTokens::written_index))]
 fn index_token(alloc: Global, index: usize) -> Result<Txt, Memory>
     ensures { IfOk result (λ t. t ≡ index_text index) }
 {
@@ -68,7 +68,7 @@ fn index_token(alloc: Global, index: usize) -> Result<Txt, Memory>
 }
 
 /// The pointer whose tokens are the names of a place.
-#[tactic(auto, using(crate::proofs::Compared::take_one_more, std::proofs::lemmas::List::take_all))]
+#[tactic(auto, using(crate::proofs::ListOrders::take_one_more, std::proofs::lemmas::List::take_all))]
 fn pointer_to(alloc: Global, path: &Path) -> Result<Pointer, Memory>
     ensures { IfOk result (λ p. p.tokens ≡ path.now) }
 {

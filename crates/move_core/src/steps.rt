@@ -43,7 +43,7 @@ fn list_at<'c>(config: &'c Config, path: &Path) -> Option<&'c Names>
 }
 
 /// A copy of texts.
-#[tactic(auto, using(crate::proofs::Compared::take_one_more, std::proofs::lemmas::List::take_all))]
+#[tactic(auto, using(crate::proofs::ListOrders::take_one_more, std::proofs::lemmas::List::take_all))]
 fn copy_texts(alloc: Global, texts: &Names) -> Result<Vec<Txt>, Memory>
     ensures { IfOk result (λ copies. copies.items ≡ texts.now) }
 {

@@ -1,1 +1,1 @@
-pub mod Defined
+pub mod DefinedMoves

@@ -12,7 +12,7 @@ use Rattle.move_core.specs.Moves.{Place, part_after, place, step}
 use Rattle.move_core.specs.Services.{table_of}
 use Rattle.move_core.specs.declared.moves.Move.{Move}
 use Rattle.move_extend.specs.Entries.{entry_of, value_of}
-use Rattle.move_extend.proofs.Kept.{apart_by, other_key, other_table, same_by, tied}
+use Rattle.move_extend.proofs.UntouchedPlaces.{apart_by, other_key, other_table, same_by, tied}
 
 -- ---- keys
 

@@ -16,10 +16,10 @@ use Rattle.move_extend.specs.Mentions.{GivesOfTable}
 use Rattle.move_extend.specs.Referrers.{GivesRemovals, IsBroken}
 use Rattle.move_extend.specs.declared.changes.Change.{Change}
 use Rattle.move_extend.proofs.AtKeys.{by_key, same_entry, second_name}
-use Rattle.move_extend.proofs.Finding.{item_at}
+use Rattle.move_extend.proofs.DistinctLists.{item_at}
 use Rattle.move_extend.proofs.KeptKeys.{entry_of_key, key_of_entry}
 use Rattle.move_extend.proofs.Texts.{Stands, row_stands}
-use Rattle.move_extend.proofs.Wanted.{want_satisfied}
+use Rattle.move_extend.proofs.SatisfiedWants.{want_satisfied}
 
 pub breaks_parts : (models : ModelSet) (cur next : Config) (m : Move) (t k : List ℕ) → next ≡ step cur m → t ≡ table_of (place m) → slice_get (place m) 1 ≡ Some k
     → (at : WantPlace) (w : Want) → IsWantAt models cur at w → IsBroken models next t w → Contains (key_parts k) w.text

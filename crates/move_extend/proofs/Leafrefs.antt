@@ -28,7 +28,7 @@ use Rattle.move_extend.specs.Mentions.{GivesOfTable}
 use Rattle.move_extend.specs.Referrers.{GivesRemovals}
 use Rattle.move_extend.specs.Referring.{MayRefer, member_refers, shape_refers, type_refers}
 use Rattle.move_extend.specs.declared.changes.Change.{Change}
-use Rattle.move_extend.proofs.Finding.{item_at}
+use Rattle.move_extend.proofs.DistinctLists.{item_at}
 use Rattle.move_extend.proofs.Texts.{Stands, row_stands}
 
 -- ---- tests of lists

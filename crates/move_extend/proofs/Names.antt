@@ -13,7 +13,7 @@ use Rattle.conf_check.specs.declared.want_iter.WantPlace.{WantPlace}
 use Rattle.move_core.specs.Contexts.{field_names, names_of}
 use Rattle.move_core.specs.Moves.{Place}
 use Rattle.move_extend.specs.Referrers.{place_of}
-use Rattle.move_extend.proofs.Named.{name_at, part_at}
+use Rattle.move_extend.proofs.NonemptyNames.{name_at, part_at}
 
 -- ---- from positions to names
 

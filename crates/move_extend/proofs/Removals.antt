@@ -25,12 +25,12 @@ use Rattle.move_core.specs.declared.moves.Move.{Move}
 use Rattle.move_extend.specs.Found.{IsLast}
 use Rattle.move_extend.specs.KeptKeys.{KeepsKeys}
 use Rattle.move_extend.specs.Referrers.{AddsRemoval, GivesRemovals, IsBroken, place_of, removal_at, removal_of}
-use Rattle.move_extend.proofs.Finding.{appends_found, finds_none, item_at}
-use Rattle.move_extend.proofs.Kept.{apart_by, other_table, same_by}
+use Rattle.move_extend.proofs.DistinctLists.{appends_found, finds_none, item_at}
+use Rattle.move_extend.proofs.UntouchedPlaces.{apart_by, other_table, same_by}
 use Rattle.move_extend.proofs.KeptKeys.{satisfied_elsewhere, still_satisfied}
 use Rattle.move_extend.proofs.Names.{names_named}
 use Rattle.move_extend.proofs.Slots.{IsOneSlot, between, item_less, one_slot, slot_names}
-use Rattle.move_extend.proofs.Wanted.{want_satisfied}
+use Rattle.move_extend.proofs.SatisfiedWants.{want_satisfied}
 
 -- ---- which they are
 

@@ -27,8 +27,8 @@ use Rattle.move_extend.specs.Found.{Finds}
 use Rattle.move_extend.specs.Requireds.{Differs, GivesAt, GivesValue, LacksValue, RulesGive, TableGives, is_field_at, may_change, may_change_one}
 use Rattle.move_extend.specs.declared.changes.Change.{Change}
 use Rattle.move_extend.proofs.AtKeys.{by_key, by_table, found_key, same_entry, same_field, same_value, second_name}
-use Rattle.move_extend.proofs.Finding.{finds_as}
-use Rattle.move_extend.proofs.Kept.{apart_by, other_field, other_key, same_by}
+use Rattle.move_extend.proofs.DistinctLists.{finds_as}
+use Rattle.move_extend.proofs.UntouchedPlaces.{apart_by, other_field, other_key, same_by}
 
 same_place : (a b : Config) (t key : List ℕ) (field : Option (List ℕ)) → entry_of a t key ≡ entry_of b t key
     → part_at a (t ∷ key ∷ option_to_list field) ≡ part_at b (t ∷ key ∷ option_to_list field)

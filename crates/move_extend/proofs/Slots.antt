@@ -11,7 +11,7 @@ use Rattle.conf_check.specs.Wants.{IsFieldBefore, IsPlaceBefore}
 use Rattle.conf_check.specs.declared.want_iter.WantPlace.{WantPlace}
 use Rattle.move_core.specs.Contexts.{field_names, names_of}
 use Rattle.move_core.specs.Moves.{Place}
-use Rattle.move_extend.proofs.Named.{part_at}
+use Rattle.move_extend.proofs.NonemptyNames.{part_at}
 use Rattle.move_extend.proofs.Names.{entry_names, table_names}
 
 -- ---- between two places of one

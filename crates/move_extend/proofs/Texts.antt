@@ -22,8 +22,8 @@ use Rattle.move_extend.specs.Entries.{entry_of}
 use Rattle.move_extend.specs.Mentions.{BreaksOnly, GivesOfEntry, HasFieldText, HasText, Mentions, texts_of_value}
 use Rattle.move_extend.specs.declared.changes.Change.{Change}
 use Rattle.move_core.specs.declared.moves.Move.{Move}
-use Rattle.move_extend.proofs.Finding.{item_at}
-use Rattle.move_extend.proofs.Named.{part_at}
+use Rattle.move_extend.proofs.DistinctLists.{item_at}
+use Rattle.move_extend.proofs.NonemptyNames.{part_at}
 
 -- ---- pairs
 

@@ -16,8 +16,8 @@ use Rattle.move_gen.specs.EntryLaws.{changed_for}
 use Rattle.move_gen.specs.FieldsOfEntry.{IsFieldOf, IsForEntry}
 use Rattle.move_gen.specs.Given.{IsChangedEntry, IsOfFields, IsOfTable, IsRemovedField, IsSetField, own_move}
 use Rattle.move_gen.specs.Giving.{IsOfSome}
-use Rattle.move_gen.proofs.Owned.{apart_add, apart_replace, of_its_place, owned}
-use Rattle.move_gen.proofs.Parted.{IsEntryAt, entry_there, lacks_value, no_value, some_there, some_value, there_entry, there_value, value_there}
+use Rattle.move_gen.proofs.OwnPlaces.{apart_add, apart_replace, of_its_place, owned}
+use Rattle.move_gen.proofs.PlaceParts.{IsEntryAt, entry_there, lacks_value, no_value, some_there, some_value, there_entry, there_value, value_there}
 
 -- ---- one entry
 

@@ -14,14 +14,14 @@ use Rattle.move_core.specs.Moves.{Place, list_at, list_in, list_part}
 use Rattle.move_core.specs.declared.moves.Generated.{Generated}
 use Rattle.move_core.specs.declared.moves.Move.{Move}
 use Rattle.move_core.specs.declared.moves.Move.TheVariants.{Add, Remove, Replace, AddItem, RemoveItem}
-use Rattle.move_core.proofs.Operated.{list_names}
+use Rattle.move_core.proofs.OperationResults.{list_names}
 use Rattle.std.proofs.lemmas.Option.{slice_get-get_or, slice_get_within}
 use Rattle.move_core.specs.Generated.{IsItemAdded}
 use Rattle.move_gen.specs.Given.{IsOfTable, own_move}
 use Rattle.move_gen.specs.Giving.{IsOfSome}
 use Rattle.move_gen.specs.ItemsGiven.{HasNewItem, HasNoItems, IsAddedItem, IsItemAt, IsItemOfField, IsOfItems, IsOfItemsOfEntry, IsOfLists, IsRemovedItem}
-use Rattle.move_gen.proofs.Owned.{of_its_place, owned}
-use Rattle.move_gen.proofs.Parted.{IsEntryAt, IsValueAt, entry_there, there_entry, there_value, value_there}
+use Rattle.move_gen.proofs.OwnPlaces.{of_its_place, owned}
+use Rattle.move_gen.proofs.PlaceParts.{IsEntryAt, IsValueAt, entry_there, there_entry, there_value, value_there}
 
 same_Some : {A : Type 0} (x y : A) → Some x ≡ Some y → x ≡ y
 same_Some x y e = cc

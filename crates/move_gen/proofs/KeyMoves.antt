@@ -12,8 +12,8 @@ use Rattle.move_core.specs.declared.moves.Move.{Move}
 use Rattle.move_core.specs.declared.moves.Move.TheVariants.{Add, Remove, Replace, AddItem, RemoveItem}
 use Rattle.move_gen.specs.Given.{IsAddedEntry, IsOfTable, IsRemovedEntry, move_for, own_move}
 use Rattle.move_gen.specs.Giving.{IsOfSome}
-use Rattle.move_gen.proofs.Owned.{apart_add, of_its_place, owned}
-use Rattle.move_gen.proofs.Parted.{entry_there, some_there, there_entry}
+use Rattle.move_gen.proofs.OwnPlaces.{apart_add, of_its_place, owned}
+use Rattle.move_gen.proofs.PlaceParts.{entry_there, some_there, there_entry}
 
 -- ---- entries added
 

@@ -9,7 +9,7 @@ use Rattle.move_core.specs.declared.moves.Move.{Move}
 use Rattle.move_core.specs.declared.moves.Move.TheVariants.{Add, Remove, Replace, AddItem, RemoveItem}
 use Rattle.move_gen.specs.Given.{IsAddedTable, IsRemovedTable, own_move}
 use Rattle.move_gen.specs.Giving.{IsOfSome}
-use Rattle.move_gen.proofs.Owned.{apart_add, mapped_as, mapped_some, of_its_place, owned, some_mapped}
+use Rattle.move_gen.proofs.OwnPlaces.{apart_add, mapped_as, mapped_some, of_its_place, owned, some_mapped}
 
 module _ (cur goal : Config) where
   forth : (m : Move) (g : Generated) → g ≡ own_move m table_class → IsTableMove cur goal m → IsOfSome (IsRemovedTable goal) cur g ⊎ IsOfSome (IsAddedTable cur) goal g

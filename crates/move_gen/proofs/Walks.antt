@@ -10,7 +10,7 @@ use Rattle.move_core.specs.Appends.{Appends, AppendsSome}
 use Rattle.conf_doc.specs.Pairs.{AreNamed, IsRising, find}
 use Rattle.conf_doc.proofs.Edits.{find_at, first_from_at, same_name}
 use Rattle.move_gen.specs.Giving.{Giver, Gives, IsOfFirst, IsOfSome}
-use Rattle.move_gen.proofs.Appended.{appends_alike, appends_both, appends_none, appends_then_some, gives_some, some_weaker}
+use Rattle.move_gen.proofs.ListGrowth.{appends_alike, appends_both, appends_none, appends_then_some, gives_some, some_weaker}
 
 same_Some : {A : Type 0} (x y : A) → Some x ≡ Some y → x ≡ y
 same_Some x y e = cc

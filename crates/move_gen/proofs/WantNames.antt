@@ -15,7 +15,7 @@ use Rattle.conf_check.specs.declared.want_iter.WantPlace.{WantPlace}
 use Rattle.move_core.specs.Contexts.{HasWant, field_names, item_at, names_of}
 use Rattle.yang_model.specs.ModelSets.{ModelSet}
 use Rattle.move_gen.specs.FieldWants.{AreElsewhere}
-use Rattle.move_gen.proofs.Owned.{mapped_as}
+use Rattle.move_gen.proofs.OwnPlaces.{mapped_as}
 
 same_Some : {A : Type 0} (x y : A) → Some x ≡ Some y → x ≡ y
 same_Some x y e = cc

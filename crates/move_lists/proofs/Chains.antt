@@ -22,7 +22,7 @@ use Rattle.move_lists.specs.MoveKeys.{keys_decide}
 use Rattle.move_lists.specs.Ranking.{IsReachOf}
 use Rattle.move_lists.specs.Reaches.{Depths, HasMove, HasWithin, IsClosed, IsLedTo}
 use Rattle.move_lists.specs.declared.asking.Question.{Question}
-use Rattle.move_lists.proofs.Chosen.{LeadsEarly}
+use Rattle.move_lists.proofs.MoveChoices.{LeadsEarly}
 use Rattle.move_lists.proofs.Members.{no_member}
 
 -- ---- agreement is decided

@@ -16,7 +16,7 @@ use Rattle.move_core.specs.declared.moves.Move.{Move}
 use Rattle.move_core.specs.declared.moves.Ranked.{Ranked}
 use Rattle.move_lists.specs.MoveKeys.{move_total}
 use Rattle.move_lists.proofs.FirstChains.{rank_total}
-use Rattle.move_lists.proofs.Joined.{pairs_head, pairs_tail}
+use Rattle.move_lists.proofs.PartConcatenation.{pairs_head, pairs_tail}
 use Rattle.move_lists.proofs.Members.{first_member, later_member, member_cases, member_from_map, no_member}
 
 -- ---- lists with the same members

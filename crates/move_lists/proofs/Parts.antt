@@ -14,7 +14,7 @@ use Rattle.move_lists.specs.Ranking.{AddsExtended, AreChainsIn, AreEarlier, HasL
 use Rattle.move_lists.specs.Reaches.{AreNoted, AreOnce, Depths, HasMove, HasWithin, IsLedTo}
 use Rattle.move_lists.specs.declared.asking.Question.{Question}
 use Rattle.move_lists.proofs.Chains.{early_has, early_or_not, late_has, no_deeper, restoring_or_not, same_tier}
-use Rattle.move_lists.proofs.Chosen.{AreAlone, AreMovesOf, IsAlone, IsMoveOf, IsOneAlone, IsReachFrom, LeadsEarly, Meets, alone_tier}
+use Rattle.move_lists.proofs.MoveChoices.{AreAlone, AreMovesOf, IsAlone, IsMoveOf, IsOneAlone, IsReachFrom, LeadsEarly, Meets, alone_tier}
 use Rattle.move_lists.proofs.Members.{no_member}
 use Rattle.move_lists.proofs.PartOrder.{early_at}
 

@@ -12,7 +12,7 @@ use Rattle.move_core.specs.Moves.{Place, part_after, place, step}
 use Rattle.move_core.specs.Services.{table_of}
 use Rattle.move_core.specs.declared.moves.Move.{Move}
 use Rattle.move_rules.specs.Entries.{AreAll, AreKeys, entry_of}
-use Rattle.move_rules.proofs.Kept.{apart_by, other_key, other_table, same_by}
+use Rattle.move_rules.proofs.UntouchedPlaces.{apart_by, other_key, other_table, same_by}
 
 -- ---- items
 

@@ -1,8 +1,8 @@
 pub mod AtKeys
 pub mod CreateOnlys
 pub mod Dependencies
-pub mod Kept
+pub mod UntouchedPlaces
 pub mod Loops
-pub mod NoEmpty
+pub mod EmptyTables
 pub mod Requireds
-pub mod Violated
+pub mod Validity

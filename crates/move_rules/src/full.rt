@@ -45,7 +45,7 @@ impl MoveRule for FullRule {
 }
 
 /// Whether a configuration breaks no rule of its models.
-#[tactic(auto, using(crate::proofs::Violated::not_valid))]
+#[tactic(auto, using(crate::proofs::Validity::not_valid))]
 fn is_valid(models: &Models, config: &Config) -> bool
     ensures { IsTrue result ↔ IsValid models.now config.now }
 {

@@ -1,3 +1,3 @@
 pub mod CommitMoves
 pub mod ScriptRuns
-pub mod WorldsKept
+pub mod WorldInvariants

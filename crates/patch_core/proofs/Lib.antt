@@ -1,8 +1,8 @@
-pub mod Counted
+pub mod WeightCounts
 pub mod Escapes
 pub mod FirstFaults
-pub mod InOrder
-pub mod Measured
+pub mod PatchElements
+pub mod EditMeasures
 pub mod Measures
 pub mod MemberRows
 pub mod Nodes
@@ -10,7 +10,7 @@ pub mod Numbers
 pub mod Openings
 pub mod Paths
 pub mod Prefixes
-pub mod ReadsBack
+pub mod PatchReadings
 pub mod RoundTrip
 pub mod Sameness
-pub mod Settled
+pub mod TreeLimits

@@ -10,7 +10,7 @@ use Rattle.move_core.specs.declared.moves.Generated.{Generated}
 use Rattle.move_core.specs.declared.moves.Move.{Move}
 use Rattle.chain_begins.specs.Begins.{AreGenerated}
 use Rattle.plan_check.specs.Chains.{Adds, AreBegun, IsReached}
-use Rattle.plan_check.proofs.Adding.{contains_map}
+use Rattle.plan_check.proofs.MissingItems.{contains_map}
 
 module _ {A : Type 0} where
   get_old : (xs ys : List A) (i : ℕ) → i < length xs → slice_get (xs ++ ys) i ≡ slice_get xs i

@@ -1,5 +1,5 @@
-pub mod Accepted
-pub mod Adding
+pub mod FaultlessPlans
+pub mod MissingItems
 pub mod Causes
 pub mod ChainEnds
 pub mod OneFault

@@ -8,7 +8,7 @@ use move_core::{Ctx, Move};
 use yang_model::Models;
 
 /// Whether a configuration breaks no rule of its models.
-#[tactic(auto, using(crate::proofs::Violated::not_valid))]
+#[tactic(auto, using(crate::proofs::Validity::not_valid))]
 pub fn is_valid(models: &Models, config: &Config) -> bool
     ensures { IsTrue result ↔ IsValid models.now config.now }
 {

@@ -14,7 +14,7 @@ use Rattle.conf_doc.specs.declared.parts.Part.TheVariants as part
 use Rattle.conf_doc.proofs.Edits.{same_Some}
 use Rattle.move_core.specs.Moves.{Place}
 use Rattle.plan_search.specs.Hashes.{Fed, config_hash, entry_hash, entry_hash_at, hash_at}
-use Rattle.plan_search.proofs.Joined.{ChangesBy, change_changes, found_put, joined_twice, put_changes, within_changes, without_changes}
+use Rattle.plan_search.proofs.PairHashes.{ChangesBy, change_changes, found_put, joined_twice, put_changes, within_changes, without_changes}
 
 -- what holds of each part holds of the one that a name names
 module _ {A : Type 0} (P : A → Type 0) (name : List ℕ) (a : A) where

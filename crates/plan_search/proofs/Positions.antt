@@ -16,9 +16,9 @@ use Rattle.move_core.specs.Plans.{IsReachable, IsWay}
 use Rattle.move_core.specs.Ways.{ArePositions, IsAhead, IsBefore as AreBefore, IsLeast, IsSimpleWay}
 use Rattle.move_core.specs.declared.contexts.Ctx.{Ctx}
 use Rattle.move_core.specs.declared.moves.Move.{Move}
-use Rattle.move_lists.proofs.Existing.{surely_listed}
+use Rattle.move_lists.proofs.ListExistence.{surely_listed}
 use Rattle.move_lists.proofs.OneList.{one_list}
-use Rattle.move_lists.proofs.Surely.{surely, then_surely}
+use Rattle.move_lists.proofs.DoubleNegation.{surely, then_surely}
 use Rattle.plan_search.specs.FirstLaws.{IsSurelyAhead, IsSurelyLeast}
 use Rattle.plan_search.specs.FirstWays.{IsAheadOfGoal, IsBefore, IsFirstWay, StandsBefore}
 use Rattle.plan_search.specs.Kits.{one_before}

@@ -7,7 +7,7 @@ use Rattle.conf_doc.specs.Paths.{IsPath}
 use Rattle.conf_doc.specs.WellFormed.{AreTexts}
 use Rattle.patch_core.specs.Indexes.{index, list_token}
 use Rattle.move_core.specs.Operations.{index_text}
-use Rattle.move_core.proofs.Indexed.{index_token, written_index}
+use Rattle.move_core.proofs.IndexTokens.{index_token, written_index}
 use Rattle.plan_texts.specs.Items.{IsIndexIn, IsItemIn}
 use Rattle.plan_texts.specs.PlanTexts.{index_end}
 

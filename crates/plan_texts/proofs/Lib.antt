@@ -3,7 +3,7 @@ pub mod Feeds
 pub mod ItemLemmas
 pub mod LineLemmas
 pub mod MoveTexts
-pub mod OfOperations
+pub mod OperationMoves
 pub mod OneElement
 pub mod OneMove
 pub mod OnePlan

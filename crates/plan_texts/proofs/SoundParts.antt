@@ -17,7 +17,7 @@ use Rattle.conf_doc.specs.declared.configuration.Value.{Value}
 use Rattle.conf_doc.specs.declared.configuration.Value.TheVariants.{Text, List as Texts}
 use Rattle.conf_doc.specs.declared.parts.Part.{Part}
 use Rattle.conf_doc.specs.declared.parts.Part.TheVariants as part
-use Rattle.conf_doc.proofs.Equal.{pairs-members_of}
+use Rattle.conf_doc.proofs.Equalities.{pairs-members_of}
 use Rattle.conf_doc.proofs.Escapes.{escaped-other}
 use Rattle.conf_doc.proofs.Names.{rising-map}
 use Rattle.plan_texts.specs.PlanTexts.{IsPart}

@@ -15,7 +15,7 @@ use Rattle.recheck.specs.Agreements.{AgreeAt, AreSameBut, AreSameFrom}
 use Rattle.recheck.specs.Changes.{AreAmong, IsHandled, IsTableHandled}
 use Rattle.recheck.specs.Verdicts.{AreSound, IsSound}
 use Rattle.recheck.specs.declared.verdicts.Verdict.{Verdict}
-use Rattle.recheck.proofs.Changed.{all_sound}
+use Rattle.recheck.proofs.VerdictChanges.{all_sound}
 use Rattle.recheck.proofs.Lists.{among_all, entry_found}
 use Rattle.recheck.proofs.Pairs.{found_at, found_there, left_at, pair_at, some_same}
 

@@ -25,7 +25,7 @@ use Rattle.ref_index.proofs.NamedEntries.{entry_of_key, entry_of_place, finds_pa
 use Rattle.ref_index.proofs.Leafrefs.{refers_nowhere}
 use Rattle.ref_index.proofs.SameEntries.{Satisfies, carried_want, row_of_want, same_want, text_of_want}
 use Rattle.ref_index.proofs.SameWants.{HasKeys, satisfies}
-use Rattle.ref_index.proofs.Unreferring.{SatisfiesElsewhere, wanted_elsewhere}
+use Rattle.ref_index.proofs.UnrelatedTypes.{SatisfiesElsewhere, wanted_elsewhere}
 
 -- one name, or another
 pub by_name : (a b : List ℕ) (P : Type 0) → (a ≡ b → P) → (a ≢ b → P) → P

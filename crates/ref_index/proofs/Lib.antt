@@ -11,5 +11,5 @@ mod SameEntries
 mod SameWants
 mod Sides
 mod TextMaps
-mod Unreferring
+mod UnrelatedTypes
 mod Walks

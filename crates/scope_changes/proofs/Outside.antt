@@ -8,7 +8,7 @@ use Rattle.conf_store.specs.Files.{config_file, folded_file, intent_file, is_ste
 use Rattle.conf_store.specs.Folds.{IsOther}
 use Rattle.conf_store.specs.Stored.{stored}
 use Rattle.conf_store.proofs.Entries.{same_steps}
-use Rattle.conf_store.proofs.Standing.{same_stored}
+use Rattle.conf_store.proofs.FoldResults.{same_stored}
 use Rattle.change_apply.specs.Change.{Change, goal}
 use Rattle.change_apply.specs.Crashes as changes
 use Rattle.scopes.specs.Files.{asic_begin, asic_config, config_name, file_name, is_of_host, plain_name}

@@ -1,11 +1,11 @@
-pub mod Apart
+pub mod DistinctFiles
 pub mod Changes
 pub mod Keeping
 pub mod ListedNames
-pub mod Outside
+pub mod ScopelessOperations
 pub mod Parting
 pub mod PlainNames
 pub mod ScopeNames
 pub mod Scoping
 pub mod Time
-pub mod Whole
+pub mod LocalhostFiles

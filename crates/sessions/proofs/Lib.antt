@@ -1,7 +1,7 @@
-pub mod Committed
-pub mod CommitsMade
-pub mod Kept
-pub mod Led
+pub mod CommitWorlds
+pub mod CommitTurns
+pub mod WorldInvariants
+pub mod CommitWays
 pub mod NamedEntries
-pub mod RunsKeep
-pub mod TurnsMake
+pub mod RunInvariants
+pub mod TurnResults

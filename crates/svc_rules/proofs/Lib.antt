@@ -1,1 +1,1 @@
-pub mod Tied
+pub mod TableServices

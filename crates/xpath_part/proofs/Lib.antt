@@ -1,6 +1,6 @@
-pub mod GrammarRead
+pub mod TokenReadings
 pub mod Lexemes
-pub mod ReadGrammar
+pub mod PhaseTokens
 pub mod ReadNesting
 pub mod ReadSteps
 pub mod Spelling

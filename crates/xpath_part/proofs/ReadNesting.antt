@@ -34,7 +34,7 @@ use Rattle.xpath_part.specs.declared.symbols.Sign.{Sign}
 use Rattle.xpath_part.specs.declared.symbols.Sign.TheVariants.{Slash, Open, Close, OpenBracket, CloseBracket, Compare, Up, Stay}
 use Rattle.xpath_part.specs.declared.symbols.Token.{Token}
 use Rattle.xpath_part.specs.declared.symbols.Token.TheVariants.{Sign as Signed, Name, Literal, Number}
-use Rattle.xpath_part.proofs.ReadGrammar.{no_ors, no_ands, IsLevel, is_level, level_test, Fits, IsRole, is_left, is_right, is_counted, IsBefore, before_context, before_root, before_next, predicates_on, predicates_of-snoc, IsDue, is_due, IsNamed, is_named, IsWalkEnd, is_walk_end, IsEnd, IsCurrentDue, is_current_due, IsCountEnd, is_count_end, IsPhase, ended_is, value_is, some_same}
+use Rattle.xpath_part.proofs.PhaseTokens.{no_ors, no_ands, IsLevel, is_level, level_test, Fits, IsRole, is_left, is_right, is_counted, IsBefore, before_context, before_root, before_next, predicates_on, predicates_of-snoc, IsDue, is_due, IsNamed, is_named, IsWalkEnd, is_walk_end, IsEnd, IsCurrentDue, is_current_due, IsCountEnd, is_count_end, IsPhase, ended_is, value_is, some_same}
 use Rattle.xpath_part.proofs.ReadSteps.{slash_is, up_is, stay_is, comparison_is, word_is, literal_is, number_is}
 
 -- a nesting that is open: the levels outside it, those inside, and how many are open between

@@ -27,7 +27,7 @@ use Rattle.xpath_part.specs.declared.sought.Relation.TheVariants.{Same, Differen
 use Rattle.xpath_part.specs.declared.symbols.Sign.TheVariants.{Slash, Open, Close, Compare, Up, Stay}
 use Rattle.xpath_part.specs.declared.symbols.Token.{Token}
 use Rattle.xpath_part.specs.declared.symbols.Token.TheVariants.{Sign as Signed, Name, Literal, Number}
-use Rattle.xpath_part.proofs.ReadGrammar.{IsLevel, IsTested, level_test, behind_or, behind_and, IsRole, is_left, is_right, Fits, fits_up, fits_stay, strides_of-snoc, before_context, before_root, before_next, before_step, IsDue, is_due, IsStepDue, is_step_due, IsNamed, is_named, IsWalkEnd, is_walk_end, IsLiteralEnd, is_literal_end, IsEnd, IsCountEnd, is_count_end, IsNumberDue, is_number_due, IsPhase, ended_is, settled_is, some_same}
+use Rattle.xpath_part.proofs.PhaseTokens.{IsLevel, IsTested, level_test, behind_or, behind_and, IsRole, is_left, is_right, Fits, fits_up, fits_stay, strides_of-snoc, before_context, before_root, before_next, before_step, IsDue, is_due, IsStepDue, is_step_due, IsNamed, is_named, IsWalkEnd, is_walk_end, IsLiteralEnd, is_literal_end, IsEnd, IsCountEnd, is_count_end, IsNumberDue, is_number_due, IsPhase, ended_is, settled_is, some_same}
 
 out : (a b c d : List Token) → (a ++ (b ++ c)) ++ d ≡ a ++ (b ++ (c ++ d))
 out a b c d = append_assoc a (b ++ c) d ∙ ap (λ x. a ++ x) (append_assoc b c d)

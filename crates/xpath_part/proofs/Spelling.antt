@@ -10,7 +10,7 @@ use Rattle.xpath_part.specs.declared.errors.ExprError.{ExprError}
 use Rattle.xpath_part.specs.declared.errors.ExprError.TheVariants.{Bad, Memory}
 use Rattle.xpath_part.specs.declared.expressions.Expr.{Expr}
 use Rattle.xpath_part.specs.declared.symbols.Token.{Token}
-use Rattle.xpath_part.proofs.GrammarRead.{spelled_is_read}
+use Rattle.xpath_part.proofs.TokenReadings.{spelled_is_read}
 use Rattle.xpath_part.proofs.ReadNesting.{read_is_spelled}
 
 spelled_by : (s : List ℕ) (e : Expression) (ts : Option (List Token)) → lex s ≡ ts → option_and_then parse ts ≡ Some e → IsExpression s e

@@ -8,7 +8,7 @@ use Rattle.std.specs.Prelude.{String}
 use Rattle.std.specs.Map.{update}
 use Rattle.std.proofs.lemmas.Bool.{false≢true}
 use Rattle.std.proofs.lemmas.Slice.Eq.{bytes_eq-Decides}
-use Rattle.yang_faults.proofs.Given.{bytes_eq-swap}
+use Rattle.yang_faults.proofs.NameSequences.{bytes_eq-swap}
 use Rattle.yang_model.specs.Names.{IsIndexOf, place_of_name}
 
 abbrev or_else : {X : Type 0} → Option X → Option X → Option X

@@ -1,6 +1,6 @@
 pub mod Filters
-pub mod Found
-pub mod InOrder
-pub mod Least
+pub mod FollowedPaths
+pub mod KeyOrder
+pub mod LeastFaults
 pub mod Reading
 pub mod Steps

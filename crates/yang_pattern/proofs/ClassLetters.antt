@@ -12,7 +12,7 @@ use Rattle.yang_pattern.specs.Classes.{dash_at, bound_at, caret_at, close_at, cl
 use Rattle.yang_pattern.specs.Lexing.{advance, lex}
 use Rattle.yang_pattern.specs.Grammar.{plain, IsBound, IsItem, AreItems, dash, dash_range, caret, BeginsWithCaret, IsClass}
 use Rattle.yang_pattern.proofs.LexRuns.{lex_quiet, lex_token, lex_first, letter_is}
-use Rattle.yang_pattern.proofs.Written.{map_some}
+use Rattle.yang_pattern.proofs.TokenSources.{map_some}
 
 -- the item that an open bound would be
 abbrev settle : Item → List (ℕ × ℕ)

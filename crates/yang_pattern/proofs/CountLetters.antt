@@ -15,7 +15,7 @@ use Rattle.yang_pattern.specs.Counts.{with_digit, count_comma, count_digit, coun
 use Rattle.yang_pattern.specs.Lexing.{advance, lex}
 use Rattle.yang_pattern.specs.Grammar.{plain, decimal, digits, IsQuantifier}
 use Rattle.yang_pattern.proofs.LexRuns.{lex_quiet, lex_token, lex_first, letter_is}
-use Rattle.yang_pattern.proofs.Written.{map_some, then_some}
+use Rattle.yang_pattern.proofs.TokenSources.{map_some, then_some}
 
 -- digits, one after another
 abbrev with_digits : Option ℕ → List ℕ → Option (Option ℕ)

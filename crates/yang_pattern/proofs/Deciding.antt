@@ -14,7 +14,7 @@ use Rattle.yang_pattern.specs.Symbols.{accepts, Allows, Repeated}
 use Rattle.yang_pattern.specs.Pattern.{Branches, one, or, Branch, none, followed, Piece, once, times, Atom, symbol, group, Matches, MatchesBranch, MatchesPiece, MatchesAtom, size}
 use Rattle.yang_pattern.specs.Language.{IsPattern, MatchesText}
 use Rattle.yang_pattern.proofs.Decisions.{Told, like, both, either, at_most, same_text, told_true, up_to, split}
-use Rattle.yang_pattern.proofs.Unique.{same_pattern, no_letters, no_tokens, no_pattern, too_large, spelled}
+use Rattle.yang_pattern.proofs.PatternUniqueness.{same_pattern, no_letters, no_tokens, no_pattern, too_large, spelled}
 
 -- so many texts in a row
 repeated_told : (P : List ℕ → Type 0) → ((u : List ℕ) → Told (P u)) → (n : ℕ) (u : List ℕ) → Told (Repeated P n u)

@@ -8,7 +8,7 @@ use Rattle.yang_pattern.specs.declared.tokens.Mode.TheVariants.{Outside, Class, 
 use Rattle.yang_pattern.specs.declared.tokens.Step.{Step}
 use Rattle.yang_pattern.specs.Lexing.{advance, lex, lex_end}
 use Rattle.yang_pattern.specs.Grammar.{plain}
-use Rattle.yang_pattern.proofs.Written.{map_some, then_some}
+use Rattle.yang_pattern.proofs.TokenSources.{map_some, then_some}
 
 map_nothing : (o : Option (List Token)) → option_map (λ ts. [] ++ ts) o ≡ o
 map_nothing None = refl

@@ -29,7 +29,7 @@ use Rattle.yang_pattern.proofs.LetterSteps.{letters_backslash, letters_other}
 use Rattle.yang_pattern.proofs.LexRuns.{lex_quiet}
 use Rattle.yang_pattern.proofs.TextLetters.{letters_sound}
 use Rattle.yang_pattern.proofs.TokenLetters.{tokens_sound}
-use Rattle.yang_pattern.proofs.Written.{run_sound}
+use Rattle.yang_pattern.proofs.TokenSources.{run_sound}
 
 -- one token more
 pub stand_open : (g : Standing) (s : Progress) → IsStanding g s → g.groups < 32 → IsSomeAnd (read Open s) (IsStanding (record { groups = g.groups + 1; atom = false }))

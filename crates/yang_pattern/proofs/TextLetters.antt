@@ -6,7 +6,7 @@ use Rattle.yang_pattern.specs.Letters.{letters_from, letter_of}
 use Rattle.yang_pattern.specs.Escapes.{escaped_character}
 use Rattle.yang_pattern.specs.Grammar.{IsLetter, IsText}
 use Rattle.yang_pattern.proofs.LetterSteps.{letters_backslash, letters_other}
-use Rattle.yang_pattern.proofs.Written.{map_some, then_some}
+use Rattle.yang_pattern.proofs.TokenSources.{map_some, then_some}
 
 one_letter : (b : Bool) (c : ℕ) (x y : List ℕ) (ls : List Letter) → IsLetter b c x → letters_from false y ≡ Some ls
     → letters_from false (x ++ y) ≡ Some (record { character = c; escaped = b } ∷ ls)

@@ -1,8 +1,8 @@
 pub mod Tables
-pub mod Behind
+pub mod TypedefDistances
 pub mod Blocks
 pub mod Colons
 pub mod FaultLists
-pub mod FirstGiven
-pub mod Named
+pub mod FirstResults
+pub mod ElementNumbers
 pub mod Finding

@@ -3,11 +3,11 @@ pub mod Counts
 pub mod Cuts
 pub mod Escapes
 pub mod FaultSteps
-pub mod Least
-pub mod Lexed
+pub mod LeastFaults
+pub mod PieceTokens
 pub mod Readings
-pub mod Sound
-pub mod Spelled
-pub mod Split
+pub mod FaultlessTokens
+pub mod Spellings
+pub mod TextPieces
 pub mod Theorems
 pub mod TokenSteps

@@ -21,12 +21,12 @@ use Rattle.yang_text.specs.declared.faults.Phase.TheVariants.{Due}
 use Rattle.yang_text.specs.declared.lexing.Token.{Token}
 use Rattle.yang_text.proofs.Counts.{statements_few}
 use Rattle.yang_text.proofs.Cuts.{tokens_few}
-use Rattle.yang_text.proofs.Least.{least_is_least, none_is_none}
+use Rattle.yang_text.proofs.LeastFaults.{least_is_least, none_is_none}
 use Rattle.yang_text.proofs.Readings.{utf8_none}
-use Rattle.yang_text.proofs.Lexed.{pieces_tokens}
-use Rattle.yang_text.proofs.Sound.{sound, none_bad}
-use Rattle.yang_text.proofs.Spelled.{statements_quiet, statements_build}
-use Rattle.yang_text.proofs.Split.{made_of}
+use Rattle.yang_text.proofs.PieceTokens.{pieces_tokens}
+use Rattle.yang_text.proofs.FaultlessTokens.{sound, none_bad}
+use Rattle.yang_text.proofs.Spellings.{statements_quiet, statements_build}
+use Rattle.yang_text.proofs.TextPieces.{made_of}
 
 valid_by : (b : Bool) (f : Fault) → cond b None (Some f) ≡ None → b ≡ true
 valid_by true f e = refl

@@ -1,7 +1,7 @@
-pub mod Joined
+pub mod PartJoins
 pub mod NumberLemmas
 pub mod PartLemmas
 pub mod Unions
 pub mod Prefixes
-pub mod Shortened
+pub mod DoubleColons
 pub mod Accepting

@@ -10,7 +10,7 @@ use Rattle.std.proofs.lemmas.Bool.Decides.{nat_tests}
 use Rattle.yang_types.specs.declared.addresses.Part.{Part}
 use Rattle.yang_types.specs.declared.addresses.Part.TheVariants.{Octet, Group, Pair}
 use Rattle.yang_types.specs.Parts.{IsPart, separator_of}
-use Rattle.yang_types.proofs.Joined.{StandsApart}
+use Rattle.yang_types.proofs.PartJoins.{StandsApart}
 
 digit_lacks : (b : ℕ) → IsInRange 48 57 b → eqb b 46 ≡ false
 digit_lacks b range = grind (arith, nat_tests)

@@ -10,7 +10,7 @@ use Rattle.yang_values.specs.Endings.{EndsIn, DoesEnd}
 use Rattle.yang_values.specs.TypeValues.{next}
 use Rattle.yang_values.specs.Walks.{placed}
 use Rattle.yang_values.specs.declared.walks.Place.{Place}
-use Rattle.yang_values.proofs.Reached.{no_element, only}
+use Rattle.yang_values.proofs.ReachableTypes.{no_element, only}
 
 module _ (modules : List Module) where
   -- no way is so long

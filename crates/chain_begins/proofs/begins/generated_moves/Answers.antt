@@ -1,5 +1,5 @@
 use Rattle.move_core.specs.Contexts.{rulebook}
-use Rattle.chain_begins.proofs.Gathered.{all_generated}
+use Rattle.chain_begins.proofs.WalkResults.{all_generated}
 use Rattle.chain_begins.proofs.begins.generated_moves.Goals as goal
 
 pub returns : goal.returns

@@ -1,6 +1,6 @@
 use Rattle.std.proofs.Common.{sym, ap, ◌∙◌}
 use Rattle.std.specs.Prelude.{option_copied}
-use Rattle.chain_begins.proofs.Settled.{none_for_both}
+use Rattle.chain_begins.proofs.CommonEntries.{none_for_both}
 use Rattle.chain_begins.proofs.entries.count_settled.Goals as goal
 
 pub returns-then-is_of_missing : goal.returns-then-is_of_missing

@@ -1,9 +1,9 @@
 use Rattle.std.proofs.Common.{ap, ◌∙◌, arith}
 use Rattle.conf_doc.specs.Pairs.{find}
 use Rattle.chain_begins.specs.Giving.{IsOfFirst}
-use Rattle.chain_begins.proofs.Appended.{appends_none}
-use Rattle.chain_begins.proofs.Named.{key_name}
-use Rattle.chain_begins.proofs.Parted.{found_there}
+use Rattle.chain_begins.proofs.ListGrowth.{appends_none}
+use Rattle.chain_begins.proofs.MoveNames.{key_name}
+use Rattle.chain_begins.proofs.PlaceParts.{found_there}
 use Rattle.chain_begins.proofs.Walks.{letters_at, walk_ends, walk_more, walk_stops}
 use Rattle.chain_begins.proofs.entries.give_in_table.Goals as goal
 

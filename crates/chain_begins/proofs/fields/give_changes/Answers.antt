@@ -1,7 +1,7 @@
 use Rattle.move_core.specs.Generated.{IsFromFields}
 use Rattle.chain_begins.specs.Given.{IsChangedEntry, IsOfTable}
 use Rattle.chain_begins.specs.Giving.{IsOfSome}
-use Rattle.chain_begins.proofs.Appended.{gives_alike}
+use Rattle.chain_begins.proofs.ListGrowth.{gives_alike}
 use Rattle.chain_begins.proofs.FieldMoves.{of_fields}
 use Rattle.chain_begins.proofs.fields.give_changes.Goals as goal
 

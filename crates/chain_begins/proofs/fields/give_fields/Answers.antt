@@ -1,6 +1,6 @@
 use Rattle.chain_begins.specs.Given.{IsOfFields, IsRemovedField, IsSetField}
 use Rattle.chain_begins.specs.Giving.{IsOfSome}
-use Rattle.chain_begins.proofs.Appended.{appends_none, gives_both}
+use Rattle.chain_begins.proofs.ListGrowth.{appends_none, gives_both}
 use Rattle.chain_begins.proofs.FieldMoves.{fields_apart, unchanged}
 use Rattle.chain_begins.proofs.fields.give_fields.Goals as goal
 

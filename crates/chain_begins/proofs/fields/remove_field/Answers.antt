@@ -1,6 +1,6 @@
 use Rattle.std.proofs.Common.{◌≡◌, Option, Some, None}
 use Rattle.chain_begins.specs.Given.{IsRemovedField}
-use Rattle.chain_begins.proofs.Appended.{appends_none}
+use Rattle.chain_begins.proofs.ListGrowth.{appends_none}
 use Rattle.chain_begins.proofs.fields.remove_field.Goals as goal
 
 found : {A : Type 0} (a : A) (o : Option A) → Some a ≡ o → o ≡ None → ⊥

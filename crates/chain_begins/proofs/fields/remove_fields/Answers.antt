@@ -1,6 +1,6 @@
 use Rattle.std.proofs.Common.{arith}
 use Rattle.chain_begins.specs.Given.{IsRemovedField}
-use Rattle.chain_begins.proofs.Named.{field_name, removed_field_told}
+use Rattle.chain_begins.proofs.MoveNames.{field_name, removed_field_told}
 use Rattle.chain_begins.proofs.Walks.{letters_at, walk_begins, walk_ends, walk_more, walk_stops}
 use Rattle.chain_begins.proofs.fields.remove_fields.Goals as goal
 

@@ -1,6 +1,6 @@
 use Rattle.std.proofs.Common.{◌≡◌}
 use Rattle.chain_begins.specs.Given.{move_for}
-use Rattle.chain_begins.proofs.Appended.{gives_some, some_none}
+use Rattle.chain_begins.proofs.ListGrowth.{gives_some, some_none}
 use Rattle.chain_begins.proofs.giving.give.Goals as goal
 
 pub returns-in_err-push : goal.returns-in_err-push

@@ -4,7 +4,7 @@ use Rattle.move_core.specs.declared.moves.Move.TheVariants.{AddItem}
 use Rattle.chain_begins.specs.Given.{own_move}
 use Rattle.chain_begins.specs.Giving.{Gives}
 use Rattle.chain_begins.specs.ItemsGiven.{IsAddedItem}
-use Rattle.chain_begins.proofs.Appended.{gives_alike, gives_some, some_none}
+use Rattle.chain_begins.proofs.ListGrowth.{gives_alike, gives_some, some_none}
 use Rattle.chain_begins.proofs.ItemMoves.{of_item}
 use Rattle.chain_begins.proofs.items.add_item.Goals as goal
 

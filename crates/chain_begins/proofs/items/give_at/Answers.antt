@@ -1,5 +1,5 @@
 use Rattle.chain_begins.specs.ItemsGiven.{IsAddedItem, IsItemAt, IsRemovedItem}
-use Rattle.chain_begins.proofs.Appended.{gives_both}
+use Rattle.chain_begins.proofs.ListGrowth.{gives_both}
 use Rattle.chain_begins.proofs.ItemMoves.{items_apart}
 use Rattle.chain_begins.proofs.items.give_at.Goals as goal
 

@@ -2,7 +2,7 @@ use Rattle.move_core.specs.Generated.{IsFromItems}
 use Rattle.chain_begins.specs.Given.{IsOfTable}
 use Rattle.chain_begins.specs.Giving.{IsOfSome}
 use Rattle.chain_begins.specs.ItemsGiven.{IsOfItemsOfEntry}
-use Rattle.chain_begins.proofs.Appended.{gives_alike}
+use Rattle.chain_begins.proofs.ListGrowth.{gives_alike}
 use Rattle.chain_begins.proofs.ItemMoves.{of_items}
 use Rattle.chain_begins.proofs.items.give_items.Goals as goal
 

@@ -1,6 +1,6 @@
 use Rattle.chain_begins.specs.Giving.{IsOfSome}
 use Rattle.chain_begins.specs.ItemsGiven.{IsItemOfField}
-use Rattle.chain_begins.proofs.Appended.{appends_none}
+use Rattle.chain_begins.proofs.ListGrowth.{appends_none}
 use Rattle.chain_begins.proofs.ItemMoves.{same_entry}
 use Rattle.chain_begins.proofs.items.give_of_entry.Goals as goal
 

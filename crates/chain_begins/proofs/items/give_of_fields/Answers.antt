@@ -1,6 +1,6 @@
 use Rattle.std.proofs.Common.{arith}
 use Rattle.chain_begins.specs.ItemsGiven.{IsItemOfField}
-use Rattle.chain_begins.proofs.Named.{field_name, item_field_told}
+use Rattle.chain_begins.proofs.MoveNames.{field_name, item_field_told}
 use Rattle.chain_begins.proofs.Walks.{letters_at, walk_begins, walk_ends, walk_more, walk_stops}
 use Rattle.chain_begins.proofs.items.give_of_fields.Goals as goal
 

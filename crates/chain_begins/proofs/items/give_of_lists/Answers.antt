@@ -1,7 +1,7 @@
 use Rattle.std.proofs.Common.{[], ◌∷◌, subst}
 use Rattle.chain_begins.specs.Giving.{Gives}
 use Rattle.chain_begins.specs.ItemsGiven.{IsItemAt, IsOfItems}
-use Rattle.chain_begins.proofs.Appended.{gives_alike}
+use Rattle.chain_begins.proofs.ListGrowth.{gives_alike}
 use Rattle.chain_begins.proofs.ItemMoves.{of_first}
 use Rattle.chain_begins.proofs.items.give_of_lists.Goals as goal
 

@@ -2,7 +2,7 @@ use Rattle.std.proofs.Common.{inl}
 use Rattle.move_core.specs.Generated.{IsFromKeys, IsWhole, key_class}
 use Rattle.chain_begins.specs.Given.{IsAddedEntry, IsOfTable, IsRemovedEntry}
 use Rattle.chain_begins.specs.Giving.{IsOfSome}
-use Rattle.chain_begins.proofs.Appended.{gives_both, gives_some, some_weaker}
+use Rattle.chain_begins.proofs.ListGrowth.{gives_both, gives_some, some_weaker}
 use Rattle.chain_begins.proofs.KeyMoves.{keys_apart, of_keys}
 use Rattle.chain_begins.proofs.keys.give_keys.Goals as goal
 

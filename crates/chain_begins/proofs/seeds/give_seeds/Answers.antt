@@ -2,7 +2,7 @@ use Rattle.move_core.specs.Contexts.{rulebook}
 use Rattle.move_core.specs.Generated.{IsFromSeeds, IsSeed, seed_class}
 use Rattle.chain_begins.specs.Given.{IsAddedEntry, IsOfTable}
 use Rattle.chain_begins.specs.Giving.{IsOfSome}
-use Rattle.chain_begins.proofs.Appended.{gives_alike}
+use Rattle.chain_begins.proofs.ListGrowth.{gives_alike}
 use Rattle.chain_begins.proofs.KeyMoves.{adds_entries}
 use Rattle.chain_begins.proofs.seeds.give_seeds.Goals as goal
 

@@ -1,7 +1,7 @@
 use Rattle.std.proofs.Common.{◌+◌, sym, ◌∙◌, subst, true≢false, arith}
 use Rattle.move_core.specs.Contexts.{rulebook}
 use Rattle.chain_begins.specs.Choosing.{IsSeedOfFirst}
-use Rattle.chain_begins.proofs.Chosen.{seed_ends, seed_with, seed_without}
+use Rattle.chain_begins.proofs.SeedEntries.{seed_ends, seed_with, seed_without}
 use Rattle.chain_begins.proofs.Walks.{letters_at}
 use Rattle.chain_begins.proofs.seeds.seed_of.Goals.{then-has_no_want+in_ok-seed, else-has_no_want}
 use Rattle.chain_begins.proofs.seeds.seed_of.Goals as goal

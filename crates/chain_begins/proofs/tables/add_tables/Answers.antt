@@ -1,6 +1,6 @@
 use Rattle.std.proofs.Common.{arith}
 use Rattle.chain_begins.specs.Given.{IsAddedTable}
-use Rattle.chain_begins.proofs.Named.{added_table_told, table_name}
+use Rattle.chain_begins.proofs.MoveNames.{added_table_told, table_name}
 use Rattle.chain_begins.proofs.Walks.{letters_at, walk_begins, walk_ends, walk_more, walk_stops}
 use Rattle.chain_begins.proofs.tables.add_tables.Goals as goal
 

@@ -1,7 +1,7 @@
 use Rattle.move_core.specs.Generated.{IsFromTables}
 use Rattle.chain_begins.specs.Given.{IsAddedTable, IsRemovedTable}
 use Rattle.chain_begins.specs.Giving.{IsOfSome}
-use Rattle.chain_begins.proofs.Appended.{gives_both}
+use Rattle.chain_begins.proofs.ListGrowth.{gives_both}
 use Rattle.chain_begins.proofs.TableMoves.{of_tables, tables_apart}
 use Rattle.chain_begins.proofs.tables.give_tables.Goals as goal
 

@@ -1,7 +1,7 @@
 use Rattle.move_core.specs.Contexts.{rulebook}
 use Rattle.move_core.specs.Extensions.{IsDelete, IsReferrer, IsRequired, IsUpper}
 use Rattle.chain_extends.proofs.AllExtensions.{all_extended}
-use Rattle.chain_extends.proofs.Finding.{appends_behind, appends_option}
+use Rattle.chain_extends.proofs.DistinctLists.{appends_behind, appends_option}
 use Rattle.chain_extends.proofs.Uppers.{is_upper}
 use Rattle.chain_extends.proofs.extensions.extended_moves.Goals as goal
 

@@ -1,6 +1,6 @@
 use Rattle.std.proofs.Common.{map, sym, arith}
 use Rattle.conf_doc.proofs.Lists.{length-map}
-use Rattle.chain_extends.proofs.Finding.{there_at}
+use Rattle.chain_extends.proofs.DistinctLists.{there_at}
 use Rattle.chain_extends.proofs.kept_keys.has_keys.Goals as goal
 
 pub returns : goal.returns

@@ -5,8 +5,8 @@ use Rattle.std.proofs.lemmas.Iterator.Splits.{YieldsList-from_str_split}
 use Rattle.std.proofs.lemmas.List.{length_push}
 use Rattle.conf_doc.proofs.Edits.{same_Some}
 use Rattle.key_split.specs.Key.{key_parts}
-use Rattle.chain_extends.proofs.Among.{among}
-use Rattle.chain_extends.proofs.Finding.{there_at}
+use Rattle.chain_extends.proofs.TextSearches.{among}
+use Rattle.chain_extends.proofs.DistinctLists.{there_at}
 use Rattle.chain_extends.proofs.mentions.has_part.Goals as goal
 
 pub loop-part-preserved : goal.loop-part-preserved

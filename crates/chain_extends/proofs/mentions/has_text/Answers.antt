@@ -1,6 +1,6 @@
 use Rattle.std.proofs.Common.{◌≡◌, ◌∷◌, [], map, Contains, sym, subst, ◌∙◌}
 use Rattle.chain_extends.specs.Mentions.{texts_of_value}
-use Rattle.chain_extends.proofs.Among.{alone, among}
+use Rattle.chain_extends.proofs.TextSearches.{alone, among}
 use Rattle.chain_extends.proofs.mentions.has_text.Goals as goal
 
 pub returns-in-Text : goal.returns-in-Text

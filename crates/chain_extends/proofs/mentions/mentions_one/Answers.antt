@@ -4,7 +4,7 @@ use Rattle.conf_doc.proofs.Edits.{same_Some}
 use Rattle.conf_doc.proofs.Lists.{length-map}
 use Rattle.conf_doc.specs.declared.configuration.Value.{Value}
 use Rattle.chain_extends.specs.Mentions.{texts_of_value}
-use Rattle.chain_extends.proofs.Among.{within}
+use Rattle.chain_extends.proofs.TextSearches.{within}
 use Rattle.chain_extends.proofs.mentions.mentions_one.Goals as goal
 
 pub loop-i-preserved : goal.loop-i-preserved

@@ -3,7 +3,7 @@ use Rattle.conf_doc.proofs.Edits.{find_at}
 use Rattle.chain_extends.specs.Found.{GivenByOne, Finds}
 use Rattle.chain_extends.specs.Mentions.{GivesOfTable}
 use Rattle.chain_extends.specs.Referrers.{GivesRemovals}
-use Rattle.chain_extends.proofs.Finding.{GivenBefore, appends_found, finds_as, loop_begins, loop_ends, loop_more}
+use Rattle.chain_extends.proofs.DistinctLists.{GivenBefore, appends_found, finds_as, loop_begins, loop_ends, loop_more}
 use Rattle.chain_extends.proofs.GoneKeys.{of_tables}
 use Rattle.chain_extends.proofs.Texts.{pair_at}
 use Rattle.chain_extends.proofs.referrers.find_in_config.Goals as goal

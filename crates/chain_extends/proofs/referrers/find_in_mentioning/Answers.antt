@@ -1,6 +1,6 @@
 use Rattle.std.proofs.Common.{refl}
 use Rattle.chain_extends.specs.Mentions.{GivesOfEntry, texts_of}
-use Rattle.chain_extends.proofs.Finding.{finds_none}
+use Rattle.chain_extends.proofs.DistinctLists.{finds_none}
 use Rattle.chain_extends.proofs.Texts.{mentioned}
 use Rattle.chain_extends.proofs.referrers.find_in_mentioning.Goals as goal
 

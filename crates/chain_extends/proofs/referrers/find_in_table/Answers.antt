@@ -3,7 +3,7 @@ use Rattle.conf_doc.proofs.Edits.{find_at}
 use Rattle.conf_doc.proofs.Lists.{length-map}
 use Rattle.conf_doc.specs.Pairs.{find}
 use Rattle.chain_extends.specs.Mentions.{GivesOfEntry, GivesOfTable}
-use Rattle.chain_extends.proofs.Finding.{finds_none, loop_begins, loop_ends, loop_more}
+use Rattle.chain_extends.proofs.DistinctLists.{finds_none, loop_begins, loop_ends, loop_more}
 use Rattle.chain_extends.proofs.Leafrefs.{table_unreferred}
 use Rattle.chain_extends.proofs.referrers.find_in_table.Goals as goal
 

@@ -1,7 +1,7 @@
 use Rattle.std.proofs.Common.{map}
 use Rattle.chain_extends.specs.Found.{Finds}
 use Rattle.chain_extends.specs.Mentions.{GivesOfEntry}
-use Rattle.chain_extends.proofs.Finding.{GivenBefore}
+use Rattle.chain_extends.proofs.DistinctLists.{GivenBefore}
 use Rattle.chain_extends.proofs.referrers.find_in_table.Given as goal
 
 abbrev pub invariant-loop-i : goal.invariant-loop-i

@@ -1,7 +1,7 @@
 use Rattle.std.proofs.Common.{◌≡◌, ap, sym, ◌∙◌}
 use Rattle.std.proofs.lemmas.Result.{on_ok_weaker}
 use Rattle.chain_extends.specs.Mentions.{IsRemovalOf}
-use Rattle.chain_extends.proofs.Finding.{finds_as}
+use Rattle.chain_extends.proofs.DistinctLists.{finds_as}
 use Rattle.chain_extends.proofs.referrers.find_removal.Goals as goal
 
 pub returns-in_ok-removal : goal.returns-in_ok-removal

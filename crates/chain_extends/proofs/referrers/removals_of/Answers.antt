@@ -6,7 +6,7 @@ use Rattle.move_core.specs.Extensions.{IsReferrer}
 use Rattle.move_core.specs.Moves.{place, step}
 use Rattle.move_core.specs.Services.{table_of}
 use Rattle.chain_extends.specs.Referrers.{GivesRemovals}
-use Rattle.chain_extends.proofs.Finding.{appends_as, appends_found, finds_none}
+use Rattle.chain_extends.proofs.DistinctLists.{appends_as, appends_found, finds_none}
 use Rattle.chain_extends.proofs.GoneKeys.{breaks_parts}
 use Rattle.chain_extends.proofs.Leafrefs.{unreferred}
 use Rattle.chain_extends.proofs.Removals.{no_removals, referrers}

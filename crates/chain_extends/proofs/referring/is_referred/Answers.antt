@@ -3,7 +3,7 @@ use Rattle.std.proofs.Common.{◌≡◌, ℕ, List, map, Some, slice_get, sym, s
 use Rattle.conf_doc.proofs.Edits.{same_Some}
 use Rattle.conf_doc.proofs.Lists.{length-map}
 use Rattle.chain_extends.specs.Referring.{MayRefer}
-use Rattle.chain_extends.proofs.Finding.{there_at}
+use Rattle.chain_extends.proofs.DistinctLists.{there_at}
 use Rattle.chain_extends.proofs.referring.is_referred.Goals as goal
 
 pub loop-i-preserved : goal.loop-i-preserved

@@ -1,6 +1,6 @@
 use Rattle.std.proofs.Common.{arith}
 use Rattle.chain_extends.specs.Requireds.{GivesIn}
-use Rattle.chain_extends.proofs.Finding.{loop_begins, loop_ends, loop_more, there_at}
+use Rattle.chain_extends.proofs.DistinctLists.{loop_begins, loop_ends, loop_more, there_at}
 use Rattle.chain_extends.proofs.required.add_each.Goals as goal
 
 pub loop-requiring-init : goal.loop-requiring-init

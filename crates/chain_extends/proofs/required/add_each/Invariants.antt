@@ -1,6 +1,6 @@
 use Rattle.chain_extends.specs.Found.{Finds}
 use Rattle.chain_extends.specs.Requireds.{GivesIn}
-use Rattle.chain_extends.proofs.Finding.{GivenBefore}
+use Rattle.chain_extends.proofs.DistinctLists.{GivenBefore}
 use Rattle.chain_extends.proofs.required.add_each.Given as goal
 
 abbrev pub invariant-loop-requiring : goal.invariant-loop-requiring

@@ -1,7 +1,7 @@
 use Rattle.std.proofs.Common.{map, arith}
 use Rattle.conf_doc.proofs.Lists.{length-map}
 use Rattle.chain_extends.specs.Requireds.{RulesGive}
-use Rattle.chain_extends.proofs.Finding.{loop_begins, loop_ends, loop_more}
+use Rattle.chain_extends.proofs.DistinctLists.{loop_begins, loop_ends, loop_more}
 use Rattle.chain_extends.proofs.required.add_keys.Goals as goal
 
 pub loop-i-init : goal.loop-i-init

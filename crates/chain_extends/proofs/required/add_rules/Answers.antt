@@ -1,7 +1,7 @@
 use Rattle.std.proofs.Common.{arith, subst}
 use Rattle.chain_extends.specs.Found.{Finds, GivenByOne}
 use Rattle.chain_extends.specs.Requireds.{GivesIn, RuleGives}
-use Rattle.chain_extends.proofs.Finding.{loop_begins, loop_ends, loop_more, there_at}
+use Rattle.chain_extends.proofs.DistinctLists.{loop_begins, loop_ends, loop_more, there_at}
 use Rattle.chain_extends.proofs.required.add_rules.Goals as goal
 
 pub loop-rule-init : goal.loop-rule-init

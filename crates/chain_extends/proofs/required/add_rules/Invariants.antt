@@ -1,6 +1,6 @@
 use Rattle.chain_extends.specs.Found.{Finds}
 use Rattle.chain_extends.specs.Requireds.{RuleGives}
-use Rattle.chain_extends.proofs.Finding.{GivenBefore}
+use Rattle.chain_extends.proofs.DistinctLists.{GivenBefore}
 use Rattle.chain_extends.proofs.required.add_rules.Given as goal
 
 abbrev pub invariant-loop-rule : goal.invariant-loop-rule

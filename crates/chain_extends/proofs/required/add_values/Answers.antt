@@ -5,7 +5,7 @@ use Rattle.move_core.specs.Contexts.{rulebook}
 use Rattle.move_core.specs.Extensions.{IsRequired}
 use Rattle.chain_extends.specs.Found.{Finds}
 use Rattle.chain_extends.specs.Requireds.{RulesGive, TableGives}
-use Rattle.chain_extends.proofs.Finding.{finds_as, finds_both}
+use Rattle.chain_extends.proofs.DistinctLists.{finds_as, finds_both}
 use Rattle.chain_extends.proofs.Requireds.{required_at, required_in}
 use Rattle.chain_extends.proofs.required.add_values.Goals as goal
 

@@ -5,7 +5,7 @@ use Rattle.move_core.specs.Extensions.{IsRequired}
 use Rattle.move_core.specs.Moves.{place}
 use Rattle.chain_extends.specs.Found.{Finds}
 use Rattle.chain_extends.specs.Requireds.{may_change_one}
-use Rattle.chain_extends.proofs.Finding.{appends_found, finds_none}
+use Rattle.chain_extends.proofs.DistinctLists.{appends_found, finds_none}
 use Rattle.chain_extends.proofs.Requireds.{requires_none}
 use Rattle.chain_extends.proofs.required.values_of.Goals as goal
 

@@ -1,5 +1,5 @@
 use Rattle.std.proofs.Common.{◌<◌, length, sym, subst, arith}
-use Rattle.chain_extends.proofs.Named.{entry_key}
+use Rattle.chain_extends.proofs.NonemptyNames.{entry_key}
 use Rattle.chain_extends.proofs.required_values.put_value.Goals as goal
 
 pub new-requires : goal.new-requires

@@ -1,5 +1,5 @@
 use Rattle.conf_store.specs.Files.{intent_file}
-use Rattle.conf_store.proofs.Standing.{seen}
+use Rattle.conf_store.proofs.FoldResults.{seen}
 use Rattle.change_apply.proofs.IntentNames.{intent_not_scratch}
 use Rattle.change_apply.proofs.laws.intent_is_kept.Goals as goal
 

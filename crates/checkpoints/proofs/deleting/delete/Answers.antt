@@ -3,7 +3,7 @@ use Rattle.std.proofs.lemmas.Result.{err_from_is_err_and}
 use Rattle.host_core.specs.State.{ListsOrNot, after_listing, with_file}
 use Rattle.conf_store.specs.Changes.{Changes}
 use Rattle.checkpoints.specs.Changes.{IsDeleted, IsDeletedOrNot, LeavesOf}
-use Rattle.checkpoints.proofs.Changed.{deleted_or_not, deletes, lists, not_deleted}
+use Rattle.checkpoints.proofs.FileChanges.{deleted_or_not, deletes, lists, not_deleted}
 use Rattle.checkpoints.proofs.Moments.{goes_on, leaves_unchanged, of_each_err, reads_on, settled_changes}
 use Rattle.checkpoints.proofs.deleting.delete.Goals as goal
 

@@ -1,6 +1,6 @@
 use Rattle.std.proofs.Common.{◌≡◌, ap, ◌∙◌}
 use Rattle.conf_doc.specs.Trees.{document}
-use Rattle.conf_doc.proofs.Equal.{pairs-members_of}
+use Rattle.conf_doc.proofs.Equalities.{pairs-members_of}
 use Rattle.checkpoints.specs.Formats.{members_in}
 use Rattle.checkpoints.proofs.format.take_config.Goals as goal
 

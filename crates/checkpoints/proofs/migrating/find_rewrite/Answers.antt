@@ -4,7 +4,7 @@ use Rattle.checkpoints.specs.Migrations.{new_file, old_held}
 use Rattle.checkpoints.specs.Names.{point_file}
 use Rattle.checkpoints.specs.Points.{held, points}
 use Rattle.checkpoints.specs.Rewrites.{IsNewText, rewrite_view}
-use Rattle.checkpoints.proofs.OldOnes.{by_name, due_there, found_there, none_there}
+use Rattle.checkpoints.proofs.OldCheckpoints.{by_name, due_there, found_there, none_there}
 use Rattle.checkpoints.proofs.migrating.find_rewrite.Goals as goal
 
 pub returns-in-None-clause-found : goal.returns-in-None-clause-found

@@ -3,8 +3,8 @@ use Rattle.std.proofs.lemmas.Result.{err_from_is_err_and}
 use Rattle.checkpoints.specs.Names.{is_good_name}
 use Rattle.checkpoints.specs.declared.errors.PointError.TheVariants.{Disk}
 use Rattle.checkpoints.proofs.Counting.{err_too, rose_later}
-use Rattle.checkpoints.proofs.NumbersListed.{of_item}
-use Rattle.checkpoints.proofs.OldOnes.{all_found, none_found, none_due, one_found, one_due}
+use Rattle.checkpoints.proofs.NumberListings.{of_item}
+use Rattle.checkpoints.proofs.OldCheckpoints.{all_found, none_found, none_due, one_found, one_due}
 use Rattle.checkpoints.proofs.ReadCalls.{reads_both, reads_none}
 use Rattle.checkpoints.proofs.migrating.find_rewrites.Goals as goal
 

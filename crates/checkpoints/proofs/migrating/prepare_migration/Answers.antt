@@ -4,7 +4,7 @@ use Rattle.host_core.specs.State.{State}
 use Rattle.checkpoints.specs.Migrations.{IsDue, NewFile}
 use Rattle.std.proofs.lemmas.Result.{IfOk-weaker}
 use Rattle.checkpoints.proofs.Counting.{rose_later}
-use Rattle.checkpoints.proofs.OldOnes.{migration_found}
+use Rattle.checkpoints.proofs.OldCheckpoints.{migration_found}
 use Rattle.checkpoints.proofs.ReadCalls.{reads_both}
 use Rattle.checkpoints.proofs.migrating.prepare_migration.Goals as goal
 

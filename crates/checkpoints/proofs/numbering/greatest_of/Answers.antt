@@ -3,7 +3,7 @@ use Rattle.conf_doc.proofs.Lists.{take_step}
 use Rattle.checkpoints.specs.Answers.{numbered_view}
 use Rattle.checkpoints.specs.Numbers.{greatest}
 use Rattle.checkpoints.specs.Reads.{greater}
-use Rattle.checkpoints.proofs.NumbersListed.{greatest_more}
+use Rattle.checkpoints.proofs.NumberListings.{greatest_more}
 use Rattle.checkpoints.proofs.numbering.greatest_of.Goals as goal
 
 pub loop-numbered-preserved : goal.loop-numbered-preserved

@@ -1,5 +1,5 @@
 use Rattle.checkpoints.proofs.Counting.{rose_later}
-use Rattle.checkpoints.proofs.NumbersListed.{numbers_listed}
+use Rattle.checkpoints.proofs.NumberListings.{numbers_listed}
 use Rattle.checkpoints.proofs.ReadCalls.{reads_both}
 use Rattle.checkpoints.proofs.numbering.numbers.Goals as goal
 

@@ -3,7 +3,7 @@ use Rattle.std.proofs.lemmas.Result.{err_from_is_err_and}
 use Rattle.checkpoints.specs.Names.{is_good_name}
 use Rattle.checkpoints.specs.declared.errors.PointError.TheVariants.{Disk}
 use Rattle.checkpoints.proofs.Counting.{err_too, rose_later}
-use Rattle.checkpoints.proofs.NumbersListed.{all_read, none_read, of_item, one_read}
+use Rattle.checkpoints.proofs.NumberListings.{all_read, none_read, of_item, one_read}
 use Rattle.checkpoints.proofs.ReadCalls.{reads_both, reads_none}
 use Rattle.checkpoints.proofs.numbering.read_numbers.Goals as goal
 

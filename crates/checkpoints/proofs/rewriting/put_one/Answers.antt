@@ -4,7 +4,7 @@ use Rattle.conf_store.specs.Changes.{Changes}
 use Rattle.conf_store.specs.Puts.{IsPutOrNot, after_put}
 use Rattle.checkpoints.specs.Names.{point_file}
 use Rattle.checkpoints.specs.Rewrites.{rewrite_view}
-use Rattle.checkpoints.proofs.FilesAnew.{changes_anew, leaves_anew, settles_anew}
+use Rattle.checkpoints.proofs.FileRewrites.{changes_anew, leaves_anew, settles_anew}
 use Rattle.checkpoints.proofs.Moments.{AtAnyMoment}
 use Rattle.checkpoints.proofs.rewriting.put_one.Goals as goal
 

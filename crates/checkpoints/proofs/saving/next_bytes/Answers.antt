@@ -1,4 +1,4 @@
-use Rattle.checkpoints.proofs.NumbersListed.{next_text_is}
+use Rattle.checkpoints.proofs.NumberListings.{next_text_is}
 use Rattle.checkpoints.proofs.saving.next_bytes.Goals as goal
 
 pub returns-clause-text : goal.returns-clause-text

@@ -4,7 +4,7 @@ use Rattle.checkpoints.specs.Reads.{IsNextText}
 use Rattle.checkpoints.specs.declared.errors.PointError.TheVariants.{Disk}
 use Rattle.std.proofs.lemmas.Result.{err_from_is_err_and}
 use Rattle.checkpoints.proofs.Counting.{err_too, rose_later}
-use Rattle.checkpoints.proofs.NumbersListed.{of_numbering, saves_not, saves_there}
+use Rattle.checkpoints.proofs.NumberListings.{of_numbering, saves_not, saves_there}
 use Rattle.checkpoints.proofs.ReadCalls.{reads_both}
 use Rattle.checkpoints.proofs.saving.prepare_point.Goals as goal
 

@@ -4,7 +4,7 @@ use Rattle.conf_store.specs.Changes.{Changes}
 use Rattle.conf_store.specs.Puts.{IsPutOrNot, after_put}
 use Rattle.checkpoints.specs.Changes.{IsSavedOrNot, LeavesOf}
 use Rattle.checkpoints.specs.Names.{point_file}
-use Rattle.checkpoints.proofs.Changed.{not_saved, saved_told, saves}
+use Rattle.checkpoints.proofs.FileChanges.{not_saved, saved_told, saves}
 use Rattle.checkpoints.proofs.Moments.{AtAnyMoment, changes_on, changes_weaker, leaves_unchanged, of_each_err, reads_on}
 use Rattle.checkpoints.proofs.saving.save.Goals as goal
 

@@ -1,7 +1,7 @@
 use Rattle.std.proofs.Common.{ℕ, List, subst}
 use Rattle.host_core.specs.MemoryHost.{faulty_by}
 use Rattle.command_runs.specs.Runs.{IsPromised, IsPromisedInScope}
-use Rattle.command_runs.proofs.Promising.{goes_by, promised_by, scoped_by}
+use Rattle.command_runs.proofs.CommandPromises.{goes_by, promised_by, scoped_by}
 use Rattle.command_runs.proofs.faulty.run_with.Goals as goal
 
 pub returns : goal.returns

@@ -4,7 +4,7 @@ use Rattle.std.proofs.lemmas.Iterator.Adapters.{YieldsList-from_vec}
 use Rattle.std.proofs.lemmas.Iterator.Consumers.{YieldsList-end}
 use Rattle.command_runs.specs.Runs.{AreRun, AreUnscoped}
 use Rattle.command_runs.specs.declared.stops.Stop.{Stop}
-use Rattle.command_runs.proofs.Added.{added_leads, added_runs, none_lead, none_run}
+use Rattle.command_runs.proofs.CommandLists.{added_leads, added_runs, none_lead, none_run}
 use Rattle.command_runs.proofs.lists.run_stops.Goals as goal
 
 pub loop-stop-init : goal.loop-stop-init

@@ -1,7 +1,7 @@
 use Rattle.std.proofs.Common.{ℕ, List, ◌∙◌, ap, drop, length}
 use Rattle.host_core.specs.MemoryHost.{files_of}
 use Rattle.command_runs.specs.Noted.{rise}
-use Rattle.command_runs.proofs.Leading.{run_leads}
+use Rattle.command_runs.proofs.NextConfigurations.{run_leads}
 use Rattle.command_runs.proofs.NotedRuns.{run_is}
 use Rattle.command_runs.proofs.running.run_stop.Goals as goal
 

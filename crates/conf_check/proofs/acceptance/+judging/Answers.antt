@@ -1,6 +1,6 @@
 use Rattle.std.proofs.Common.{◌≡◌, true, ◌∙◌, arith}
 use Rattle.conf_check.specs.declared.acceptance.Verdict.TheVariants.{Refused}
-use Rattle.conf_check.proofs.Judged.{member_weight, judged_after, judged_past}
+use Rattle.conf_check.proofs.UnionVerdicts.{member_weight, judged_after, judged_past}
 use Rattle.conf_check.proofs.acceptance.+judging.Goals as goal
 
 pub judge_any-judge-verdict-requires : goal.judge_any-judge-verdict-requires

@@ -1,6 +1,6 @@
 use Rattle.std.proofs.Common.{refl}
 use Rattle.std.proofs.lemmas.Bool.{false≢true}
-use Rattle.conf_check.proofs.Shaped.{belongs_here, belongs_nowhere}
+use Rattle.conf_check.proofs.TableShapes.{belongs_here, belongs_nowhere}
 use Rattle.conf_check.proofs.acceptance.is_of_shape.Goals as goal
 
 pub returns-in-Some : goal.returns-in-Some

@@ -1,5 +1,5 @@
 use Rattle.conf_check.specs.Belongings.{AreBelongings-once}
-use Rattle.conf_check.proofs.BelongingsTold.{belongings_told}
+use Rattle.conf_check.proofs.ShapeDecisions.{belongings_told}
 use Rattle.conf_check.proofs.belongings.belongings_are_one.Goals as goal
 
 pub returns-clause-there : goal.returns-clause-there

@@ -1,5 +1,5 @@
 use Rattle.yang_types.specs.DataTypes.{data_type}
-use Rattle.conf_check.proofs.Judged.{refused_unwanted}
+use Rattle.conf_check.proofs.UnionVerdicts.{refused_unwanted}
 use Rattle.conf_check.proofs.first_wants.want_of.Goals as goal
 
 pub returns-in-Refused : goal.returns-in-Refused

@@ -6,7 +6,7 @@ use Rattle.conf_check.specs.Rows.{IsEntryAt}
 use Rattle.conf_check.specs.WantRuns.{IsWantAhead}
 use Rattle.conf_check.specs.Wants.{IsWantAt}
 use Rattle.conf_check.specs.declared.want_iter.WantIter.{WantIter}
-use Rattle.conf_check.proofs.WantsAhead.{absent_ahead, entry_ahead}
+use Rattle.conf_check.proofs.RemainingWants.{absent_ahead, entry_ahead}
 use Rattle.conf_check.proofs.want_runs.entry_wants.Goals as goal
 use Rattle.conf_check.proofs.want_runs.entry_wants.Goals.{in-Some, in-None}
 

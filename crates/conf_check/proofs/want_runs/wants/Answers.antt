@@ -1,6 +1,6 @@
 use Rattle.std.proofs.Common.{sym, subst}
 use Rattle.conf_check.specs.Wants.{IsWantAt}
-use Rattle.conf_check.proofs.WantsAhead.{all_ahead}
+use Rattle.conf_check.proofs.RemainingWants.{all_ahead}
 use Rattle.conf_check.proofs.want_runs.wants.Goals as goal
 
 pub returns-clause-ahead : goal.returns-clause-ahead

@@ -1,6 +1,6 @@
 use Rattle.std.proofs.Common.{ap, sym, true≢false, ◌∙◌}
 use Rattle.conf_doc.specs.Reading.{json_answer}
-use Rattle.conf_doc.proofs.Parsed.{json_read, json_unread}
+use Rattle.conf_doc.proofs.JsonValues.{json_read, json_unread}
 use Rattle.conf_doc.proofs.reading.json_value.Goals as goal
 
 pub returns-in-Ok : goal.returns-in-Ok

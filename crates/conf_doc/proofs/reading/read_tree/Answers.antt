@@ -2,7 +2,7 @@ use Rattle.std.proofs.Common.{sym, subst}
 use Rattle.host_core.specs.Answers.{Gives}
 use Rattle.conf_doc.specs.Reading.{json, json_checked, read_fault}
 use Rattle.conf_doc.specs.Trees.{document}
-use Rattle.conf_doc.proofs.Parsed.{answered, unanswered}
+use Rattle.conf_doc.proofs.JsonValues.{answered, unanswered}
 use Rattle.conf_doc.proofs.reading.read_tree.Goals as goal
 
 pub returns-in-Ok : goal.returns-in-Ok

@@ -1,5 +1,5 @@
 use Rattle.std.proofs.Common.{◌∙◌, sym, refl, arith}
-use Rattle.conf_doc.proofs.Equal.{all_same}
+use Rattle.conf_doc.proofs.Equalities.{all_same}
 use Rattle.conf_doc.proofs.sameness.same_parts.Goals as goal
 
 pub returns : goal.returns

@@ -1,5 +1,5 @@
 use Rattle.conf_doc.specs.Shared.{pair_of}
-use Rattle.conf_doc.proofs.Compared.{clones-map}
+use Rattle.conf_doc.proofs.ItemMaps.{clones-map}
 use Rattle.conf_doc.proofs.sorted.share.Goals as goal
 
 pub returns : goal.returns

@@ -1,7 +1,7 @@
 use Rattle.std.proofs.Common.{◌≤◌, ap, ◌∙◌, sym, refl, arith}
 use Rattle.conf_doc.specs.Document.{items_of, members_of, weight, items_weight, members_weight}
 use Rattle.conf_doc.specs.Trees.{document}
-use Rattle.conf_doc.proofs.Equal.{both_lists, both_maps, all_same, all_same_pairs, item_light, member_light}
+use Rattle.conf_doc.proofs.Equalities.{both_lists, both_maps, all_same, all_same_pairs, item_light, member_light}
 use Rattle.conf_doc.proofs.tree_copies.+sameness.Goals as goal
 
 pub same_items-same_trees-requires : goal.same_items-same_trees-requires

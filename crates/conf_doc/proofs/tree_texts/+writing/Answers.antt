@@ -7,7 +7,7 @@ use Rattle.conf_doc.specs.Texts.{document_tokens}
 use Rattle.conf_doc.specs.Tokens.{opened_items, opened_members}
 use Rattle.conf_doc.specs.Trees.{document, named_document}
 use Rattle.conf_doc.proofs.Lists.{take_step}
-use Rattle.conf_doc.proofs.Sound.{sound_items, sound_members, sound_object}
+use Rattle.conf_doc.proofs.SoundTrees.{sound_items, sound_members, sound_object}
 use Rattle.conf_doc.proofs.Tokens.{item_lighter, item_written, items_written, member_lighter, member_written, members_written}
 use Rattle.conf_doc.proofs.tree_texts.+writing.Goals as goal
 

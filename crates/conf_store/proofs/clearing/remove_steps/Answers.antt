@@ -4,7 +4,7 @@ use Rattle.conf_store.specs.Changes.{Settles}
 use Rattle.conf_store.specs.Clearing.{IsClearing, IsDone, IsDoneOrNot, KeepsRest}
 use Rattle.conf_store.proofs.Counting.{on_err, rises_on, stays}
 use Rattle.conf_store.proofs.Moments.{begins, changes_behind, joins, settles_behind}
-use Rattle.conf_store.proofs.StepsTaken.{at_first, may_remove, next_first, one_less, rest_itself, rest_meanwhile}
+use Rattle.conf_store.proofs.StepRemovals.{at_first, may_remove, next_first, one_less, rest_itself, rest_meanwhile}
 use Rattle.conf_store.proofs.clearing.remove_steps.Goals as goal
 
 pub loop-name-init : goal.loop-name-init

@@ -1,5 +1,5 @@
 use Rattle.std.specs.Vec.Iter.{into_iter_items}
-use Rattle.conf_store.proofs.NamesKept.{NamesWalk}
+use Rattle.conf_store.proofs.StepNameWalks.{NamesWalk}
 use Rattle.conf_store.proofs.folder_files.keep_steps.Given as goal
 
 abbrev pub invariant-loop-name : goal.invariant-loop-name

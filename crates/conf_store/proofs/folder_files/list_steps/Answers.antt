@@ -1,4 +1,4 @@
-use Rattle.conf_store.proofs.NamesKept.{kept_pass}
+use Rattle.conf_store.proofs.StepNameWalks.{kept_pass}
 use Rattle.conf_store.proofs.folder_files.list_steps.Goals as goal
 
 pub returns-in_ok-keep_steps-in-Ok-clause-names : goal.returns-in_ok-keep_steps-in-Ok-clause-names

@@ -4,7 +4,7 @@ use Rattle.conf_store.specs.Puts.{IsPutOrNot}
 use Rattle.conf_store.proofs.Counting.{on_err, stays}
 use Rattle.conf_store.proofs.FoldStages.{put_begins, put_keeps, there_begins}
 use Rattle.conf_store.proofs.Moments.{begins, changes_weaker, weakens}
-use Rattle.conf_store.proofs.Standing.{keeps_itself}
+use Rattle.conf_store.proofs.FoldResults.{keeps_itself}
 use Rattle.conf_store.proofs.folding.begin_fold.Goals as goal
 
 -- the folded file can't be put

@@ -1,6 +1,6 @@
 use Rattle.conf_doc.specs.Trees.{document}
 use Rattle.patch_core.specs.Operation.{operations}
-use Rattle.conf_store.proofs.KeepsShape.{patch_keeps}
+use Rattle.conf_store.proofs.ShapePreservation.{patch_keeps}
 use Rattle.conf_store.proofs.steps_read.perform_step.Goals as goal
 
 pub test_step-requires : goal.test_step-requires

@@ -5,7 +5,7 @@ use Rattle.gcu_requests.specs.WorkAsked.{change_asked}
 use Rattle.gcu_requests.proofs.Finding.{always_refuses}
 use Rattle.gcu_engine.proofs.Answering.{refused_cause, said_to}
 use Rattle.gcu_engine.proofs.Naming.{answers_wider, complete_wider, early_wider, leaves_wider, misnamed_says}
-use Rattle.gcu_engine.proofs.ReadyOrNot.{early_leaves, refused_early}
+use Rattle.gcu_engine.proofs.Readiness.{early_leaves, refused_early}
 use Rattle.gcu_engine.proofs.change.change.Goals as goal
 
 -- ---- a target that isn't refused

@@ -4,7 +4,7 @@ use Rattle.gcu_engine.proofs.Causes.{unsolved_cause}
 use Rattle.gcu_engine.proofs.Changes.{cause_from, change_answers}
 use Rattle.gcu_engine.proofs.Completing.{completes}
 use Rattle.gcu_engine.proofs.PlanSaying.{end_cause}
-use Rattle.gcu_engine.proofs.ReadyOrNot.{change_leaves, closes_now, early_leaves, line_leaves, said_ready, settled_now, stands_now}
+use Rattle.gcu_engine.proofs.Readiness.{change_leaves, closes_now, early_leaves, line_leaves, said_ready, settled_now, stands_now}
 use Rattle.gcu_engine.proofs.change.change_named.Goals as goal
 
 -- ---- what the change needs

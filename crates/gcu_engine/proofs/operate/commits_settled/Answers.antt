@@ -1,6 +1,6 @@
 use Rattle.std.proofs.lemmas.Result.{err_from_is_err_and}
 use Rattle.gcu_engine.proofs.PlanSaying.{refuses_ends}
-use Rattle.gcu_engine.proofs.ReadyOrNot.{memory_ends, run_ready, script_missed}
+use Rattle.gcu_engine.proofs.Readiness.{memory_ends, run_ready, script_missed}
 use Rattle.gcu_engine.proofs.operate.commits_settled.Goals as goal
 
 -- something is refused

@@ -4,7 +4,7 @@ use Rattle.conf_doc.specs.Document.{items_of, items_weight, members_of, members_
 use Rattle.conf_doc.specs.Texts.{document_tokens}
 use Rattle.conf_doc.specs.Tokens.{opened_items, opened_members}
 use Rattle.conf_doc.specs.Trees.{document}
-use Rattle.conf_doc.proofs.Equal.{item_light, member_light}
+use Rattle.conf_doc.proofs.Equalities.{item_light, member_light}
 use Rattle.conf_doc.proofs.Lists.{take_more}
 use Rattle.conf_doc.proofs.Tokens.{item_written, member_written}
 use Rattle.gcu_output.proofs.TreeTexts.{itself, list_written, member_at, object_written}

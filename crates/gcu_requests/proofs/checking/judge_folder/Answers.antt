@@ -1,7 +1,7 @@
 use Rattle.std.proofs.Common.{Ok, Err, refl}
 use Rattle.std.proofs.lemmas.Result.{err_from_is_err_and}
 use Rattle.gcu_output.proofs.Elapsing.{elapses_unchanged}
-use Rattle.gcu_requests.proofs.Checked.{judged, no_config, no_models}
+use Rattle.gcu_requests.proofs.ValidityFinding.{judged, no_config, no_models}
 use Rattle.gcu_requests.proofs.checking.judge_folder.Goals as goal
 
 -- there are no models

@@ -1,5 +1,5 @@
 use Rattle.std.proofs.lemmas.Result.{err_from_is_err_and}
-use Rattle.gcu_requests.proofs.Checked.{models_read, no_texts}
+use Rattle.gcu_requests.proofs.ValidityFinding.{models_read, no_texts}
 use Rattle.gcu_requests.proofs.Finding.{always_refuses}
 use Rattle.gcu_requests.proofs.models.input_models.Goals as goal
 

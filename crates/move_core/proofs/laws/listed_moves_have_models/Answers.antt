@@ -1,4 +1,4 @@
-use Rattle.move_core.proofs.Modelled.{listed_modelled}
+use Rattle.move_core.proofs.ModelledTables.{listed_modelled}
 use Rattle.move_core.proofs.laws.listed_moves_have_models.Goals as goal
 
 pub returns : goal.returns

@@ -1,7 +1,7 @@
 use Rattle.std.proofs.Common.{◌∙◌, arith}
 use Rattle.std.specs.Ordering.{nat_cmp}
 use Rattle.host_core.specs.Names.{name_cmp}
-use Rattle.move_core.proofs.Compared.{decided_at, decided_by_lengths}
+use Rattle.move_core.proofs.ListOrders.{decided_at, decided_by_lengths}
 use Rattle.move_core.proofs.listed_order.cmp_paths.Goals as goal
 
 pub returns-in_default : goal.returns-in_default

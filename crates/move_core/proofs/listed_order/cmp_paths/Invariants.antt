@@ -1,5 +1,5 @@
 use Rattle.host_core.specs.Names.{name_cmp}
-use Rattle.move_core.proofs.Compared.{AreTied}
+use Rattle.move_core.proofs.ListOrders.{AreTied}
 use Rattle.move_core.proofs.listed_order.cmp_paths.Given as goal
 
 abbrev pub invariant-loop-i : goal.invariant-loop-i

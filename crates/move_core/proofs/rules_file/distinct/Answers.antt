@@ -3,7 +3,7 @@ use Rattle.move_core.specs.RulesFile.{names_differ}
 use Rattle.move_core.specs.declared.errors.RulesWhy.TheVariants.{Services}
 use Rattle.move_core.specs.declared.settings.ServiceTie.{ServiceTie}
 use Rattle.move_core.proofs.Listing.{drop_step, or_fails-true, or_fails-false}
-use Rattle.move_core.proofs.Seen.{Seen, seen_none, seen_more, seen_twice}
+use Rattle.move_core.proofs.ServiceNames.{Seen, seen_none, seen_more, seen_twice}
 use Rattle.move_core.proofs.rules_file.distinct.Goals as goal
 
 -- the service before an index, and those from it on

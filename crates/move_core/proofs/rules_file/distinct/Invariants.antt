@@ -1,5 +1,5 @@
 use Rattle.std.proofs.Common.{◌≤◌, length, drop}
-use Rattle.move_core.proofs.Seen.{Seen}
+use Rattle.move_core.proofs.ServiceNames.{Seen}
 use Rattle.move_core.proofs.rules_file.distinct.Given as goal
 
 abbrev pub invariant-loop-i : goal.invariant-loop-i

@@ -1,5 +1,5 @@
 use Rattle.serde_json.specs.View.{view}
-use Rattle.move_core.proofs.Filled.{settings_named}
+use Rattle.move_core.proofs.NonemptyNames.{settings_named}
 use Rattle.move_core.proofs.rules_file.read_rules.Goals as goal
 
 pub returns-clause-named : goal.returns-clause-named

@@ -1,4 +1,4 @@
-use Rattle.move_examples.proofs.Defined.{all_defined}
+use Rattle.move_examples.proofs.DefinedMoves.{all_defined}
 use Rattle.move_examples.proofs.boxes.listed_moves.Goals as goal
 
 pub returns-clause-defined : goal.returns-clause-defined

@@ -1,7 +1,7 @@
 use Rattle.std.proofs.Common.{◌≡◌, true, sym, subst}
 use Rattle.std.specs.List.{Contains}
 use Rattle.std.proofs.lemmas.Result.{on_ok_weaker}
-use Rattle.move_extend.proofs.Finding.{finds_pushed}
+use Rattle.move_extend.proofs.DistinctLists.{finds_pushed}
 use Rattle.move_extend.proofs.found.add_move.Goals as goal
 
 pub returns : goal.returns

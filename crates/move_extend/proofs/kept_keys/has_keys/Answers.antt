@@ -1,6 +1,6 @@
 use Rattle.std.proofs.Common.{map, sym, arith}
 use Rattle.conf_doc.proofs.Lists.{length-map}
-use Rattle.move_extend.proofs.Finding.{there_at}
+use Rattle.move_extend.proofs.DistinctLists.{there_at}
 use Rattle.move_extend.proofs.kept_keys.has_keys.Goals as goal
 
 pub returns : goal.returns

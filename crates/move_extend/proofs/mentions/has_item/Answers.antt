@@ -1,8 +1,8 @@
 use borrow.Author.Count.{below_more}
 use Rattle.std.proofs.Common.{◌≡◌, ℕ, List, length, map, Some, slice_get, Contains, sym, ap, subst, ◌∙◌, arith}
 use Rattle.conf_doc.proofs.Edits.{same_Some}
-use Rattle.move_extend.proofs.Among.{among}
-use Rattle.move_extend.proofs.Finding.{there_at}
+use Rattle.move_extend.proofs.TextSearches.{among}
+use Rattle.move_extend.proofs.DistinctLists.{there_at}
 use Rattle.move_extend.proofs.mentions.has_item.Goals as goal
 
 pub loop-item-preserved : goal.loop-item-preserved

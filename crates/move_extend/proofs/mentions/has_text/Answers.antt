@@ -1,6 +1,6 @@
 use Rattle.std.proofs.Common.{◌≡◌, ◌∷◌, [], map, Contains, sym, subst, ◌∙◌}
 use Rattle.move_extend.specs.Mentions.{texts_of_value}
-use Rattle.move_extend.proofs.Among.{alone, among}
+use Rattle.move_extend.proofs.TextSearches.{alone, among}
 use Rattle.move_extend.proofs.mentions.has_text.Goals as goal
 
 pub returns-in-Text : goal.returns-in-Text

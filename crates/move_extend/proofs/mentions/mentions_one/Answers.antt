@@ -4,7 +4,7 @@ use Rattle.conf_doc.proofs.Edits.{same_Some}
 use Rattle.conf_doc.proofs.Lists.{length-map}
 use Rattle.conf_doc.specs.declared.configuration.Value.{Value}
 use Rattle.move_extend.specs.Mentions.{texts_of_value}
-use Rattle.move_extend.proofs.Among.{within}
+use Rattle.move_extend.proofs.TextSearches.{within}
 use Rattle.move_extend.proofs.mentions.mentions_one.Goals as goal
 
 pub loop-i-preserved : goal.loop-i-preserved

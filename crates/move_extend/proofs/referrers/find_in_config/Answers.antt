@@ -3,7 +3,7 @@ use Rattle.conf_doc.proofs.Edits.{find_at}
 use Rattle.move_extend.specs.Found.{GivenByOne, Finds}
 use Rattle.move_extend.specs.Mentions.{GivesOfTable}
 use Rattle.move_extend.specs.Referrers.{GivesRemovals}
-use Rattle.move_extend.proofs.Finding.{GivenBefore, appends_found, finds_as, loop_begins, loop_ends, loop_more}
+use Rattle.move_extend.proofs.DistinctLists.{GivenBefore, appends_found, finds_as, loop_begins, loop_ends, loop_more}
 use Rattle.move_extend.proofs.GoneKeys.{of_tables}
 use Rattle.move_extend.proofs.Texts.{pair_at}
 use Rattle.move_extend.proofs.referrers.find_in_config.Goals as goal

@@ -1,6 +1,6 @@
 use Rattle.std.proofs.Common.{refl}
 use Rattle.move_extend.specs.Mentions.{GivesOfEntry, texts_of}
-use Rattle.move_extend.proofs.Finding.{finds_none}
+use Rattle.move_extend.proofs.DistinctLists.{finds_none}
 use Rattle.move_extend.proofs.Texts.{mentioned}
 use Rattle.move_extend.proofs.referrers.find_in_mentioning.Goals as goal
 

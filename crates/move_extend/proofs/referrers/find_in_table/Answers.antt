@@ -3,7 +3,7 @@ use Rattle.conf_doc.proofs.Edits.{find_at}
 use Rattle.conf_doc.proofs.Lists.{length-map}
 use Rattle.conf_doc.specs.Pairs.{find}
 use Rattle.move_extend.specs.Mentions.{GivesOfEntry, GivesOfTable}
-use Rattle.move_extend.proofs.Finding.{finds_none, loop_begins, loop_ends, loop_more}
+use Rattle.move_extend.proofs.DistinctLists.{finds_none, loop_begins, loop_ends, loop_more}
 use Rattle.move_extend.proofs.Leafrefs.{table_unreferred}
 use Rattle.move_extend.proofs.referrers.find_in_table.Goals as goal
 

@@ -1,7 +1,7 @@
 use Rattle.std.proofs.Common.{◌≡◌, ap, sym, ◌∙◌}
 use Rattle.std.proofs.lemmas.Result.{on_ok_weaker}
 use Rattle.move_extend.specs.Mentions.{IsRemovalOf}
-use Rattle.move_extend.proofs.Finding.{finds_as}
+use Rattle.move_extend.proofs.DistinctLists.{finds_as}
 use Rattle.move_extend.proofs.referrers.find_removal.Goals as goal
 
 pub returns-in_ok-removal : goal.returns-in_ok-removal

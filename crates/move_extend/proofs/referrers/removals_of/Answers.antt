@@ -6,7 +6,7 @@ use Rattle.move_core.specs.Extensions.{IsReferrer}
 use Rattle.move_core.specs.Moves.{place, step}
 use Rattle.move_core.specs.Services.{table_of}
 use Rattle.move_extend.specs.Referrers.{GivesRemovals}
-use Rattle.move_extend.proofs.Finding.{appends_as, appends_found, finds_none}
+use Rattle.move_extend.proofs.DistinctLists.{appends_as, appends_found, finds_none}
 use Rattle.move_extend.proofs.GoneKeys.{breaks_parts}
 use Rattle.move_extend.proofs.Leafrefs.{unreferred}
 use Rattle.move_extend.proofs.Removals.{no_removals, referrers}

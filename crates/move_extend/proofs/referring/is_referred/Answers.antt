@@ -3,7 +3,7 @@ use Rattle.std.proofs.Common.{◌≡◌, ℕ, List, map, Some, slice_get, sym, s
 use Rattle.conf_doc.proofs.Edits.{same_Some}
 use Rattle.conf_doc.proofs.Lists.{length-map}
 use Rattle.move_extend.specs.Referring.{MayRefer}
-use Rattle.move_extend.proofs.Finding.{there_at}
+use Rattle.move_extend.proofs.DistinctLists.{there_at}
 use Rattle.move_extend.proofs.referring.is_referred.Goals as goal
 
 pub loop-i-preserved : goal.loop-i-preserved

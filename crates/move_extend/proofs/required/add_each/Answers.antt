@@ -1,6 +1,6 @@
 use Rattle.std.proofs.Common.{arith}
 use Rattle.move_extend.specs.Requireds.{GivesIn}
-use Rattle.move_extend.proofs.Finding.{loop_begins, loop_ends, loop_more, there_at}
+use Rattle.move_extend.proofs.DistinctLists.{loop_begins, loop_ends, loop_more, there_at}
 use Rattle.move_extend.proofs.required.add_each.Goals as goal
 
 pub loop-requiring-init : goal.loop-requiring-init

@@ -1,7 +1,7 @@
 use Rattle.std.proofs.Common.{map, arith}
 use Rattle.conf_doc.proofs.Lists.{length-map}
 use Rattle.move_extend.specs.Requireds.{RulesGive}
-use Rattle.move_extend.proofs.Finding.{loop_begins, loop_ends, loop_more}
+use Rattle.move_extend.proofs.DistinctLists.{loop_begins, loop_ends, loop_more}
 use Rattle.move_extend.proofs.required.add_keys.Goals as goal
 
 pub loop-i-init : goal.loop-i-init

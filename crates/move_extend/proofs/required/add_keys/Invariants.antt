@@ -1,7 +1,7 @@
 use Rattle.std.proofs.Common.{map}
 use Rattle.move_extend.specs.Found.{Finds}
 use Rattle.move_extend.specs.Requireds.{RulesGive}
-use Rattle.move_extend.proofs.Finding.{GivenBefore}
+use Rattle.move_extend.proofs.DistinctLists.{GivenBefore}
 use Rattle.move_extend.proofs.required.add_keys.Given as goal
 
 abbrev pub invariant-loop-i : goal.invariant-loop-i

@@ -1,7 +1,7 @@
 use Rattle.std.proofs.Common.{arith, subst}
 use Rattle.move_extend.specs.Found.{Finds, GivenByOne}
 use Rattle.move_extend.specs.Requireds.{GivesIn, RuleGives}
-use Rattle.move_extend.proofs.Finding.{loop_begins, loop_ends, loop_more, there_at}
+use Rattle.move_extend.proofs.DistinctLists.{loop_begins, loop_ends, loop_more, there_at}
 use Rattle.move_extend.proofs.required.add_rules.Goals as goal
 
 pub loop-rule-init : goal.loop-rule-init

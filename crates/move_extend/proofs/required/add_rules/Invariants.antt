@@ -1,6 +1,6 @@
 use Rattle.move_extend.specs.Found.{Finds}
 use Rattle.move_extend.specs.Requireds.{RuleGives}
-use Rattle.move_extend.proofs.Finding.{GivenBefore}
+use Rattle.move_extend.proofs.DistinctLists.{GivenBefore}
 use Rattle.move_extend.proofs.required.add_rules.Given as goal
 
 abbrev pub invariant-loop-rule : goal.invariant-loop-rule

@@ -5,7 +5,7 @@ use Rattle.move_core.specs.Contexts.{rulebook}
 use Rattle.move_core.specs.Extensions.{IsRequired}
 use Rattle.move_extend.specs.Found.{Finds}
 use Rattle.move_extend.specs.Requireds.{RulesGive, TableGives}
-use Rattle.move_extend.proofs.Finding.{finds_as, finds_both}
+use Rattle.move_extend.proofs.DistinctLists.{finds_as, finds_both}
 use Rattle.move_extend.proofs.Requireds.{required_at, required_in}
 use Rattle.move_extend.proofs.required.add_values.Goals as goal
 

@@ -5,7 +5,7 @@ use Rattle.move_core.specs.Extensions.{IsRequired}
 use Rattle.move_core.specs.Moves.{place}
 use Rattle.move_extend.specs.Found.{Finds}
 use Rattle.move_extend.specs.Requireds.{may_change_one}
-use Rattle.move_extend.proofs.Finding.{appends_found, finds_none}
+use Rattle.move_extend.proofs.DistinctLists.{appends_found, finds_none}
 use Rattle.move_extend.proofs.Requireds.{requires_none}
 use Rattle.move_extend.proofs.required.values_of.Goals as goal
 

@@ -1,6 +1,6 @@
 use Rattle.std.proofs.Common.{sym, ap, ◌∙◌}
 use Rattle.std.specs.Prelude.{option_copied}
-use Rattle.move_gen.proofs.Settled.{none_for_both}
+use Rattle.move_gen.proofs.CommonEntries.{none_for_both}
 use Rattle.move_gen.proofs.entries.count_settled.Goals as goal
 
 pub returns-then-is_of_missing : goal.returns-then-is_of_missing

@@ -1,6 +1,6 @@
 use Rattle.std.proofs.Common.{arith}
 use Rattle.move_gen.specs.Given.{IsOfTable}
-use Rattle.move_gen.proofs.Named.{of_table_told, table_name}
+use Rattle.move_gen.proofs.MoveNames.{of_table_told, table_name}
 use Rattle.move_gen.proofs.Walks.{letters_at, walk_begins, walk_ends, walk_more, walk_stops}
 use Rattle.move_gen.proofs.entries.give_entries.Goals as goal
 

@@ -1,9 +1,9 @@
 use Rattle.std.proofs.Common.{ap, ◌∙◌, arith}
 use Rattle.conf_doc.specs.Pairs.{find}
 use Rattle.move_gen.specs.Giving.{IsOfFirst}
-use Rattle.move_gen.proofs.Appended.{appends_none}
-use Rattle.move_gen.proofs.Named.{key_name}
-use Rattle.move_gen.proofs.Parted.{found_there}
+use Rattle.move_gen.proofs.ListGrowth.{appends_none}
+use Rattle.move_gen.proofs.MoveNames.{key_name}
+use Rattle.move_gen.proofs.PlaceParts.{found_there}
 use Rattle.move_gen.proofs.Walks.{letters_at, walk_ends, walk_more, walk_stops}
 use Rattle.move_gen.proofs.entries.give_in_table.Goals as goal
 

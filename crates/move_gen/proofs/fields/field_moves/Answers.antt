@@ -1,6 +1,6 @@
 use Rattle.move_gen.specs.FieldsOfEntry.{IsFieldOf}
 use Rattle.move_gen.specs.Given.{IsOfFields}
-use Rattle.move_gen.proofs.Appended.{gives_alike}
+use Rattle.move_gen.proofs.ListGrowth.{gives_alike}
 use Rattle.move_gen.proofs.FieldMoves.{of_one_entry}
 use Rattle.move_gen.proofs.fields.field_moves.Goals as goal
 

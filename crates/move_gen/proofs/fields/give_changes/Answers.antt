@@ -1,7 +1,7 @@
 use Rattle.move_core.specs.Generated.{IsFromFields}
 use Rattle.move_gen.specs.Given.{IsChangedEntry, IsOfTable}
 use Rattle.move_gen.specs.Giving.{IsOfSome}
-use Rattle.move_gen.proofs.Appended.{gives_alike}
+use Rattle.move_gen.proofs.ListGrowth.{gives_alike}
 use Rattle.move_gen.proofs.FieldMoves.{of_fields}
 use Rattle.move_gen.proofs.fields.give_changes.Goals as goal
 

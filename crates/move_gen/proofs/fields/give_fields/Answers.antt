@@ -1,6 +1,6 @@
 use Rattle.move_gen.specs.Given.{IsOfFields, IsRemovedField, IsSetField}
 use Rattle.move_gen.specs.Giving.{IsOfSome}
-use Rattle.move_gen.proofs.Appended.{appends_none, gives_both}
+use Rattle.move_gen.proofs.ListGrowth.{appends_none, gives_both}
 use Rattle.move_gen.proofs.FieldMoves.{fields_apart, unchanged}
 use Rattle.move_gen.proofs.fields.give_fields.Goals as goal
 

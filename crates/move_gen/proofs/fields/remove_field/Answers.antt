@@ -1,6 +1,6 @@
 use Rattle.std.proofs.Common.{◌≡◌, Option, Some, None}
 use Rattle.move_gen.specs.Given.{IsRemovedField}
-use Rattle.move_gen.proofs.Appended.{appends_none}
+use Rattle.move_gen.proofs.ListGrowth.{appends_none}
 use Rattle.move_gen.proofs.fields.remove_field.Goals as goal
 
 found : {A : Type 0} (a : A) (o : Option A) → Some a ≡ o → o ≡ None → ⊥

@@ -1,6 +1,6 @@
 use Rattle.std.proofs.Common.{arith}
 use Rattle.move_gen.specs.Given.{IsRemovedField}
-use Rattle.move_gen.proofs.Named.{field_name, removed_field_told}
+use Rattle.move_gen.proofs.MoveNames.{field_name, removed_field_told}
 use Rattle.move_gen.proofs.Walks.{letters_at, walk_begins, walk_ends, walk_more, walk_stops}
 use Rattle.move_gen.proofs.fields.remove_fields.Goals as goal
 

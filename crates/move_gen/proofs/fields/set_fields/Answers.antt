@@ -1,6 +1,6 @@
 use Rattle.std.proofs.Common.{arith}
 use Rattle.move_gen.specs.Given.{IsSetField}
-use Rattle.move_gen.proofs.Named.{field_name, set_field_told}
+use Rattle.move_gen.proofs.MoveNames.{field_name, set_field_told}
 use Rattle.move_gen.proofs.Walks.{letters_at, walk_begins, walk_ends, walk_more, walk_stops}
 use Rattle.move_gen.proofs.fields.set_fields.Goals as goal
 

@@ -1,6 +1,6 @@
 use Rattle.std.proofs.Common.{◌≡◌}
 use Rattle.move_gen.specs.Given.{move_for}
-use Rattle.move_gen.proofs.Appended.{gives_some, some_none}
+use Rattle.move_gen.proofs.ListGrowth.{gives_some, some_none}
 use Rattle.move_gen.proofs.giving.give.Goals as goal
 
 pub returns-in_err-push : goal.returns-in_err-push

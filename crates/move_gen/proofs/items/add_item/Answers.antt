@@ -4,7 +4,7 @@ use Rattle.move_core.specs.declared.moves.Move.TheVariants.{AddItem}
 use Rattle.move_gen.specs.Given.{own_move}
 use Rattle.move_gen.specs.Giving.{Gives}
 use Rattle.move_gen.specs.ItemsGiven.{IsAddedItem}
-use Rattle.move_gen.proofs.Appended.{gives_alike, gives_some, some_none}
+use Rattle.move_gen.proofs.ListGrowth.{gives_alike, gives_some, some_none}
 use Rattle.move_gen.proofs.ItemMoves.{of_item}
 use Rattle.move_gen.proofs.items.add_item.Goals as goal
 

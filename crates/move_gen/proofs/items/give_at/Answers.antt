@@ -1,5 +1,5 @@
 use Rattle.move_gen.specs.ItemsGiven.{IsAddedItem, IsItemAt, IsRemovedItem}
-use Rattle.move_gen.proofs.Appended.{gives_both}
+use Rattle.move_gen.proofs.ListGrowth.{gives_both}
 use Rattle.move_gen.proofs.ItemMoves.{items_apart}
 use Rattle.move_gen.proofs.items.give_at.Goals as goal
 

@@ -2,7 +2,7 @@ use Rattle.move_core.specs.Generated.{IsFromItems}
 use Rattle.move_gen.specs.Given.{IsOfTable}
 use Rattle.move_gen.specs.Giving.{IsOfSome}
 use Rattle.move_gen.specs.ItemsGiven.{IsOfItemsOfEntry}
-use Rattle.move_gen.proofs.Appended.{gives_alike}
+use Rattle.move_gen.proofs.ListGrowth.{gives_alike}
 use Rattle.move_gen.proofs.ItemMoves.{of_items}
 use Rattle.move_gen.proofs.items.give_items.Goals as goal
 

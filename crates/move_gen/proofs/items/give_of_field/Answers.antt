@@ -1,6 +1,6 @@
 use Rattle.std.proofs.Common.{[], ◌∷◌}
 use Rattle.move_gen.specs.ItemsGiven.{IsItemOfField}
-use Rattle.move_gen.proofs.Appended.{appends_none}
+use Rattle.move_gen.proofs.ListGrowth.{appends_none}
 use Rattle.move_gen.proofs.items.give_of_field.Goals as goal
 
 pub returns-then-is_text : goal.returns-then-is_text

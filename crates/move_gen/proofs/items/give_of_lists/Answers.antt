@@ -1,7 +1,7 @@
 use Rattle.std.proofs.Common.{[], ◌∷◌, subst}
 use Rattle.move_gen.specs.Giving.{Gives}
 use Rattle.move_gen.specs.ItemsGiven.{IsItemAt, IsOfItems}
-use Rattle.move_gen.proofs.Appended.{gives_alike}
+use Rattle.move_gen.proofs.ListGrowth.{gives_alike}
 use Rattle.move_gen.proofs.ItemMoves.{of_first}
 use Rattle.move_gen.proofs.items.give_of_lists.Goals as goal
 

@@ -2,7 +2,7 @@ use Rattle.std.proofs.Common.{inl}
 use Rattle.move_core.specs.Generated.{IsFromKeys, IsWhole, key_class}
 use Rattle.move_gen.specs.Given.{IsAddedEntry, IsOfTable, IsRemovedEntry}
 use Rattle.move_gen.specs.Giving.{IsOfSome}
-use Rattle.move_gen.proofs.Appended.{gives_both, gives_some, some_weaker}
+use Rattle.move_gen.proofs.ListGrowth.{gives_both, gives_some, some_weaker}
 use Rattle.move_gen.proofs.KeyMoves.{keys_apart, of_keys}
 use Rattle.move_gen.proofs.keys.give_keys.Goals as goal
 

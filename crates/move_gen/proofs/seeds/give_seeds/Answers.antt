@@ -2,7 +2,7 @@ use Rattle.move_core.specs.Contexts.{rulebook}
 use Rattle.move_core.specs.Generated.{IsFromSeeds, IsSeed, seed_class}
 use Rattle.move_gen.specs.Given.{IsAddedEntry, IsOfTable}
 use Rattle.move_gen.specs.Giving.{IsOfSome}
-use Rattle.move_gen.proofs.Appended.{gives_alike}
+use Rattle.move_gen.proofs.ListGrowth.{gives_alike}
 use Rattle.move_gen.proofs.KeyMoves.{adds_entries}
 use Rattle.move_gen.proofs.seeds.give_seeds.Goals as goal
 

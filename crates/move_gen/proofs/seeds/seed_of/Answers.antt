@@ -3,7 +3,7 @@ use Rattle.conf_doc.specs.Pairs.{IsRising}
 use Rattle.move_core.specs.Contexts.{rulebook}
 use Rattle.move_core.specs.Generated.{IsSeed}
 use Rattle.move_gen.specs.Choosing.{IsSeedOfFirst}
-use Rattle.move_gen.proofs.Chosen.{seed_ends, seed_with, seed_without, whole_seed}
+use Rattle.move_gen.proofs.SeedEntries.{seed_ends, seed_with, seed_without, whole_seed}
 use Rattle.move_gen.proofs.Walks.{letters_at}
 use Rattle.move_gen.proofs.seeds.seed_of.Goals.{then-has_no_want+in_ok-seed, else-has_no_want}
 use Rattle.move_gen.proofs.seeds.seed_of.Goals as goal

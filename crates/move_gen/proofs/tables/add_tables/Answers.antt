@@ -1,6 +1,6 @@
 use Rattle.std.proofs.Common.{arith}
 use Rattle.move_gen.specs.Given.{IsAddedTable}
-use Rattle.move_gen.proofs.Named.{added_table_told, table_name}
+use Rattle.move_gen.proofs.MoveNames.{added_table_told, table_name}
 use Rattle.move_gen.proofs.Walks.{letters_at, walk_begins, walk_ends, walk_more, walk_stops}
 use Rattle.move_gen.proofs.tables.add_tables.Goals as goal
 

@@ -1,7 +1,7 @@
 use Rattle.move_core.specs.Generated.{IsFromTables}
 use Rattle.move_gen.specs.Given.{IsAddedTable, IsRemovedTable}
 use Rattle.move_gen.specs.Giving.{IsOfSome}
-use Rattle.move_gen.proofs.Appended.{gives_both}
+use Rattle.move_gen.proofs.ListGrowth.{gives_both}
 use Rattle.move_gen.proofs.TableMoves.{of_tables, tables_apart}
 use Rattle.move_gen.proofs.tables.give_tables.Goals as goal
 

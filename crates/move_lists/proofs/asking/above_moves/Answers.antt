@@ -4,7 +4,7 @@ use Rattle.move_core.specs.Contexts.{rulebook}
 use Rattle.move_core.specs.Extensions.{IsExtension}
 use Rattle.move_core.specs.declared.moves.Move.{Move}
 use Rattle.move_lists.specs.Questions.{FollowsIn}
-use Rattle.move_lists.proofs.Gathered.{first_given}
+use Rattle.move_lists.proofs.BoxResults.{first_given}
 use Rattle.move_lists.proofs.asking.above_moves.Goals as goal
 
 pub returns-clause-each : goal.returns-clause-each

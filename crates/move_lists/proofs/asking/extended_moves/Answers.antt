@@ -5,7 +5,7 @@ use Rattle.move_core.specs.Extensions.{IsExtension, IsUpper}
 use Rattle.move_core.specs.declared.moves.Move.{Move}
 use Rattle.move_lists.specs.Questions.{FollowsIn}
 use Rattle.move_lists.specs.declared.asking.Question.{Question}
-use Rattle.move_lists.proofs.Gathered.{first_extended, four_extended, gathered_after}
+use Rattle.move_lists.proofs.BoxResults.{first_extended, four_extended, gathered_after}
 use Rattle.move_lists.proofs.asking.extended_moves.Goals as goal
 
 -- what the place above becomes, where it is known

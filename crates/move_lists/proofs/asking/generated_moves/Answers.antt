@@ -1,7 +1,7 @@
 use Rattle.move_core.specs.Contexts.{rulebook}
 use Rattle.move_core.specs.Generated.{IsGenerated}
 use Rattle.move_lists.specs.Questions.{IsOffered}
-use Rattle.move_lists.proofs.Gathered.{IsAll, five_generated, gathered_five}
+use Rattle.move_lists.proofs.BoxResults.{IsAll, five_generated, gathered_five}
 use Rattle.move_lists.proofs.asking.generated_moves.Goals as goal
 
 pub returns-clause-each : goal.returns-clause-each

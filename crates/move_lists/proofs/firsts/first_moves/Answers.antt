@@ -3,8 +3,8 @@ use Rattle.std.specs.List.{Contains}
 use Rattle.move_core.specs.Contexts.{rulebook}
 use Rattle.move_core.specs.Listed.{IsGeneratedMove}
 use Rattle.move_lists.specs.Firsts.{IsTold}
-use Rattle.move_lists.proofs.Leaving.{all_leave_goals}
-use Rattle.move_lists.proofs.Told.{both_told}
+use Rattle.move_lists.proofs.FieldEffects.{all_leave_goals}
+use Rattle.move_lists.proofs.MoveFacts.{both_told}
 use Rattle.move_lists.proofs.firsts.first_moves.Goals as goal
 
 pub returns-clause-firsts : goal.returns-clause-firsts

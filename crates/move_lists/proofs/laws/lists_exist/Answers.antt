@@ -1,4 +1,4 @@
-use Rattle.move_lists.proofs.Existing.{surely_listed}
+use Rattle.move_lists.proofs.ListExistence.{surely_listed}
 use Rattle.move_lists.proofs.laws.lists_exist.Goals as goal
 
 pub returns : goal.returns

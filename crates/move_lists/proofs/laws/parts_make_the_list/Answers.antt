@@ -1,4 +1,4 @@
-use Rattle.move_lists.proofs.Joined.{parts_joined}
+use Rattle.move_lists.proofs.PartConcatenation.{parts_joined}
 use Rattle.move_lists.proofs.laws.parts_make_the_list.Goals as goal
 
 pub returns : goal.returns

@@ -1,6 +1,6 @@
 use Rattle.std.proofs.Common.{refl, sym, subst, ◌∙◌, arith}
 use Rattle.move_lists.specs.Ranking.{AreToPart}
-use Rattle.move_lists.proofs.Ended.{next_listed, none_listed}
+use Rattle.move_lists.proofs.PartLists.{next_listed, none_listed}
 use Rattle.move_lists.proofs.listing.add_parts.Goals as goal
 
 pub loop-done-init : goal.loop-done-init

@@ -3,7 +3,7 @@ use Rattle.move_lists.specs.Ranking.{chosen_moves}
 use Rattle.move_lists.specs.Reaches.{HoldsAll, IsClosed, IsLedTo}
 use Rattle.move_lists.specs.declared.ranking.Choice.TheVariants.{Early}
 use Rattle.move_lists.proofs.Chains.{none_closed}
-use Rattle.move_lists.proofs.Chosen.{chosen_first}
+use Rattle.move_lists.proofs.MoveChoices.{chosen_first}
 use Rattle.move_lists.proofs.listing.early_reach.Goals as goal
 
 if_both : {T E : Type 0} {P Q R : T → Type 0} (r : Result T E) → ((x : T) → P x → Q x → R x) → IfOk r P → IfOk r Q → IfOk r R

@@ -4,7 +4,7 @@ use Rattle.std.proofs.lemmas.Iterator.Adapters.{YieldsList-from_vec}
 use Rattle.std.proofs.lemmas.Iterator.Consumers.{YieldsList-end, YieldsList-so_far, YieldsList-turn}
 use Rattle.move_lists.specs.Ranking.{AreSorted}
 use Rattle.move_lists.proofs.FirstChains.{IsSeen, has_firsts, seen_more, seen_none}
-use Rattle.move_lists.proofs.Walked.{walked}
+use Rattle.move_lists.proofs.PartialWalks.{walked}
 use Rattle.move_lists.proofs.listing.first_of_each.Goals as goal
 
 if_ok : {T E : Type 0} {P Q : T → Type 0} (r : Result T E) → ((x : T) → P x → Q x) → IfOk r P → IfOk r Q

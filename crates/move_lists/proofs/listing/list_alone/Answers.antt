@@ -1,6 +1,6 @@
 use Rattle.std.proofs.Common.{Result, Ok, Err, IfOk, subst}
 use Rattle.move_lists.specs.Ranking.{AreInOrder}
-use Rattle.move_lists.proofs.Ended.{alone_listed}
+use Rattle.move_lists.proofs.PartLists.{alone_listed}
 use Rattle.move_lists.proofs.listing.list_alone.Goals as goal
 
 if_ok : {T E : Type 0} {P Q : T → Type 0} (r : Result T E) → ((x : T) → P x → Q x) → IfOk r P → IfOk r Q

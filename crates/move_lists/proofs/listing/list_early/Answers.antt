@@ -2,7 +2,7 @@ use Rattle.std.proofs.Common.{[], Result, Ok, Err, IfOk, subst}
 use Rattle.move_lists.specs.Ranking.{chosen_moves}
 use Rattle.move_lists.specs.Reaches.{AreNoted}
 use Rattle.move_lists.specs.declared.ranking.Choice.TheVariants.{Other}
-use Rattle.move_lists.proofs.Ended.{early_listed}
+use Rattle.move_lists.proofs.PartLists.{early_listed}
 use Rattle.move_lists.proofs.listing.list_early.Goals as goal
 
 if_ok : {T E : Type 0} {P Q : T → Type 0} (r : Result T E) → ((x : T) → P x → Q x) → IfOk r P → IfOk r Q

@@ -1,8 +1,8 @@
 use Rattle.std.proofs.Common.{refl, subst, arith}
 use Rattle.move_lists.specs.Ranking.{IsReachFor}
 use Rattle.move_lists.specs.declared.ranking.Choice.TheVariants.{Early}
-use Rattle.move_lists.proofs.Chosen.{chosen_first}
-use Rattle.move_lists.proofs.Ended.{few_reach}
+use Rattle.move_lists.proofs.MoveChoices.{chosen_first}
+use Rattle.move_lists.proofs.PartLists.{few_reach}
 use Rattle.move_lists.proofs.listing.list_extended.Goals as goal
 
 pub returns-in_err-early-clause-kinds : goal.returns-in_err-early-clause-kinds

@@ -1,6 +1,6 @@
 use Rattle.move_lists.specs.Ranking.{chosen_moves}
 use Rattle.move_lists.specs.declared.ranking.Choice.TheVariants.{Early}
-use Rattle.move_lists.proofs.Ended.{many_reach}
+use Rattle.move_lists.proofs.PartLists.{many_reach}
 use Rattle.move_lists.proofs.listing.list_far_extended.Goals as goal
 
 pub early_reach-requires-clause-kinds : goal.early_reach-requires-clause-kinds

@@ -3,7 +3,7 @@ use Rattle.move_lists.specs.Ranking.{chosen_moves}
 use Rattle.move_lists.specs.Reaches.{HoldsAll, IsLedTo}
 use Rattle.move_lists.specs.declared.ranking.Choice.TheVariants.{Early, Late}
 use Rattle.move_lists.proofs.Chains.{early_closed}
-use Rattle.move_lists.proofs.Chosen.{chosen_first}
+use Rattle.move_lists.proofs.MoveChoices.{chosen_first}
 use Rattle.move_lists.proofs.listing.list_late.Goals as goal
 
 pub returns-in_err-late-clause-kinds : goal.returns-in_err-late-clause-kinds

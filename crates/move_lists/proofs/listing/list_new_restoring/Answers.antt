@@ -1,5 +1,5 @@
 use Rattle.std.proofs.Common.{Result, Ok, Err, IfOk}
-use Rattle.move_lists.proofs.Ended.{restoring_listed}
+use Rattle.move_lists.proofs.PartLists.{restoring_listed}
 use Rattle.move_lists.proofs.listing.list_new_restoring.Goals as goal
 
 if_ok : {T E : Type 0} {P Q : T → Type 0} (r : Result T E) → ((x : T) → P x → Q x) → IfOk r P → IfOk r Q

@@ -3,7 +3,7 @@ use Rattle.move_core.specs.Contexts.{rulebook}
 use Rattle.move_core.specs.Listed.{AreListed}
 use Rattle.move_lists.specs.Firsts.{AreFirstsOf}
 use Rattle.move_lists.specs.declared.asking.Question.{Question}
-use Rattle.move_lists.proofs.Ended.{whole_listed}
+use Rattle.move_lists.proofs.PartLists.{whole_listed}
 use Rattle.move_lists.proofs.listing.listed.Goals as goal
 
 pub first_moves-requires-clause-kinds : goal.first_moves-requires-clause-kinds

@@ -1,6 +1,6 @@
 use Rattle.std.proofs.Common.{◌≡◌, ◌+◌, take, sym, ap, subst, ◌∙◌}
 use Rattle.move_lists.specs.Ranking.{chosen_moves, is_chosen}
-use Rattle.move_lists.proofs.Chosen.{kept_past, kept_step}
+use Rattle.move_lists.proofs.MoveChoices.{kept_past, kept_step}
 use Rattle.move_lists.proofs.ranking.chosen_moves.Goals as goal
 use Rattle.move_lists.proofs.ranking.chosen_moves.Goals.{then-is_chosen+in_ok-mv+in_ok-push, else-is_chosen}
 

@@ -2,7 +2,7 @@ use Rattle.std.proofs.Common.{◌+◌, ◌≤◌, [], refl, sym, ap, subst, ◌�
 use Rattle.std.proofs.lemmas.List.{take_all}
 use Rattle.move_core.specs.declared.moves.Ranked.{Ranked}
 use Rattle.move_lists.specs.Ranking.{AddsExtended}
-use Rattle.move_lists.proofs.Adding.{extended_none, extended_step, unextended_step}
+use Rattle.move_lists.proofs.ChainAdditions.{extended_none, extended_step, unextended_step}
 use Rattle.move_lists.proofs.ranking.rank_reached.Goals as goal
 use Rattle.move_lists.proofs.ranking.rank_reached.Goals.{then-depth-least+in_ok-mv+in_ok-push, else-depth-least}
 

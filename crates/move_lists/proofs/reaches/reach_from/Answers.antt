@@ -1,6 +1,6 @@
 use Rattle.std.proofs.Common.{refl, subst, ◌∙◌, arith}
 use Rattle.move_lists.specs.Reaches.{AreNoted}
-use Rattle.move_lists.proofs.Reached.{can_spread, reached_all, reached_begun, reached_more, spread_before}
+use Rattle.move_lists.proofs.ReachableMoves.{can_spread, reached_all, reached_begun, reached_more, spread_before}
 use Rattle.move_lists.proofs.reaches.reach_from.Goals as goal
 
 pub loop-i-init : goal.loop-i-init

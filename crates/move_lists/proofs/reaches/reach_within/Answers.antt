@@ -1,6 +1,6 @@
 use Rattle.std.proofs.Common.{[], refl, sym, subst, ◌∙◌, true≢false}
 use Rattle.move_lists.specs.Reaches.{AreNoted, IsSpread, IsSpreadBefore}
-use Rattle.move_lists.proofs.Reached.{below_spreads, spread_before, within_all, within_begun, within_more}
+use Rattle.move_lists.proofs.ReachableMoves.{below_spreads, spread_before, within_all, within_begun, within_more}
 use Rattle.move_lists.proofs.reaches.reach_within.Goals as goal
 
 pub loop-alloc-init : goal.loop-alloc-init

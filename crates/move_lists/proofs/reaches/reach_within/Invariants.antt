@@ -1,6 +1,6 @@
 use Rattle.std.proofs.Common.{◌≡◌, ◌-◌}
 use Rattle.move_core.specs.Kinds.{AreOfKinds, extender_kinds, generator_kinds, rule_kinds}
-use Rattle.move_lists.proofs.Reached.{AreWithin}
+use Rattle.move_lists.proofs.ReachableMoves.{AreWithin}
 use Rattle.move_lists.proofs.reaches.reach_within.Given as goal
 
 -- the moves before the index were spread

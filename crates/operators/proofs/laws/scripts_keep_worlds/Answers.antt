@@ -1,4 +1,4 @@
-use Rattle.operators.proofs.WorldsKept.{operated_ctx, operated_few, operated_kept, operated_opening}
+use Rattle.operators.proofs.WorldInvariants.{operated_ctx, operated_few, operated_kept, operated_opening}
 use Rattle.operators.proofs.laws.scripts_keep_worlds.Goals as goal
 
 pub returns-clause-kept : goal.returns-clause-kept

@@ -1,7 +1,7 @@
 use Rattle.std.specs.Prelude.{◌++◌}
 use Rattle.conf_doc.specs.Texts.{compact, line_feed}
 use Rattle.patch_core.specs.Writing.{patch_document}
-use Rattle.patch_core.proofs.ReadsBack.{patch-value}
+use Rattle.patch_core.proofs.PatchReadings.{patch-value}
 use Rattle.patch_core.proofs.laws.patch_reads_back.Goals as goal
 
 pub returns : goal.returns

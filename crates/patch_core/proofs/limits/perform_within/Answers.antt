@@ -1,6 +1,6 @@
 use Rattle.std.proofs.Common.{arith}
 use Rattle.conf_doc.specs.Trees.{document}
-use Rattle.patch_core.proofs.Settled.{too_heavy}
+use Rattle.patch_core.proofs.TreeLimits.{too_heavy}
 use Rattle.patch_core.proofs.limits.perform_within.Goals as goal
 
 pub invariant_of-result : goal.invariant_of-result

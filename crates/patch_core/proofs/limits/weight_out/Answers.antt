@@ -4,7 +4,7 @@ use Rattle.conf_doc.specs.Document.{weight}
 use Rattle.conf_doc.specs.Trees.{document}
 use Rattle.conf_doc.specs.declared.trees.Tree.{Tree}
 use Rattle.patch_core.specs.Measures.{weight_out}
-use Rattle.patch_core.proofs.Settled.{depth_weighs}
+use Rattle.patch_core.proofs.TreeLimits.{depth_weighs}
 use Rattle.patch_core.proofs.limits.weight_out.Goals as goal
 
 pub unreachable-requires : goal.unreachable-requires

@@ -14,7 +14,7 @@ use Rattle.patch_core.specs.declared.errors.Stop.{Stop}
 use Rattle.patch_core.specs.declared.errors.Stop.TheVariants.{Memory as StopMemory}
 use Rattle.patch_core.specs.declared.node_edits.Change.{Change}
 use Rattle.patch_core.specs.declared.node_edits.Edit.TheVariants.{Add}
-use Rattle.patch_core.proofs.Measured.{measured_insert, measured_push}
+use Rattle.patch_core.proofs.EditMeasures.{measured_insert, measured_push}
 use Rattle.patch_core.proofs.Nodes.{with_new_at, with_new_end, with_new_dash, with_new_past, listed}
 use Rattle.patch_core.proofs.node_edits.add_item.Goals as goal
 

@@ -3,7 +3,7 @@ use Rattle.std.proofs.Common.{refl, sym, ap, ◌∙◌, length}
 use Rattle.conf_doc.specs.Document.{Document}
 use Rattle.conf_doc.specs.Pairs.{find, put}
 use Rattle.conf_doc.specs.Trees.{document}
-use Rattle.patch_core.proofs.Measured.{measured_added_there, measured_added_new}
+use Rattle.patch_core.proofs.EditMeasures.{measured_added_there, measured_added_new}
 use Rattle.patch_core.proofs.Nodes.{with_new_member, ok_of, of_pairs}
 use Rattle.patch_core.proofs.node_edits.add_member.Goals as goal
 

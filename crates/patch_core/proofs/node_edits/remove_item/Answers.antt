@@ -1,7 +1,7 @@
 use Rattle.std.proofs.Common.{sym, ap, ◌∙◌}
 use Rattle.conf_doc.specs.Document.{list, items_of}
 use Rattle.patch_core.specs.declared.errors.FailWhy.TheVariants.{NoTarget}
-use Rattle.patch_core.proofs.Measured.{measured_removed_item}
+use Rattle.patch_core.proofs.EditMeasures.{measured_removed_item}
 use Rattle.patch_core.proofs.Nodes.{below_item, cut_item, removed_there, listed}
 use Rattle.patch_core.proofs.node_edits.remove_item.Goals as goal
 

@@ -2,7 +2,7 @@ use Rattle.std.proofs.Common.{sym, ap, ◌∙◌}
 use Rattle.conf_doc.specs.Document.{list, items_of}
 use Rattle.conf_doc.specs.Trees.{document}
 use Rattle.patch_core.specs.declared.errors.FailWhy.TheVariants.{NoTarget}
-use Rattle.patch_core.proofs.Measured.{measured_replaced_item}
+use Rattle.patch_core.proofs.EditMeasures.{measured_replaced_item}
 use Rattle.patch_core.proofs.Nodes.{below_item, with_below_item, replaced_there, listed}
 use Rattle.patch_core.proofs.node_edits.replace_item.Goals as goal
 

@@ -4,7 +4,7 @@ use Rattle.conf_doc.specs.Document.{object, members_of}
 use Rattle.conf_doc.specs.Pairs.{find, put}
 use Rattle.conf_doc.specs.Trees.{document}
 use Rattle.patch_core.specs.declared.errors.FailWhy.TheVariants.{NoTarget}
-use Rattle.patch_core.proofs.Measured.{measured_replaced_member}
+use Rattle.patch_core.proofs.EditMeasures.{measured_replaced_member}
 use Rattle.patch_core.proofs.Nodes.{below_member, below_no_member, with_below_member, replaced_there, replaced_fails, of_pairs}
 use Rattle.patch_core.proofs.node_edits.replace_member.Goals as goal
 

@@ -5,7 +5,7 @@ use Rattle.conf_doc.specs.Trees.{document}
 use Rattle.patch_core.specs.Edits.{HandsOut}
 use Rattle.patch_core.specs.Stops.{stop_fault}
 use Rattle.patch_core.specs.declared.errors.FailWhy.{FailWhy}
-use Rattle.patch_core.proofs.Measured.{measured_above}
+use Rattle.patch_core.proofs.EditMeasures.{measured_above}
 use Rattle.patch_core.proofs.Paths.{one_fewer, first_and_rest, edit_goes_on, edit_stops, edit_misses, target_goes_on}
 use Rattle.patch_core.proofs.path_edits.+edit_along.Goals as goal
 

@@ -1,7 +1,7 @@
 use Rattle.conf_doc.specs.Reading.{json}
 use Rattle.conf_doc.specs.declared.errors.ReadError.TheVariants.{BadJson}
 use Rattle.serde_json.specs.View.{view}
-use Rattle.patch_core.proofs.InOrder.{value_none, value_there}
+use Rattle.patch_core.proofs.PatchElements.{value_none, value_there}
 use Rattle.patch_core.proofs.reading.read_json.Goals as goal
 
 pub returns-in-Ok : goal.returns-in-Ok

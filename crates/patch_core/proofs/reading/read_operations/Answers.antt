@@ -6,7 +6,7 @@ use Rattle.std.proofs.lemmas.Iterator.Consumers.{YieldsList-at, YieldsList-from_
 use Rattle.std.proofs.lemmas.Result.{err_from_is_err_and}
 use Rattle.serde_json.specs.declared.value.Value.{Value}
 use Rattle.patch_core.specs.Operation.{operation_of}
-use Rattle.patch_core.proofs.InOrder.{all_read-enumerate, all_read-push, all_read-pairs, fails_first}
+use Rattle.patch_core.proofs.PatchElements.{all_read-enumerate, all_read-push, all_read-pairs, fails_first}
 use Rattle.patch_core.proofs.reading.read_operations.Goals as goal
 
 pub returns-in_err-op : goal.returns-in_err-op

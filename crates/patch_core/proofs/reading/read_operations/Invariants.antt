@@ -1,6 +1,6 @@
 use Rattle.std.proofs.Common.{◌≡◌, Ok, map}
 use Rattle.patch_core.specs.Operation.{operation_of}
-use Rattle.patch_core.proofs.InOrder.{all_read}
+use Rattle.patch_core.proofs.PatchElements.{all_read}
 use Rattle.patch_core.proofs.reading.read_operations.Given as goal
 
 abbrev pub invariant-loop-index : goal.invariant-loop-index

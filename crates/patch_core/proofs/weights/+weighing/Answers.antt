@@ -1,6 +1,6 @@
 use Rattle.std.proofs.Common.{inl, inr, ◌≡◌, ◌+◌, ◌<◌, length, arith}
 use Rattle.std.proofs.lemmas.Bool.{cases_lt}
-use Rattle.patch_core.proofs.Counted.{item_weighs, item_goes_on, item_stops, member_weighs, member_goes_on, member_stops, member_too_long}
+use Rattle.patch_core.proofs.WeightCounts.{item_weighs, item_goes_on, item_stops, member_weighs, member_goes_on, member_stops, member_too_long}
 use Rattle.patch_core.proofs.weights.+weighing.Goals as goal
 
 pub left_after_items-left_after-requires : goal.left_after_items-left_after-requires

@@ -5,7 +5,7 @@ use Rattle.conf_doc.specs.Reading.{json}
 use Rattle.conf_doc.specs.Trees.{document}
 use Rattle.patch_core.specs.Operation.{operation_of}
 use Rattle.patch_core.specs.Writing.{patch_document}
-use Rattle.patch_core.proofs.ReadsBack.{depth-step, patch-value, some_value}
+use Rattle.patch_core.proofs.PatchReadings.{depth-step, patch-value, some_value}
 use Rattle.patch_core.proofs.writing.step_bytes.Goals as goal
 
 pub returns-clause-reads_back : goal.returns-clause-reads_back

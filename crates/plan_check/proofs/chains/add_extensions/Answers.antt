@@ -4,7 +4,7 @@ use Rattle.move_core.specs.Contexts.{rulebook}
 use Rattle.move_core.specs.Listed.{Extends}
 use Rattle.chain_extends.specs.Extended.{AreExtensions}
 use Rattle.plan_check.specs.Chains.{Adds}
-use Rattle.plan_check.proofs.Adding.{adds_as}
+use Rattle.plan_check.proofs.MissingItems.{adds_as}
 use Rattle.plan_check.proofs.chains.add_extensions.Goals as goal
 
 pub returns : goal.returns

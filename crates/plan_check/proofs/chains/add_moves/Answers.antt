@@ -1,5 +1,5 @@
 use Rattle.conf_doc.proofs.Lists.{take_step}
-use Rattle.plan_check.proofs.Adding.{adds_more}
+use Rattle.plan_check.proofs.MissingItems.{adds_more}
 use Rattle.plan_check.proofs.chains.add_moves.Goals as goal
 
 pub loop-mv-preserved : goal.loop-mv-preserved

@@ -1,5 +1,5 @@
 use Rattle.move_core.specs.Contexts.{rulebook}
-use Rattle.plan_check.proofs.Accepted.{no_fault}
+use Rattle.plan_check.proofs.FaultlessPlans.{no_fault}
 use Rattle.plan_check.proofs.laws.plans_are_accepted.Goals as goal
 
 pub returns : goal.returns

@@ -1,4 +1,4 @@
-use Rattle.plan_rules.proofs.NoEmpty.{after_has_keys, after_is_empty}
+use Rattle.plan_rules.proofs.EmptyTables.{after_has_keys, after_is_empty}
 use Rattle.plan_rules.proofs.no_empty.empties_none.Goals as goal
 
 pub returns-then-not-is_empty_table : goal.returns-then-not-is_empty_table

@@ -1,4 +1,4 @@
-use Rattle.plan_search.proofs.Refused.{add_changes, add_item_changes, remove_changes, remove_item_changes, replace_changes}
+use Rattle.plan_search.proofs.SettingRefusals.{add_changes, add_item_changes, remove_changes, remove_item_changes, replace_changes}
 use Rattle.plan_search.proofs.early_refusals.changes_field.Goals as goal
 
 pub returns-in-Add : goal.returns-in-Add

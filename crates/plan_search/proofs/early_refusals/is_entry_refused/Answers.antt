@@ -1,4 +1,4 @@
-use Rattle.plan_search.proofs.Refused.{by_other_fields}
+use Rattle.plan_search.proofs.SettingRefusals.{by_other_fields}
 use Rattle.plan_search.proofs.early_refusals.is_entry_refused.Goals as goal
 
 pub returns-in-Some-entry_at : goal.returns-in-Some-entry_at

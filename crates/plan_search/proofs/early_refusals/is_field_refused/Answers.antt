@@ -1,4 +1,4 @@
-use Rattle.plan_search.proofs.Refused.{by_field}
+use Rattle.plan_search.proofs.SettingRefusals.{by_field}
 use Rattle.plan_search.proofs.early_refusals.is_field_refused.Goals as goal
 
 pub returns-then-has_refused : goal.returns-then-has_refused

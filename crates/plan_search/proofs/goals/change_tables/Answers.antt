@@ -1,4 +1,4 @@
-use Rattle.plan_search.proofs.Placed.{letters_at}
+use Rattle.plan_search.proofs.NamedPlaces.{letters_at}
 use Rattle.plan_search.proofs.goals.change_tables.Goals as goal
 
 pub change_table-requires : goal.change_table-requires

@@ -1,4 +1,4 @@
-use Rattle.plan_search.proofs.Placed.{letters_at}
+use Rattle.plan_search.proofs.NamedPlaces.{letters_at}
 use Rattle.plan_search.proofs.goals.put_entries.Goals as goal
 
 pub put_entry-requires-clause-key : goal.put_entry-requires-clause-key

@@ -1,6 +1,6 @@
 use Rattle.std.proofs.Common.{sym, subst}
 use Rattle.conf_doc.specs.Changes.{HasParent}
-use Rattle.plan_search.proofs.Placed.{some_told, table_there}
+use Rattle.plan_search.proofs.NamedPlaces.{some_told, table_there}
 use Rattle.plan_search.proofs.goals.put_entry.Goals as goal
 
 pub with-requires-clause-parent : goal.with-requires-clause-parent

@@ -1,4 +1,4 @@
-use Rattle.plan_search.proofs.Placed.{letters_at}
+use Rattle.plan_search.proofs.NamedPlaces.{letters_at}
 use Rattle.plan_search.proofs.goals.take_entries.Goals as goal
 
 pub take_entry-requires-clause-key : goal.take_entry-requires-clause-key

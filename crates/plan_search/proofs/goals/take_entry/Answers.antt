@@ -1,6 +1,6 @@
 use Rattle.std.proofs.Common.{sym, subst}
 use Rattle.conf_doc.specs.Changes.{HasParent, HasPlace}
-use Rattle.plan_search.proofs.Placed.{entry_there, some_told}
+use Rattle.plan_search.proofs.NamedPlaces.{entry_there, some_told}
 use Rattle.plan_search.proofs.goals.take_entry.Goals as goal
 
 pub with-requires-clause-parent : goal.with-requires-clause-parent

@@ -1,4 +1,4 @@
-use Rattle.plan_search.proofs.Placed.{letters_at}
+use Rattle.plan_search.proofs.NamedPlaces.{letters_at}
 use Rattle.plan_search.proofs.goals.take_tables.Goals as goal
 
 pub take_table-requires : goal.take_table-requires

@@ -3,7 +3,7 @@ use Rattle.std.specs.Prelude.{bit_xor}
 use Rattle.std.specs.Int.Bits.{xor_zero_l}
 use Rattle.conf_doc.specs.contracts.configuration.EntryHash.TheImpl as fields
 use Rattle.plan_search.specs.Hashes.{table_hash, joined}
-use Rattle.plan_search.proofs.Joined.{joined_all, joined_more}
+use Rattle.plan_search.proofs.PairHashes.{joined_all, joined_more}
 use Rattle.plan_search.proofs.hashed.hash_config.Goals as goal
 
 pub loop-i-init : goal.loop-i-init

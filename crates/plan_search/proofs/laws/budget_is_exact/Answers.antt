@@ -1,4 +1,4 @@
-use Rattle.plan_search.proofs.Exact.{exact}
+use Rattle.plan_search.proofs.AnswerCauses.{exact}
 use Rattle.plan_search.proofs.laws.budget_is_exact.Goals as goal
 
 pub returns : goal.returns

@@ -1,5 +1,5 @@
 use Rattle.move_core.specs.Contexts.{rulebook}
-use Rattle.plan_search.proofs.Ruled.{create_only, full, no_dependency, no_empty, passes_no_dependency, required}
+use Rattle.plan_search.proofs.RuleKinds.{create_only, full, no_dependency, no_empty, passes_no_dependency, required}
 use Rattle.plan_search.proofs.rules.keep_rules.Goals as goal
 
 pub returns-clause-keeps : goal.returns-clause-keeps

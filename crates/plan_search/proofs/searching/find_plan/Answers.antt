@@ -2,8 +2,8 @@ use Rattle.std.proofs.Common.{◌≡◌, ◌≢◌, [], ◌∷◌, length, sym, 
 use Rattle.plan_search.specs.Answers.{IsAnswer}
 use Rattle.plan_search.specs.Searching.{AreMet, IsUnderWay}
 use Rattle.plan_search.specs.Stacks.{new_spot, spots, taken}
-use Rattle.plan_search.proofs.Ended.{budget_met, no_moves}
-use Rattle.plan_search.proofs.Kept.{met_begun, under_way_begun}
+use Rattle.plan_search.proofs.SearchAnswers.{budget_met, no_moves}
+use Rattle.plan_search.proofs.SearchInvariants.{met_begun, under_way_begun}
 use Rattle.plan_search.proofs.searching.find_plan.Goals as goal
 
 pub returns-then-same-clause-ready : goal.returns-then-same-clause-ready

@@ -1,8 +1,8 @@
 use Rattle.std.proofs.Common.{[], ◌∷◌, ◌++◌, length, refl, sym, ap, subst, ◌∙◌, arith, length-append}
 use Rattle.plan_search.specs.Searching.{AreMet, IsUnderWay}
 use Rattle.plan_search.specs.Stacks.{new_spot, spots, taken}
-use Rattle.plan_search.proofs.Ended.{budget_met, no_order, whole_answer}
-use Rattle.plan_search.proofs.Kept.{met_expanded, under_way_expanded}
+use Rattle.plan_search.proofs.SearchAnswers.{budget_met, no_order, whole_answer}
+use Rattle.plan_search.proofs.SearchInvariants.{met_expanded, under_way_expanded}
 use Rattle.plan_search.proofs.searching.go_on.Goals as goal
 
 pub loop-stack-init : goal.loop-stack-init

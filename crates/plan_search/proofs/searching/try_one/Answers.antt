@@ -1,7 +1,7 @@
 use Rattle.std.proofs.Common.{◌∷◌, [], ◌++◌, refl, sym, ap, subst, ◌∙◌, true≢false}
 use Rattle.std.specs.List.{Contains}
 use Rattle.move_core.specs.Moves.{step}
-use Rattle.plan_search.proofs.Kept.{leads_to_goal, leads_to_new, nowhere_new}
+use Rattle.plan_search.proofs.SearchInvariants.{leads_to_goal, leads_to_new, nowhere_new}
 use Rattle.plan_search.proofs.searching.try_one.Goals as goal
 
 pub returns-in-None-clause-found : goal.returns-in-None-clause-found

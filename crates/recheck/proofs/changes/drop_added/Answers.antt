@@ -1,9 +1,9 @@
 use Rattle.std.proofs.Common.{◌≡◌, None, arith}
 use Rattle.conf_doc.specs.Pairs.{find}
 use Rattle.recheck.specs.Turned.{IsTurnedByTable, Reads}
-use Rattle.recheck.proofs.Dropped.{among_among, among_itself, names_added}
-use Rattle.recheck.proofs.Left.{added_differs}
-use Rattle.recheck.proofs.Within.{left_itself, left_then}
+use Rattle.recheck.proofs.VerdictDrops.{among_among, among_itself, names_added}
+use Rattle.recheck.proofs.RemainingVerdicts.{added_differs}
+use Rattle.recheck.proofs.ParallelWalks.{left_itself, left_then}
 use Rattle.recheck.proofs.changes.drop_added.Goals as goal
 
 pub loop-u-init : goal.loop-u-init

@@ -1,13 +1,13 @@
 use Rattle.std.proofs.Common.{◌≡◌, ◌≤◌, None, length, sym, ap, subst, inr, arith}
 use Rattle.conf_doc.specs.WellFormed.{IsConfig}
-use Rattle.recheck.proofs.Dropped.{among_among, among_itself, names_past, names_start, names_step, one_truth, still_handled, tables_end, tables_more, tables_start}
+use Rattle.recheck.proofs.VerdictDrops.{among_among, among_itself, names_past, names_start, names_step, one_truth, still_handled, tables_end, tables_more, tables_start}
 use Rattle.conf_doc.specs.Pairs.{find}
 use Rattle.conf_doc.specs.declared.configuration.Config.{Config}
 use Rattle.recheck.specs.Turned.{IsTurned, IsTurnedByTable}
 use Rattle.recheck.specs.Within.{IsLeft}
-use Rattle.recheck.proofs.Left.{left_more}
-use Rattle.recheck.proofs.Within.{left_itself, left_then}
-use Rattle.recheck.proofs.Ordered.{ordered_on}
+use Rattle.recheck.proofs.RemainingVerdicts.{left_more}
+use Rattle.recheck.proofs.ParallelWalks.{left_itself, left_then}
+use Rattle.recheck.proofs.VerdictOrder.{ordered_on}
 use Rattle.recheck.proofs.changes.drop_changed.Goals as goal
 
 pub loop-table-init : goal.loop-table-init

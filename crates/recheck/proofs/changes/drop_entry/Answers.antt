@@ -5,9 +5,9 @@ use Rattle.recheck.specs.Changes.{IsTableHandled}
 use Rattle.recheck.specs.Turned.{IsTurned, IsTurnedByTable}
 use Rattle.recheck.specs.Within.{IsLeft}
 use Rattle.recheck.proofs.OneEntry.{one_sound}
-use Rattle.recheck.proofs.Dropped.{among_among, one_truth, still_table}
-use Rattle.recheck.proofs.Within.{left_then}
-use Rattle.recheck.proofs.Ordered.{ordered_on}
+use Rattle.recheck.proofs.VerdictDrops.{among_among, one_truth, still_table}
+use Rattle.recheck.proofs.ParallelWalks.{left_then}
+use Rattle.recheck.proofs.VerdictOrder.{ordered_on}
 use Rattle.recheck.proofs.changes.drop_entry.Goals as goal
 
 pub returns-clause-among : goal.returns-clause-among

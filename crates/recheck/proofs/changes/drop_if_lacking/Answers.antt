@@ -1,7 +1,7 @@
 use Rattle.conf_doc.specs.Pairs.{find}
-use Rattle.recheck.proofs.Left.{not_some, some_none}
-use Rattle.recheck.proofs.Dropped.{among_itself}
-use Rattle.recheck.proofs.Within.{left_for, left_itself}
+use Rattle.recheck.proofs.RemainingVerdicts.{not_some, some_none}
+use Rattle.recheck.proofs.VerdictDrops.{among_itself}
+use Rattle.recheck.proofs.ParallelWalks.{left_for, left_itself}
 use Rattle.recheck.proofs.changes.drop_if_lacking.Goals as goal
 
 pub returns-then-is_some-clause-among : goal.returns-then-is_some-clause-among

@@ -1,9 +1,9 @@
 use Rattle.std.proofs.Common.{ap, ◌∙◌}
 use Rattle.conf_doc.specs.declared.configuration.Config.{Config}
 use Rattle.ref_index.specs.Agreements.{entry_of}
-use Rattle.recheck.proofs.Dropped.{among_itself}
-use Rattle.recheck.proofs.Left.{one_handled, one_turns, there_none}
-use Rattle.recheck.proofs.Within.{left_for, left_itself}
+use Rattle.recheck.proofs.VerdictDrops.{among_itself}
+use Rattle.recheck.proofs.RemainingVerdicts.{one_handled, one_turns, there_none}
+use Rattle.recheck.proofs.ParallelWalks.{left_for, left_itself}
 use Rattle.recheck.proofs.changes.drop_if_there.Goals as goal
 
 pub returns-in_default-clause-among : goal.returns-in_default-clause-among

@@ -1,10 +1,10 @@
 use Rattle.std.proofs.Common.{◌≡◌, Some, map, option_map, slice_get, subst, inr, arith}
 use Rattle.conf_doc.specs.WellFormed.{IsConfig}
 use Rattle.conf_doc.specs.declared.configuration.Config.{Config}
-use Rattle.recheck.proofs.Dropped.{among_among, keys_end, keys_more, keys_start, name_same, name_unread, still_unread, table_same}
+use Rattle.recheck.proofs.VerdictDrops.{among_among, keys_end, keys_more, keys_start, name_same, name_unread, still_unread, table_same}
 use Rattle.recheck.specs.Turned.{IsTurned, MayTouch, Reads}
-use Rattle.recheck.proofs.Left.{entry_turns, some_of, table_differs}
-use Rattle.recheck.proofs.Within.{left_for, left_itself, left_then}
+use Rattle.recheck.proofs.RemainingVerdicts.{entry_turns, some_of, table_differs}
+use Rattle.recheck.proofs.ParallelWalks.{left_for, left_itself, left_then}
 use Rattle.recheck.proofs.changes.drop_keys.Goals as goal
 
 pub returns-then-is_table-clause-handled : goal.returns-then-is_table-clause-handled

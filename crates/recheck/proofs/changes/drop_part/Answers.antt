@@ -3,7 +3,7 @@ use Rattle.std.proofs.lemmas.List.Elements.{All-contains}
 use Rattle.ref_index.specs.Referrers.{HasWant, want_for}
 use Rattle.ref_index.specs.declared.places.Place.{Place}
 use Rattle.recheck.specs.Changes.{AreElsewhere, IsOnOne, MayWant}
-use Rattle.recheck.proofs.Within.{left_for, left_none}
+use Rattle.recheck.proofs.ParallelWalks.{left_for, left_none}
 use Rattle.recheck.proofs.changes.drop_part.Goals as goal
 
 pub returns-in-Ok-clause-dropped : goal.returns-in-Ok-clause-dropped

@@ -1,9 +1,9 @@
 use Rattle.std.proofs.Common.{◌≡◌, Some, None, sym, ◌∙◌, subst}
 use Rattle.ref_index.specs.Referrers.{HasWant, want_for}
 use Rattle.recheck.specs.Changes.{MayWant, MayWantPart}
-use Rattle.recheck.proofs.Dropped.{among_itself}
+use Rattle.recheck.proofs.VerdictDrops.{among_itself}
 use Rattle.recheck.proofs.Pairs.{some_same}
-use Rattle.recheck.proofs.Within.{left_for, left_itself}
+use Rattle.recheck.proofs.ParallelWalks.{left_for, left_itself}
 use Rattle.recheck.proofs.changes.drop_part_of.Goals as goal
 
 pub returns-in-Some-clause-dropped : goal.returns-in-Some-clause-dropped

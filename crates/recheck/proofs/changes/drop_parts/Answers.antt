@@ -4,8 +4,8 @@ use Rattle.key_split.specs.Key.{key_parts}
 use Rattle.ref_index.specs.Referrers.{HasWant, want_for}
 use Rattle.ref_index.specs.declared.places.Place.{Place}
 use Rattle.recheck.specs.Changes.{AreElsewhere, MayWantPart}
-use Rattle.recheck.proofs.Dropped.{among_among, among_itself, still_elsewhere}
-use Rattle.recheck.proofs.Within.{left_itself, left_then}
+use Rattle.recheck.proofs.VerdictDrops.{among_among, among_itself, still_elsewhere}
+use Rattle.recheck.proofs.ParallelWalks.{left_itself, left_then}
 use Rattle.recheck.specs.declared.verdicts.Verdict.{Verdict}
 use Rattle.recheck.proofs.changes.drop_parts.Goals as goal
 

@@ -2,9 +2,9 @@ use Rattle.std.proofs.Common.{below_more, get_or, arith}
 use Rattle.ref_index.specs.declared.places.Place.{Place}
 use Rattle.recheck.specs.Changes.{AreElsewhere, IsOnOne}
 use Rattle.recheck.specs.Verdicts.{is_elsewhere}
-use Rattle.recheck.proofs.Dropped.{among_among, among_filter, among_itself, none_at, still_elsewhere}
-use Rattle.recheck.proofs.Left.{left_more, one_left}
-use Rattle.recheck.proofs.Within.{left_itself}
+use Rattle.recheck.proofs.VerdictDrops.{among_among, among_filter, among_itself, none_at, still_elsewhere}
+use Rattle.recheck.proofs.RemainingVerdicts.{left_more, one_left}
+use Rattle.recheck.proofs.ParallelWalks.{left_itself}
 use Rattle.recheck.proofs.changes.drop_places.Goals as goal
 
 pub loop-place-init : goal.loop-place-init

@@ -1,7 +1,7 @@
 use Rattle.std.proofs.Common.{inl, inr}
-use Rattle.recheck.proofs.Dropped.{among_itself}
-use Rattle.recheck.proofs.Left.{not_so}
-use Rattle.recheck.proofs.Within.{left_for, left_itself}
+use Rattle.recheck.proofs.VerdictDrops.{among_itself}
+use Rattle.recheck.proofs.RemainingVerdicts.{not_so}
+use Rattle.recheck.proofs.ParallelWalks.{left_for, left_itself}
 use Rattle.recheck.proofs.changes.drop_readers_unless_same.Goals as goal
 
 pub returns-then-not-one_may_read-clause-among : goal.returns-then-not-one_may_read-clause-among

@@ -6,10 +6,10 @@ use Rattle.ref_index.specs.Referrers.{HasWant, want_for}
 use Rattle.recheck.specs.Changes.{MayWantPart}
 use Rattle.recheck.specs.Turned.{IsOn, MayTouch}
 use Rattle.recheck.specs.Verdicts.{is_elsewhere}
-use Rattle.recheck.proofs.Dropped.{among_among, among_filter, none_on, none_touched, not_left, not_wanted}
+use Rattle.recheck.proofs.VerdictDrops.{among_among, among_filter, none_on, none_touched, not_left, not_wanted}
 use Rattle.recheck.proofs.Lists.{among_all}
-use Rattle.recheck.proofs.Left.{on_by, touched_by}
-use Rattle.recheck.proofs.Within.{left_filter, left_then}
+use Rattle.recheck.proofs.RemainingVerdicts.{on_by, touched_by}
+use Rattle.recheck.proofs.ParallelWalks.{left_filter, left_then}
 use Rattle.recheck.proofs.changes.drop_touched.Goals as goal
 
 pub returns-in-Some-clause-among : goal.returns-in-Some-clause-among

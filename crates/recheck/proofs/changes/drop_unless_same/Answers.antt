@@ -1,6 +1,6 @@
-use Rattle.recheck.proofs.Dropped.{among_itself}
-use Rattle.recheck.proofs.Left.{not_so}
-use Rattle.recheck.proofs.Within.{left_for, left_itself}
+use Rattle.recheck.proofs.VerdictDrops.{among_itself}
+use Rattle.recheck.proofs.RemainingVerdicts.{not_so}
+use Rattle.recheck.proofs.ParallelWalks.{left_for, left_itself}
 use Rattle.recheck.proofs.changes.drop_unless_same.Goals as goal
 
 pub returns-then-is_entry-clause-among : goal.returns-then-is_entry-clause-among

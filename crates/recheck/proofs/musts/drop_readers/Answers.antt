@@ -2,10 +2,10 @@ use Rattle.std.proofs.Common.{Contains, rules, arith}
 use Rattle.std.proofs.lemmas.Fn.{All-from_retain}
 use Rattle.std.proofs.lemmas.List.Elements.{All-contains_itself}
 use Rattle.recheck.specs.Turned.{Reads}
-use Rattle.recheck.proofs.Dropped.{among_itself}
+use Rattle.recheck.proofs.VerdictDrops.{among_itself}
 use Rattle.recheck.proofs.Lists.{all_kept}
-use Rattle.recheck.proofs.Within.{left_itself, left_retained}
-use Rattle.recheck.proofs.Walked.{when_false}
+use Rattle.recheck.proofs.ParallelWalks.{left_itself, left_retained}
+use Rattle.recheck.proofs.VerdictWalks.{when_false}
 use Rattle.recheck.proofs.musts.drop_readers.Goals as goal
 
 pub returns-clause-among : goal.returns-clause-among

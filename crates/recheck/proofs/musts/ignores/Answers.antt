@@ -1,5 +1,5 @@
 use Rattle.recheck.proofs.Readers.{no_reader, no_readers, no_shape, reads_by}
-use Rattle.recheck.proofs.Walked.{when_false}
+use Rattle.recheck.proofs.VerdictWalks.{when_false}
 use Rattle.recheck.proofs.musts.ignores.Goals as goal
 
 pub returns-then-not-may_read-clause-ignores : goal.returns-then-not-may_read-clause-ignores

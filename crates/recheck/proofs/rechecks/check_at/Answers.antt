@@ -1,6 +1,6 @@
 use Rattle.std.proofs.Common.{refl, arith}
-use Rattle.recheck.proofs.Walked.{fresh, noted, passed, same_sound, when_true}
-use Rattle.recheck.proofs.Counted.{invalid_at, noted_at, passed_at}
+use Rattle.recheck.proofs.VerdictWalks.{fresh, noted, passed, same_sound, when_true}
+use Rattle.recheck.proofs.EntryCounts.{invalid_at, noted_at, passed_at}
 use Rattle.recheck.proofs.rechecks.check_at.Goals as goal
 
 pub returns-then-passes-clause-valid : goal.returns-then-passes-clause-valid

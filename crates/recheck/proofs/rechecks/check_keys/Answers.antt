@@ -1,8 +1,8 @@
 use Rattle.std.proofs.Common.{sym, ◌∙◌, arith}
-use Rattle.recheck.proofs.Checked.{keys_end, keys_more, keys_start}
+use Rattle.recheck.proofs.EntryValidity.{keys_end, keys_more, keys_start}
 use Rattle.recheck.proofs.Pairs.{pair_at, some_same}
-use Rattle.recheck.proofs.Walked.{entry_at, there_at}
-use Rattle.recheck.proofs.Counted.{keys_all, keys_walked, walked_none}
+use Rattle.recheck.proofs.VerdictWalks.{entry_at, there_at}
+use Rattle.recheck.proofs.EntryCounts.{keys_all, keys_walked, walked_none}
 use Rattle.recheck.proofs.rechecks.check_keys.Goals as goal
 
 pub check_at-requires-clause-there : goal.check_at-requires-clause-there

@@ -1,6 +1,6 @@
 use Rattle.std.proofs.Common.{arith}
-use Rattle.recheck.proofs.Checked.{tables_end, tables_more, tables_start}
-use Rattle.recheck.proofs.Counted.{tables_all, tables_walked, walked_none}
+use Rattle.recheck.proofs.EntryValidity.{tables_end, tables_more, tables_start}
+use Rattle.recheck.proofs.EntryCounts.{tables_all, tables_walked, walked_none}
 use Rattle.recheck.proofs.rechecks.check_rest.Goals as goal
 
 pub loop-table-preserved : goal.loop-table-preserved

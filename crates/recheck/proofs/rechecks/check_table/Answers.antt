@@ -1,5 +1,5 @@
 use Rattle.std.proofs.Common.{sym, ◌∙◌}
-use Rattle.recheck.proofs.Counted.{unmodelled_none}
+use Rattle.recheck.proofs.EntryCounts.{unmodelled_none}
 use Rattle.recheck.proofs.Pairs.{left_at, some_same}
 use Rattle.recheck.proofs.rechecks.check_table.Goals as goal
 

@@ -1,4 +1,4 @@
-use Rattle.recheck.proofs.Checked.{not_valid_at, valid_at}
+use Rattle.recheck.proofs.EntryValidity.{not_valid_at, valid_at}
 use Rattle.recheck.proofs.rechecks.is_valid_at.Goals as goal
 
 pub returns-in-Ok : goal.returns-in-Ok

@@ -1,5 +1,5 @@
 use Rattle.std.proofs.Common.{arith}
-use Rattle.recheck.proofs.Counted.{number_end, number_more}
+use Rattle.recheck.proofs.EntryCounts.{number_end, number_more}
 use Rattle.recheck.proofs.rule.count_entries.Goals as goal
 
 pub loop-i-preserved : goal.loop-i-preserved

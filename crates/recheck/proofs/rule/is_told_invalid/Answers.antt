@@ -1,5 +1,5 @@
 use Rattle.std.proofs.Common.{refl, inl, inr, arith}
-use Rattle.recheck.proofs.Checked.{invalid_there}
+use Rattle.recheck.proofs.EntryValidity.{invalid_there}
 use Rattle.recheck.proofs.rule.is_told_invalid.Goals as goal
 
 pub returns-in_default-clause-counts : goal.returns-in_default-clause-counts

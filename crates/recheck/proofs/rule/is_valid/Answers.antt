@@ -1,4 +1,4 @@
-use Rattle.recheck.proofs.Checked.{not_valid, valid}
+use Rattle.recheck.proofs.EntryValidity.{not_valid, valid}
 use Rattle.recheck.proofs.rule.is_valid.Goals as goal
 
 pub returns-in-Ok : goal.returns-in-Ok

@@ -3,7 +3,7 @@ use Rattle.ref_index.specs.Referrers.{Indexed}
 use Rattle.recheck.specs.Entries.{AreWithin, entries_of}
 use Rattle.recheck.specs.Verdicts.{AreSound}
 use Rattle.recheck.specs.declared.verdicts.Verdict.{Verdict}
-use Rattle.recheck.proofs.Counted.{checked_after, ordered_after}
+use Rattle.recheck.proofs.EntryCounts.{checked_after, ordered_after}
 use Rattle.recheck.proofs.rule.recheck.Goals as goal
 
 pub check_rest-requires : goal.check_rest-requires

@@ -1,4 +1,4 @@
-use Rattle.scopes.proofs.Apart.{other_asic}
+use Rattle.scopes.proofs.DistinctFiles.{other_asic}
 use Rattle.scopes.proofs.laws.asics_have_files_of_their_own.Goals as goal
 
 pub returns : goal.returns

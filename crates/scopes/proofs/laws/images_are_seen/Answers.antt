@@ -1,4 +1,4 @@
-use Rattle.scopes.proofs.Whole.{image_of, image_seen}
+use Rattle.scopes.proofs.LocalhostFiles.{image_of, image_seen}
 use Rattle.scopes.proofs.laws.images_are_seen.Goals as goal
 
 pub returns : goal.returns

@@ -1,4 +1,4 @@
-use Rattle.scopes.proofs.Apart.{no_asic}
+use Rattle.scopes.proofs.DistinctFiles.{no_asic}
 use Rattle.scopes.proofs.laws.localhost_has_files_of_its_own.Goals as goal
 
 pub returns : goal.returns

@@ -1,4 +1,4 @@
-use Rattle.scopes.proofs.Whole.{whole_folder}
+use Rattle.scopes.proofs.LocalhostFiles.{whole_folder}
 use Rattle.scopes.proofs.laws.localhost_shows_the_folder.Goals as goal
 
 pub returns : goal.returns

@@ -1,7 +1,7 @@
 use Rattle.std.proofs.Common.{List, map, sym, ap, ◌∙◌}
 use Rattle.patch_core.specs.Operation.{operation_of}
 use Rattle.patch_core.specs.declared.operations.Op.{Op}
-use Rattle.scopes.proofs.Outside.{split_fails, split_parts}
+use Rattle.scopes.proofs.ScopelessOperations.{split_fails, split_parts}
 use Rattle.scopes.specs.Splitting.{part_of, split}
 use Rattle.scopes.proofs.splitting.split.Goals as goal
 

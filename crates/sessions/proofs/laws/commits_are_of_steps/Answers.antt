@@ -1,4 +1,4 @@
-use Rattle.sessions.proofs.CommitsMade.{commits_made}
+use Rattle.sessions.proofs.CommitTurns.{commits_made}
 use Rattle.sessions.proofs.laws.commits_are_of_steps.Goals as goal
 
 pub returns : goal.returns

@@ -1,5 +1,5 @@
 use Rattle.move_core.specs.Contexts.{rulebook}
-use Rattle.sessions.proofs.Led.{each_is_valid, last_is_end}
+use Rattle.sessions.proofs.CommitWays.{each_is_valid, last_is_end}
 use Rattle.sessions.proofs.laws.configurations_are_valid.Goals as goal
 
 pub returns-clause-valid : goal.returns-clause-valid

@@ -1,4 +1,4 @@
-use Rattle.sessions.proofs.RunsKeep.{run_goes_on, run_keeps}
+use Rattle.sessions.proofs.RunInvariants.{run_goes_on, run_keeps}
 use Rattle.sessions.proofs.laws.runs_keep_worlds.Goals as goal
 
 pub returns-clause-kept : goal.returns-clause-kept

@@ -1,4 +1,4 @@
-use Rattle.svc_rules.proofs.Tied.{AreTied}
+use Rattle.svc_rules.proofs.TableServices.{AreTied}
 use Rattle.svc_rules.proofs.services.tied_services.Given as goal
 
 abbrev pub invariant-loop-i : goal.invariant-loop-i

@@ -5,7 +5,7 @@ use Rattle.yang_text.specs.declared.statements.Statement.{Statement}
 use Rattle.yang_faults.specs.Duplicates.{given_by}
 use Rattle.yang_faults.specs.Entries.{needed}
 use Rattle.yang_faults.specs.NameSets.{NotesGiven}
-use Rattle.yang_faults.proofs.Given.{NotesGiven-none, NotesGiven-more}
+use Rattle.yang_faults.proofs.NameSequences.{NotesGiven-none, NotesGiven-more}
 use Rattle.yang_faults.proofs.duplicates.note_all_given.Goals as goal
 
 pub loop-statement-init : goal.loop-statement-init

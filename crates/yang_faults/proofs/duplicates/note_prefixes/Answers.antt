@@ -3,7 +3,7 @@ use Rattle.yang_text.specs.Statements.{declaration}
 use Rattle.yang_text.specs.declared.statements.Statement.{Statement}
 use Rattle.yang_scope.specs.Faults.{least_of}
 use Rattle.yang_faults.specs.Duplicates.{prefixes_given, prefixes_twice}
-use Rattle.yang_faults.proofs.Given.{NotesGiven-none, NotesGiven-more}
+use Rattle.yang_faults.proofs.NameSequences.{NotesGiven-none, NotesGiven-more}
 use Rattle.yang_faults.proofs.duplicates.note_prefixes.Goals as goal
 
 pub loop-statement-init : goal.loop-statement-init

@@ -4,7 +4,7 @@ use Rattle.yang_text.specs.Statements.{declaration}
 use Rattle.yang_text.specs.declared.statements.Statement.{Statement}
 use Rattle.yang_faults.specs.Files.{tables_of_module}
 use Rattle.yang_faults.specs.NameSets.{NotesGiven}
-use Rattle.yang_faults.proofs.Given.{NotesGiven-none, NotesGiven-more}
+use Rattle.yang_faults.proofs.NameSequences.{NotesGiven-none, NotesGiven-more}
 use Rattle.yang_faults.proofs.files.note_file_tables.Goals as goal
 
 pub loop-statement-init : goal.loop-statement-init

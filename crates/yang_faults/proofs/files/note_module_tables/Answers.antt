@@ -8,7 +8,7 @@ use Rattle.yang_faults.specs.Files.{tables_of_container}
 use Rattle.yang_faults.specs.NameSets.{NotesGiven}
 use Rattle.yang_faults.proofs.Choices.{taken, was_true}
 use Rattle.yang_scope.proofs.Blocks.{declarations-block_of}
-use Rattle.yang_faults.proofs.Given.{NotesGiven-none, NotesGiven-more}
+use Rattle.yang_faults.proofs.NameSequences.{NotesGiven-none, NotesGiven-more}
 use Rattle.yang_faults.proofs.files.note_module_tables.Goals as goal
 
 pub loop-inner-init : goal.loop-inner-init

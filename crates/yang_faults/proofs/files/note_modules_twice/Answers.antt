@@ -5,7 +5,7 @@ use Rattle.yang_faults.specs.Duplicates.{Given}
 use Rattle.yang_faults.specs.Files.{in_files, modules_given, modules_twice}
 use Rattle.yang_faults.specs.NameSets.{NotesGiven}
 use Rattle.yang_faults.proofs.FileSteps.{in_files-one_more}
-use Rattle.yang_faults.proofs.Given.{NotesGiven-none, NotesGiven-append}
+use Rattle.yang_faults.proofs.NameSequences.{NotesGiven-none, NotesGiven-append}
 use Rattle.yang_faults.proofs.files.note_modules_twice.Goals as goal
 
 pub loop-i-init : goal.loop-i-init

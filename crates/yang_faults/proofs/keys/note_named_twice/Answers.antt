@@ -5,7 +5,7 @@ use Rattle.yang_faults.specs.Duplicates.{Given}
 use Rattle.yang_faults.specs.Keys.{name_in_key, named_twice}
 use Rattle.yang_scope.specs.Pieces.{texts}
 use Rattle.yang_faults.specs.NameSets.{NotesGiven}
-use Rattle.yang_faults.proofs.Given.{NotesGiven-none, NotesGiven-append}
+use Rattle.yang_faults.proofs.NameSequences.{NotesGiven-none, NotesGiven-append}
 use Rattle.yang_faults.proofs.Steps.{map-one_more, get_or-self, no_text}
 use Rattle.yang_faults.proofs.keys.note_named_twice.Goals as goal
 

@@ -1,6 +1,6 @@
 use Rattle.std.proofs.Common.{rules, arith}
 use Rattle.yang_scope.proofs.FaultLists.{least_of-next}
-use Rattle.yang_must.proofs.Least.{least_of-all}
+use Rattle.yang_must.proofs.LeastFaults.{least_of-all}
 use Rattle.yang_must.specs.Musts.{table_faults}
 use Rattle.yang_must.proofs.must_faults.note_container.Goals as goal
 

@@ -2,7 +2,7 @@ use Rattle.std.proofs.lemmas.Result.{IfOk-weaker}
 use Rattle.yang_text.specs.Statements.{declaration}
 use Rattle.yang_must.specs.Musts.{if_must, if_leaf}
 use Rattle.yang_must.specs.Spots.{shape, leaf}
-use Rattle.yang_must.proofs.Least.{least_of-two}
+use Rattle.yang_must.proofs.LeastFaults.{least_of-two}
 use Rattle.yang_must.proofs.must_faults.note_in_shape.Goals as goal
 
 pub returns : goal.returns

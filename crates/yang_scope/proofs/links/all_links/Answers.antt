@@ -1,7 +1,7 @@
 use Rattle.std.proofs.Common.{List, subst, sym, ◌∙◌, ap, map}
 use Rattle.yang_scope.specs.Links.{IsBehind, link_behind}
 use Rattle.yang_scope.specs.declared.meanings.Meaning.{Meaning}
-use Rattle.yang_scope.proofs.Behind.{IsBehind-first, IsBehind-power}
+use Rattle.yang_scope.proofs.TypedefDistances.{IsBehind-first, IsBehind-power}
 use Rattle.yang_scope.proofs.links.all_links.Goals as goal
 
 pub loop-round-init : goal.loop-round-init

@@ -4,7 +4,7 @@ use Rattle.yang_scope.specs.Links.{map_from}
 use Rattle.yang_scope.specs.Meanings.{typedef_meaning}
 use Rattle.yang_scope.specs.Modules.{Module}
 use Rattle.yang_scope.specs.declared.meanings.Meaning.{Meaning}
-use Rattle.yang_scope.proofs.Behind.{map_from-next}
+use Rattle.yang_scope.proofs.TypedefDistances.{map_from-next}
 use Rattle.yang_scope.proofs.Blocks.{block-is}
 use Rattle.yang_scope.proofs.Tables.{take_end}
 use Rattle.yang_scope.proofs.links.first_links.Goals as goal

@@ -6,7 +6,7 @@ use Rattle.std.proofs.lemmas.Iterator.Splits.{YieldsList-from_str_split}
 use Rattle.std.specs.Str.Iter.{split_text, split_has_more, split_pattern}
 use Rattle.yang_types.specs.Addresses.{AreJoined}
 use Rattle.yang_types.specs.Parts.{IsPart, separator_of}
-use Rattle.yang_types.proofs.Joined.{cut, joined_nil, joined_none, joined_cut, joined_from_cut}
+use Rattle.yang_types.proofs.PartJoins.{cut, joined_nil, joined_none, joined_cut, joined_from_cut}
 use Rattle.yang_types.proofs.PartLemmas.{stand_apart, separator_ascii}
 use Rattle.yang_types.proofs.addresses.count_parts.Goals.{then-count-most-via-then-count-most, then-count-most-via-else-count-most+then-not-is_part}
 use Rattle.yang_types.proofs.addresses.count_parts.Goals as goal

@@ -6,8 +6,8 @@ use Rattle.yang_scope.specs.Meanings.{type_meaning, most_typedefs}
 use Rattle.yang_scope.specs.Paths.{Placed}
 use Rattle.yang_values.specs.Circles.{is_plain}
 use Rattle.yang_values.specs.Walks.{placed}
-use Rattle.yang_values.proofs.Plain.{no_circle}
-use Rattle.yang_values.proofs.Reached.{reached_there}
+use Rattle.yang_values.proofs.PlainBases.{no_circle}
+use Rattle.yang_values.proofs.ReachableTypes.{reached_there}
 use Rattle.yang_values.proofs.circles.is_on_circle.Goals as goal
 
 pub returns : goal.returns

@@ -2,7 +2,7 @@ use Rattle.std.proofs.Common.{◌∙◌, sym, ap}
 use Rattle.yang_text.specs.Statements.{declaration}
 use Rattle.yang_scope.specs.Paths.{Placed}
 use Rattle.yang_values.specs.Sameness.{same_declaration}
-use Rattle.yang_values.proofs.Alike.{declaration-is, declaration-same}
+use Rattle.yang_values.proofs.EqualStatements.{declaration-is, declaration-same}
 use Rattle.yang_values.proofs.circles.is_same.Goals as goal
 
 pub returns-then-one-other : goal.returns-then-one-other

@@ -1,7 +1,7 @@
 use Rattle.std.proofs.Common.{rules, List, map, take, subst, sym}
 use Rattle.yang_scope.specs.Paths.{Placed}
 use Rattle.yang_values.specs.Walks.{placed, IsAdded}
-use Rattle.yang_values.proofs.Reached.{added_more, mapped_more}
+use Rattle.yang_values.proofs.ReachableTypes.{added_more, mapped_more}
 use Rattle.yang_values.proofs.circles.push_new.Goals as goal
 
 pub loop-other-preserved : goal.loop-other-preserved

@@ -2,8 +2,8 @@ use Rattle.std.proofs.Common.{rules, ◌≡◌, ◌∙◌, length, map, get_or, 
 use Rattle.yang_scope.specs.Paths.{Placed}
 use Rattle.yang_values.specs.Walks.{placed, IsAdded}
 use Rattle.yang_values.specs.declared.walks.Place.{Place}
-use Rattle.yang_values.proofs.Alike.{length-map}
-use Rattle.yang_values.proofs.Reached.{reached_first, reached_more, reached_end, get_or-mapped}
+use Rattle.yang_values.proofs.EqualStatements.{length-map}
+use Rattle.yang_values.proofs.ReachableTypes.{reached_first, reached_more, reached_end, get_or-mapped}
 use Rattle.yang_values.proofs.circles.reached.Goals as goal
 
 pub loop-i-init : goal.loop-i-init

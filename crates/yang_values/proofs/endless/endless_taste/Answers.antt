@@ -6,7 +6,7 @@ use Rattle.yang_values.specs.Endless.{known_of, place_of, untried, AreClosed, Ar
 use Rattle.yang_values.specs.Walks.{placed}
 use Rattle.yang_values.specs.declared.endless.Known.{Known}
 use Rattle.yang_values.specs.declared.endless.Taste.{Taste}
-use Rattle.yang_values.proofs.Tastes.{untried_right, untried_places, reached_closed}
+use Rattle.yang_values.proofs.KnownTypes.{untried_right, untried_places, reached_closed}
 use Rattle.yang_values.proofs.endless.endless_taste.Goals as goal
 
 -- the statements that are known of from the start

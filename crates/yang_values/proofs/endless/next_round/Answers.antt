@@ -8,8 +8,8 @@ use Rattle.yang_values.specs.TypeValues.{type_within}
 use Rattle.yang_values.specs.Walks.{placed}
 use Rattle.yang_values.specs.declared.endless.Known.{Known}
 use Rattle.yang_values.specs.declared.endless.Taste.{Taste}
-use Rattle.yang_values.proofs.Reached.{mapped_more}
-use Rattle.yang_values.proofs.Tastes.{unchanged}
+use Rattle.yang_values.proofs.ReachableTypes.{mapped_more}
+use Rattle.yang_values.proofs.KnownTypes.{unchanged}
 use Rattle.yang_values.proofs.endless.next_round.Goals as goal
 
 pub loop-entry-preserved : goal.loop-entry-preserved

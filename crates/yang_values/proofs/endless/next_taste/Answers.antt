@@ -6,7 +6,7 @@ use Rattle.yang_scope.specs.Paths.{Placed}
 use Rattle.yang_values.specs.Endless.{known_of, place_of}
 use Rattle.yang_values.specs.TypeValues.{next}
 use Rattle.yang_values.specs.Walks.{placed}
-use Rattle.yang_values.proofs.Tastes.{next_right}
+use Rattle.yang_values.proofs.KnownTypes.{next_right}
 use Rattle.yang_values.proofs.endless.next_taste.Goals as goal
 
 pub stand_ins-requires : goal.stand_ins-requires

@@ -3,7 +3,7 @@ use Rattle.yang_scope.specs.Paths.{Placed}
 use Rattle.yang_values.specs.Endless.{known_of, place_of, AreClosed, AreRight}
 use Rattle.yang_values.specs.Values.{most_steps}
 use Rattle.yang_values.specs.declared.endless.Taste.{Taste}
-use Rattle.yang_values.proofs.Tastes.{settled}
+use Rattle.yang_values.proofs.KnownTypes.{settled}
 use Rattle.yang_values.proofs.endless.settle.Goals as goal
 
 pub loop-steps-init : goal.loop-steps-init

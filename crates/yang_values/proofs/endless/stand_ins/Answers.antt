@@ -4,9 +4,9 @@ use Rattle.yang_types.specs.DataTypes.{data_type}
 use Rattle.yang_scope.specs.Paths.{Placed}
 use Rattle.yang_values.specs.Endless.{known_of, place_of, StandsFor}
 use Rattle.yang_values.specs.Walks.{placed}
-use Rattle.yang_values.proofs.Alike.{length-map}
-use Rattle.yang_values.proofs.Reached.{get_or-mapped}
-use Rattle.yang_values.proofs.Tastes.{zip_more}
+use Rattle.yang_values.proofs.EqualStatements.{length-map}
+use Rattle.yang_values.proofs.ReachableTypes.{get_or-mapped}
+use Rattle.yang_values.proofs.KnownTypes.{zip_more}
 use Rattle.yang_values.proofs.endless.stand_ins.Goals as goal
 
 pub find_taste-taste-requires : goal.find_taste-taste-requires

@@ -5,9 +5,9 @@ use Rattle.yang_pattern.proofs.Decisions.{Told, like, both, same_number, told_tr
 use Rattle.yang_scope.specs.Paths.{Placed}
 use Rattle.yang_values.specs.Circles.{IsOnCircle}
 use Rattle.yang_values.specs.Sameness.{same_declaration}
-use Rattle.yang_values.proofs.Alike.{declaration-is, declaration-same}
+use Rattle.yang_values.proofs.EqualStatements.{declaration-is, declaration-same}
 use Rattle.yang_values.proofs.Ways.{way_told, way_reached, reached_way}
-use Rattle.yang_values.proofs.Nested.{around, around_itself, around_closed}
+use Rattle.yang_values.proofs.StatementNesting.{around, around_itself, around_closed}
 use Rattle.yang_values.proofs.laws.circles_are_decided.Goals as goal
 
 same_statement : (d e : Declaration) → Told (d ≡ e)

@@ -3,7 +3,7 @@ use Rattle.std.specs.List.{flat_map}
 use Rattle.yang_text.specs.Statements.{declaration}
 use Rattle.yang_scope.proofs.Blocks.{block-is, flat_map-map}
 use Rattle.yang_values.specs.TypeValues.{enum_name}
-use Rattle.yang_values.proofs.Given.{take_end}
+use Rattle.yang_values.proofs.ElementResults.{take_end}
 use Rattle.yang_values.proofs.named_types.enum_names.Goals as goal
 
 pub returns : goal.returns

@@ -1,5 +1,5 @@
 use Rattle.std.proofs.Common.{◌∙◌, sym, ap}
-use Rattle.yang_values.proofs.Narrow.{parsed}
+use Rattle.yang_values.proofs.IntegerParses.{parsed}
 use Rattle.yang_values.specs.Numbers.{is_integer}
 use Rattle.yang_values.proofs.numbers.bound_number.Goals as goal
 

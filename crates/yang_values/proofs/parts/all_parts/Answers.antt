@@ -1,6 +1,6 @@
 use Rattle.std.proofs.Common.{◌∙◌, ℕ, List, Some, Bor, sym, ap, arith}
 use Rattle.yang_values.specs.Parts.{part, all_given}
-use Rattle.yang_values.proofs.Given.{all_given-next, all_given-none, all_given-map, take_end}
+use Rattle.yang_values.proofs.ElementResults.{all_given-next, all_given-none, all_given-map, take_end}
 use Rattle.yang_values.proofs.parts.all_parts.Goals as goal
 
 pub returns-in-None : goal.returns-in-None

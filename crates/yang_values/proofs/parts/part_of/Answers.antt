@@ -1,6 +1,6 @@
 use Rattle.std.proofs.Common.{ℕ, List, arith}
 use denote.Ref.{Bor}
-use Rattle.yang_values.proofs.Given.{no_part}
+use Rattle.yang_values.proofs.ElementResults.{no_part}
 use Rattle.yang_values.proofs.parts.part_of.Goals as goal
 
 pub returns-in_default-2 : goal.returns-in_default-2

@@ -9,7 +9,7 @@ use Rattle.yang_scope.proofs.Blocks.{block-is}
 use Rattle.yang_values.specs.TypeValues.{restrict_if_taken, named_type}
 use Rattle.yang_values.specs.Values.{restricted_values}
 use Rattle.yang_values.proofs.Chains.{fold-map}
-use Rattle.yang_values.proofs.Given.{take_end}
+use Rattle.yang_values.proofs.ElementResults.{take_end}
 use Rattle.yang_values.proofs.restrictions.type_by.Goals as goal
 
 pub returns : goal.returns

@@ -1,6 +1,6 @@
 use Rattle.std.proofs.Common.{length, sym, ap, arith}
 use Rattle.yang_text.specs.Statements.{declaration}
-use Rattle.yang_values.proofs.Alike.{lengths-differ, member_weight, length-map, block_weighs}
+use Rattle.yang_values.proofs.EqualStatements.{lengths-differ, member_weight, length-map, block_weighs}
 use Rattle.yang_values.proofs.sameness.+comparing.Goals as goal
 
 pub same_block-returns-then-statements-others : goal.same_block-returns-then-statements-others

@@ -2,7 +2,7 @@ use Rattle.std.proofs.Common.{◌≡◌, ◌∙◌, IfOk, Option, ap, subst}
 use Rattle.yang_types.specs.declared.types.Target.{Target}
 use Rattle.yang_scope.specs.Paths.{container_named}
 use Rattle.yang_values.specs.Targets.{target_in}
-use Rattle.yang_values.proofs.Numbered.{target_by_list}
+use Rattle.yang_values.proofs.KeyPartNumbers.{target_by_list}
 use Rattle.yang_values.proofs.targets.target_named.Goals as goal
 
 pub returns : goal.returns

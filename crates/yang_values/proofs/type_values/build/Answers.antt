@@ -1,6 +1,6 @@
 use Rattle.std.proofs.Common.{rules, ◌∙◌, map, reverse, sym, arith}
 use Rattle.yang_types.specs.DataTypes.{data_type}
-use Rattle.yang_values.proofs.Taken.{built_next, built_end}
+use Rattle.yang_values.proofs.TypeRemovals.{built_next, built_end}
 use Rattle.yang_values.proofs.type_values.build.Goals as goal
 
 pub loop-visit-preserved : goal.loop-visit-preserved

@@ -1,6 +1,6 @@
 use Rattle.std.proofs.Common.{rules, map, reverse}
 use Rattle.yang_types.specs.DataTypes.{data_type}
-use Rattle.yang_values.proofs.Taken.{taken_more}
+use Rattle.yang_values.proofs.TypeRemovals.{taken_more}
 use Rattle.yang_values.proofs.type_values.take_types.Goals as goal
 
 pub loop-i-preserved : goal.loop-i-preserved

@@ -1,7 +1,7 @@
 use Rattle.std.proofs.Common.{◌∙◌, sym}
 use Rattle.yang_text.specs.Statements.{declaration}
 use Rattle.yang_values.specs.Values.{restricted_values}
-use Rattle.yang_values.proofs.Without.{parts_without}
+use Rattle.yang_values.proofs.ValuelessParts.{parts_without}
 use Rattle.yang_values.proofs.values.parts_at.Goals as goal
 
 pub returns-in-Ok-Some : goal.returns-in-Ok-Some

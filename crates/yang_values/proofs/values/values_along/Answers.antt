@@ -4,7 +4,7 @@ use Rattle.yang_text.specs.Statements.{declaration}
 use Rattle.yang_text.specs.declared.statements.Statement.{Statement}
 use Rattle.yang_values.specs.Values.{values_by}
 use Rattle.yang_values.proofs.Chains.{fold-map}
-use Rattle.yang_values.proofs.Given.{take_end}
+use Rattle.yang_values.proofs.ElementResults.{take_end}
 use Rattle.yang_values.proofs.values.values_along.Goals as goal
 
 pub returns : goal.returns

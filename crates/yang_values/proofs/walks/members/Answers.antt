@@ -3,7 +3,7 @@ use Rattle.yang_text.specs.Statements.{declaration}
 use Rattle.yang_scope.specs.Statements.{is_keyword}
 use Rattle.yang_scope.proofs.Blocks.{block-is}
 use Rattle.yang_values.specs.TypeValues.{placed_in}
-use Rattle.yang_values.proofs.Given.{take_end}
+use Rattle.yang_values.proofs.ElementResults.{take_end}
 use Rattle.yang_values.proofs.walks.members.Goals as goal
 
 pub returns : goal.returns

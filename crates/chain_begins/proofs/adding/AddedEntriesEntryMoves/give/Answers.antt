@@ -2,10 +2,10 @@ use Rattle.std.proofs.Common.{◌≡◌, sym, ◌∙◌}
 use Rattle.conf_doc.specs.declared.parts.Part.TheVariants as part
 use Rattle.chain_begins.specs.Adding.{IsAs, class_of}
 use Rattle.chain_begins.specs.Given.{IsAddedEntry, move_for}
-use Rattle.chain_begins.proofs.Appended.{appends_none, gives_alike}
-use Rattle.chain_begins.proofs.Chosen.{one_entry}
+use Rattle.chain_begins.proofs.ListGrowth.{appends_none, gives_alike}
+use Rattle.chain_begins.proofs.SeedEntries.{one_entry}
 use Rattle.chain_begins.proofs.KeyMoves.{added_once}
-use Rattle.chain_begins.proofs.Owned.{nothing, something}
+use Rattle.chain_begins.proofs.OwnPlaces.{nothing, something}
 use Rattle.chain_begins.proofs.adding.AddedEntriesEntryMoves.give.Goals as goal
 
 pub returns-then-is_some : goal.returns-then-is_some

@@ -1,7 +1,7 @@
 use Rattle.std.proofs.Common.{option_map, option_copied, sym, ap, ◌∙◌}
 use Rattle.conf_doc.specs.declared.parts.Part.TheVariants as part
 use Rattle.chain_begins.specs.Given.{IsChangedEntry, IsOfFields}
-use Rattle.chain_begins.proofs.Appended.{gives_alike}
+use Rattle.chain_begins.proofs.ListGrowth.{gives_alike}
 use Rattle.chain_begins.proofs.FieldMoves.{of_entry}
 use Rattle.chain_begins.proofs.fields.ChangedEntriesEntryMoves.give.Goals as goal
 

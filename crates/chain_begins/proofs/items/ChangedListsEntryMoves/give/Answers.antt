@@ -2,7 +2,7 @@ use Rattle.std.proofs.Common.{option_map, option_copied, sym, ap, ◌∙◌}
 use Rattle.conf_doc.specs.declared.parts.Part.TheVariants as part
 use Rattle.chain_begins.specs.Giving.{IsOfSome}
 use Rattle.chain_begins.specs.ItemsGiven.{IsItemOfField, IsOfItemsOfEntry}
-use Rattle.chain_begins.proofs.Appended.{gives_alike}
+use Rattle.chain_begins.proofs.ListGrowth.{gives_alike}
 use Rattle.chain_begins.proofs.ItemMoves.{of_entry}
 use Rattle.chain_begins.proofs.items.ChangedListsEntryMoves.give.Goals as goal
 

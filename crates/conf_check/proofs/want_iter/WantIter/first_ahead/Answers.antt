@@ -1,5 +1,5 @@
 use Rattle.conf_check.proofs.KeptShapes.{kept_told}
-use Rattle.conf_check.proofs.WantsAhead.{first_of_all, first_of_one}
+use Rattle.conf_check.proofs.RemainingWants.{first_of_all, first_of_one}
 use Rattle.conf_check.proofs.want_iter.WantIter.first_ahead.Goals as goal
 
 pub first_by_shape-requires : goal.first_by_shape-requires

@@ -1,6 +1,6 @@
 use Rattle.std.proofs.Common.{refl}
-use Rattle.conf_check.proofs.Coming.{places_fall, progress}
-use Rattle.conf_check.proofs.WantsAhead.{given, shape_stays}
+use Rattle.conf_check.proofs.RemainingPlaces.{places_fall, progress}
+use Rattle.conf_check.proofs.RemainingWants.{given, shape_stays}
 use Rattle.conf_check.proofs.want_iter.WantIterIterator.next.Goals as goal
 
 pub invariant_of-self : goal.invariant_of-self

@@ -1,7 +1,7 @@
 use Rattle.std.proofs.Common.{ap, ◌∙◌}
 use Rattle.std.specs.List.{fold}
 use Rattle.conf_doc.specs.Order.{pairs_fed}
-use Rattle.conf_doc.proofs.Compared.{fed_shared}
+use Rattle.conf_doc.proofs.ItemMaps.{fed_shared}
 use Rattle.conf_doc.proofs.comparisons.SortedHash.hash.Goals as goal
 
 pub returns : goal.returns

@@ -1,6 +1,6 @@
 use Rattle.std.proofs.Common.{◌∙◌}
 use Rattle.conf_doc.specs.Order.{pairs_cmp}
-use Rattle.conf_doc.proofs.Compared.{cmp_shared}
+use Rattle.conf_doc.proofs.ItemMaps.{cmp_shared}
 use Rattle.conf_doc.proofs.comparisons.SortedOrd.cmp.Goals as goal
 
 pub returns : goal.returns

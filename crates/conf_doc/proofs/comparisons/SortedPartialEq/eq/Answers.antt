@@ -1,6 +1,6 @@
 use Rattle.std.proofs.Common.{◌∙◌}
 use Rattle.conf_doc.specs.Order.{pairs_eq}
-use Rattle.conf_doc.proofs.Compared.{eq_shared}
+use Rattle.conf_doc.proofs.ItemMaps.{eq_shared}
 use Rattle.conf_doc.proofs.comparisons.SortedPartialEq.eq.Goals as goal
 
 pub returns : goal.returns

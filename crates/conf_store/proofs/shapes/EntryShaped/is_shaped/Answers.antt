@@ -1,7 +1,7 @@
 use Rattle.std.proofs.Common.{sym, ap, ◌∙◌}
 use Rattle.std.specs.List.{list_all}
 use Rattle.conf_doc.specs.Trees.{document}
-use Rattle.conf_doc.proofs.Equal.{pairs-members_of}
+use Rattle.conf_doc.proofs.Equalities.{pairs-members_of}
 use Rattle.conf_store.specs.Shapes.{is_entry, is_named, is_value}
 use Rattle.conf_store.proofs.shapes.EntryShaped.is_shaped.Goals as goal
 

@@ -1,7 +1,7 @@
 use Rattle.std.proofs.Common.{sym, ap, ◌∙◌}
 use Rattle.std.specs.List.{list_all}
 use Rattle.conf_doc.specs.Trees.{document}
-use Rattle.conf_doc.proofs.Equal.{documents-items_of}
+use Rattle.conf_doc.proofs.Equalities.{documents-items_of}
 use Rattle.conf_store.specs.Shapes.{is_text, is_value}
 use Rattle.conf_store.proofs.shapes.ValueShaped.is_shaped.Goals as goal
 

@@ -1,4 +1,4 @@
-use Rattle.move_core.proofs.Boxed.{before_kept, kinds_kept, of_rule}
+use Rattle.move_core.proofs.BoxLists.{before_kept, kinds_kept, of_rule}
 use Rattle.std.proofs.Common.{◌+◌}
 use Rattle.move_core.proofs.kits.Kit.allows_at.Goals as goal
 

@@ -1,4 +1,4 @@
-use Rattle.move_core.proofs.Boxed.{kinds_kept, of_extender}
+use Rattle.move_core.proofs.BoxLists.{kinds_kept, of_extender}
 use Rattle.std.proofs.Common.{◌+◌}
 use Rattle.move_core.proofs.kits.Kit.extend_at.Goals as goal
 

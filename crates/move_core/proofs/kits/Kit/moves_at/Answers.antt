@@ -1,4 +1,4 @@
-use Rattle.move_core.proofs.Boxed.{kinds_kept, of_generator}
+use Rattle.move_core.proofs.BoxLists.{kinds_kept, of_generator}
 use Rattle.std.proofs.Common.{◌+◌}
 use Rattle.move_core.proofs.kits.Kit.moves_at.Goals as goal
 

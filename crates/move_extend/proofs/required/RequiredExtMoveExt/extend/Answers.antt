@@ -1,8 +1,8 @@
 use Rattle.std.proofs.lemmas.Result.{on_ok_weaker}
 use Rattle.move_core.specs.Contexts.{rulebook}
 use Rattle.move_core.specs.Extensions.{IsExtension, IsRequired}
-use Rattle.move_extend.proofs.ByKind.{fourth_kind}
-use Rattle.move_extend.proofs.Finding.{appends_as, appends_behind}
+use Rattle.move_extend.proofs.ExtenderKinds.{fourth_kind}
+use Rattle.move_extend.proofs.DistinctLists.{appends_as, appends_behind}
 use Rattle.move_extend.proofs.required.RequiredExtMoveExt.extend.Goals as goal
 
 pub returns-clause-ok : goal.returns-clause-ok

@@ -1,8 +1,8 @@
 use Rattle.std.proofs.lemmas.Result.{on_ok_weaker}
 use Rattle.move_core.specs.Contexts.{rulebook}
 use Rattle.move_core.specs.Extensions.{IsExtension, IsUpper}
-use Rattle.move_extend.proofs.ByKind.{first_kind, is_upper}
-use Rattle.move_extend.proofs.Finding.{appends_as, appends_option}
+use Rattle.move_extend.proofs.ExtenderKinds.{first_kind, is_upper}
+use Rattle.move_extend.proofs.DistinctLists.{appends_as, appends_option}
 use Rattle.move_extend.proofs.upper.UpperExtMoveExt.extend.Goals as goal
 
 pub returns-clause-ok : goal.returns-clause-ok

@@ -2,10 +2,10 @@ use Rattle.std.proofs.Common.{◌≡◌, sym, ◌∙◌}
 use Rattle.conf_doc.specs.declared.parts.Part.TheVariants as part
 use Rattle.move_gen.specs.Adding.{IsAs, class_of}
 use Rattle.move_gen.specs.Given.{IsAddedEntry, move_for}
-use Rattle.move_gen.proofs.Appended.{appends_none, gives_alike}
-use Rattle.move_gen.proofs.Chosen.{one_entry}
+use Rattle.move_gen.proofs.ListGrowth.{appends_none, gives_alike}
+use Rattle.move_gen.proofs.SeedEntries.{one_entry}
 use Rattle.move_gen.proofs.KeyMoves.{added_once}
-use Rattle.move_gen.proofs.Owned.{nothing, something}
+use Rattle.move_gen.proofs.OwnPlaces.{nothing, something}
 use Rattle.move_gen.proofs.adding.AddedEntriesEntryMoves.give.Goals as goal
 
 pub returns-then-is_some : goal.returns-then-is_some

@@ -1,7 +1,7 @@
 use Rattle.std.proofs.Common.{option_map, option_copied, sym, ap, ◌∙◌}
 use Rattle.conf_doc.specs.declared.parts.Part.TheVariants as part
 use Rattle.move_gen.specs.Given.{IsChangedEntry, IsOfFields}
-use Rattle.move_gen.proofs.Appended.{gives_alike}
+use Rattle.move_gen.proofs.ListGrowth.{gives_alike}
 use Rattle.move_gen.proofs.FieldMoves.{of_entry}
 use Rattle.move_gen.proofs.fields.ChangedEntriesEntryMoves.give.Goals as goal
 

@@ -1,6 +1,6 @@
 use Rattle.move_core.specs.Contexts.{rulebook}
 use Rattle.move_core.specs.Generated.{IsFromFields, IsGenerated}
-use Rattle.move_gen.proofs.OfKinds.{on_ok, third_kind}
+use Rattle.move_gen.proofs.GeneratorKinds.{on_ok, third_kind}
 use Rattle.move_gen.proofs.fields.FieldGenMoveGen.moves.Goals as goal
 
 pub returns-clause-ok : goal.returns-clause-ok

@@ -2,7 +2,7 @@ use Rattle.std.proofs.Common.{option_map, option_copied, sym, ap, ◌∙◌}
 use Rattle.conf_doc.specs.declared.parts.Part.TheVariants as part
 use Rattle.move_gen.specs.Giving.{IsOfSome}
 use Rattle.move_gen.specs.ItemsGiven.{IsItemOfField, IsOfItemsOfEntry}
-use Rattle.move_gen.proofs.Appended.{gives_alike}
+use Rattle.move_gen.proofs.ListGrowth.{gives_alike}
 use Rattle.move_gen.proofs.ItemMoves.{of_entry}
 use Rattle.move_gen.proofs.items.ChangedListsEntryMoves.give.Goals as goal
 

@@ -1,6 +1,6 @@
 use Rattle.move_core.specs.Contexts.{rulebook}
 use Rattle.move_core.specs.Generated.{IsFromItems, IsGenerated}
-use Rattle.move_gen.proofs.OfKinds.{on_ok, fifth_kind}
+use Rattle.move_gen.proofs.GeneratorKinds.{on_ok, fifth_kind}
 use Rattle.move_gen.proofs.items.ItemGenMoveGen.moves.Goals as goal
 
 pub returns-clause-ok : goal.returns-clause-ok

@@ -3,9 +3,9 @@ use Rattle.conf_doc.specs.declared.parts.Part.TheVariants as part
 use Rattle.move_core.specs.Generated.{key_class}
 use Rattle.move_core.specs.declared.moves.Move.TheVariants.{Remove}
 use Rattle.move_gen.specs.Given.{IsRemovedEntry, own_move}
-use Rattle.move_gen.proofs.Appended.{appends_none, gives_alike}
+use Rattle.move_gen.proofs.ListGrowth.{appends_none, gives_alike}
 use Rattle.move_gen.proofs.KeyMoves.{removed_once}
-use Rattle.move_gen.proofs.Owned.{nothing, something}
+use Rattle.move_gen.proofs.OwnPlaces.{nothing, something}
 use Rattle.move_gen.proofs.keys.RemovedEntriesEntryMoves.give.Goals as goal
 
 pub returns-then-is_some : goal.returns-then-is_some

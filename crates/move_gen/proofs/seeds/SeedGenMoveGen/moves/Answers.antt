@@ -1,6 +1,6 @@
 use Rattle.move_core.specs.Contexts.{rulebook}
 use Rattle.move_core.specs.Generated.{IsFromSeeds, IsGenerated}
-use Rattle.move_gen.proofs.OfKinds.{fourth_kind, on_ok}
+use Rattle.move_gen.proofs.GeneratorKinds.{fourth_kind, on_ok}
 use Rattle.move_gen.proofs.seeds.SeedGenMoveGen.moves.Goals as goal
 
 pub returns-clause-ok : goal.returns-clause-ok

@@ -1,4 +1,4 @@
-use Rattle.move_lists.proofs.Noted.{entries_once}
+use Rattle.move_lists.proofs.MoveMaps.{entries_once}
 use Rattle.move_lists.proofs.reaches.Reach.len.Goals as goal
 
 pub returns-clause-once : goal.returns-clause-once

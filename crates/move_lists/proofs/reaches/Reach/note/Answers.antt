@@ -1,5 +1,5 @@
 use Rattle.std.proofs.Common.{inl, inr, refl, ◌∙◌}
-use Rattle.move_lists.proofs.Noted.{known, put, unknown}
+use Rattle.move_lists.proofs.MoveMaps.{known, put, unknown}
 use Rattle.move_lists.proofs.reaches.Reach.note.Goals as goal
 use Rattle.move_lists.proofs.reaches.Reach.note.Goals.{then-contains_key-via-then-contains_key, then-contains_key-via-else-contains_key+then-contains_key-2}
 

@@ -3,7 +3,7 @@ use Rattle.std.proofs.lemmas.List.{map-id}
 use Rattle.std.proofs.lemmas.Iterator.Adapters.{YieldsList-from_vec}
 use Rattle.std.proofs.lemmas.Iterator.Consumers.{YieldsList-end}
 use Rattle.move_lists.specs.Reaches.{AreNoted}
-use Rattle.move_lists.proofs.Reached.{noted_more, noted_none}
+use Rattle.move_lists.proofs.ReachableMoves.{noted_more, noted_none}
 use Rattle.move_lists.proofs.reaches.Reach.note_all.Goals as goal
 
 pub loop-mv-init : goal.loop-mv-init

@@ -1,7 +1,7 @@
 use Rattle.std.proofs.Common.{OnOk, Result, Ok, Err, IsTrue, arith}
 use Rattle.std.proofs.lemmas.Option.{slice_get_within}
 use Rattle.move_core.specs.Extensions.{IsUpper}
-use Rattle.move_lists.proofs.Reached.{above_known, depth_at, spread_noted}
+use Rattle.move_lists.proofs.ReachableMoves.{above_known, depth_at, spread_noted}
 use Rattle.move_lists.proofs.reaches.Reach.spread.Goals as goal
 
 on_ok : {T E P Q : Type 0} (r : Result T E) → (P → Q) → OnOk r P → OnOk r Q

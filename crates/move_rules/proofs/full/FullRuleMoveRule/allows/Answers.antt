@@ -1,4 +1,4 @@
-use Rattle.move_rules.proofs.Violated.{first_rule}
+use Rattle.move_rules.proofs.Validity.{first_rule}
 use Rattle.move_rules.proofs.full.FullRuleMoveRule.allows.Goals as goal
 
 pub returns-clause-allows : goal.returns-clause-allows

@@ -1,5 +1,5 @@
 use Rattle.plan_search.specs.ConfigKeys.{config_eq, configs_decide}
-use Rattle.plan_search.proofs.Same.{added}
+use Rattle.plan_search.proofs.SetAnswers.{added}
 use Rattle.plan_search.proofs.met_set.Met.insert.Goals as goal
 
 pub returns : goal.returns

@@ -1,8 +1,8 @@
 use Rattle.std.proofs.Common.{◌≡◌, Option, IfSome, refl, sym, subst, arith}
 use Rattle.recheck.specs.declared.kept.Kept.{Kept}
-use Rattle.recheck.proofs.Checked.{first_rule}
+use Rattle.recheck.proofs.EntryValidity.{first_rule}
 use Rattle.recheck.specs.Counts.{AreChecked, IsRaised}
-use Rattle.recheck.proofs.Counted.{rechecked_counts, refused_counts}
+use Rattle.recheck.proofs.EntryCounts.{rechecked_counts, refused_counts}
 use Rattle.recheck.proofs.rule.RecheckRuleMoveRule.allows.Goals as goal
 
 pub recheck-requires : goal.recheck-requires

@@ -1,7 +1,7 @@
 use Rattle.std.proofs.Common.{rules, ◌≡◌, subst, sym}
 use Rattle.sessions.specs.Turns.{with_aim}
 use Rattle.sessions.specs.Worlds.{IsKept, WorldState}
-use Rattle.sessions.proofs.Kept.{with_aim_is_kept}
+use Rattle.sessions.proofs.WorldInvariants.{with_aim_is_kept}
 use Rattle.sessions.proofs.worlds.World.aim.Goals as goal
 
 pub invariant_of-self-2 : goal.invariant_of-self-2

@@ -3,8 +3,8 @@ use Rattle.std.specs.Prelude.{IsSomeAnd}
 use Rattle.sessions.specs.Named.{IsNextOf}
 use Rattle.sessions.specs.States.{state_of}
 use Rattle.sessions.specs.Worlds.{WorldState, session_of}
-use Rattle.sessions.proofs.Kept.{next_is_allowed, next_is_kept}
-use Rattle.sessions.proofs.Committed.{committed}
+use Rattle.sessions.proofs.WorldInvariants.{next_is_allowed, next_is_kept}
+use Rattle.sessions.proofs.CommitWorlds.{committed}
 use Rattle.sessions.proofs.worlds.World.commit.Goals as goal
 
 pub step-requires : goal.step-requires

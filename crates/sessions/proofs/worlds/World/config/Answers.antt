@@ -1,6 +1,6 @@
 use Rattle.std.proofs.Common.{subst}
 use Rattle.sessions.specs.Worlds.{IsKept}
-use Rattle.sessions.proofs.Led.{kept_is_valid}
+use Rattle.sessions.proofs.CommitWays.{kept_is_valid}
 use Rattle.sessions.proofs.worlds.World.config.Goals as goal
 
 pub returns-clause-valid : goal.returns-clause-valid

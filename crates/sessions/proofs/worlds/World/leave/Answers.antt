@@ -1,7 +1,7 @@
 use Rattle.std.proofs.Common.{rules, ◌≡◌, subst, sym}
 use Rattle.sessions.specs.Turns.{without_session}
 use Rattle.sessions.specs.Worlds.{IsKept, WorldState}
-use Rattle.sessions.proofs.Kept.{without_session_is_kept}
+use Rattle.sessions.proofs.WorldInvariants.{without_session_is_kept}
 use Rattle.sessions.proofs.worlds.World.leave.Goals as goal
 
 pub invariant_of-self : goal.invariant_of-self

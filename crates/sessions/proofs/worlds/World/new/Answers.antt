@@ -1,6 +1,6 @@
 use Rattle.std.proofs.Common.{◌≡◌, subst, sym}
 use Rattle.sessions.specs.Worlds.{IsKept, opened}
-use Rattle.sessions.proofs.Kept.{opened_is_kept}
+use Rattle.sessions.proofs.WorldInvariants.{opened_is_kept}
 use Rattle.sessions.proofs.worlds.World.new.Goals as goal
 
 pub invariant_of-result : goal.invariant_of-result

@@ -1,6 +1,6 @@
 use Rattle.std.proofs.Common.{true, string_bytes, sym, ◌∙◌}
 use Rattle.std.proofs.lemmas.Map.Text.{btree_set_updates_text}
-use Rattle.yang_faults.proofs.Given.{IsSetOf-added, IsSetOf-last, IsSetOf-again}
+use Rattle.yang_faults.proofs.NameSequences.{IsSetOf-added, IsSetOf-last, IsSetOf-again}
 use Rattle.yang_faults.proofs.name_sets.NameSet.add.Goals as goal
 
 pub returns-clause-next : goal.returns-clause-next

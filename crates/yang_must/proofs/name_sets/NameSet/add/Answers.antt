@@ -1,6 +1,6 @@
 use Rattle.std.proofs.Common.{true, string_bytes, sym, ◌∙◌}
 use Rattle.std.proofs.lemmas.Map.Text.{btree_set_updates_text}
-use Rattle.yang_must.proofs.Found.{Gains-added, Gains-again}
+use Rattle.yang_must.proofs.FollowedPaths.{Gains-added, Gains-again}
 use Rattle.yang_must.proofs.name_sets.NameSet.add.Goals as goal
 
 pub returns-then-contains : goal.returns-then-contains

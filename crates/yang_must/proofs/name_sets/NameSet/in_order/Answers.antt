@@ -3,7 +3,7 @@ use Rattle.std.specs.Prelude.{string_bytes}
 use Rattle.std.specs.Map.Iter.{deref}
 use Rattle.std.proofs.lemmas.Map.Iter.{iter_end}
 use Rattle.std.proofs.lemmas.Simd.{map-map}
-use Rattle.yang_must.proofs.InOrder.{in_order-keys}
+use Rattle.yang_must.proofs.KeyOrder.{in_order-keys}
 use Rattle.yang_must.proofs.name_sets.NameSet.in_order.Goals as goal
 
 pub returns : goal.returns

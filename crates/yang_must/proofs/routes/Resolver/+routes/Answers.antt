@@ -6,7 +6,7 @@ use Rattle.xpath_part.proofs.Weights.{test_lighter}
 use Rattle.yang_must.specs.Findings.{Finds}
 use Rattle.yang_must.specs.Routes.{Route, routes, inner_routes, test_routes}
 use Rattle.yang_must.specs.SpotRefs.{spot_at}
-use Rattle.yang_must.proofs.Found.{Finds-none, Finds-both, Finds-swap}
+use Rattle.yang_must.proofs.FollowedPaths.{Finds-none, Finds-both, Finds-swap}
 use Rattle.yang_must.proofs.Steps.{inner-next, inner-none, steps-past, step_lighter, tests-here, tests-past}
 use Rattle.yang_must.proofs.routes.Resolver.+routes.Goals as goal
 

@@ -3,7 +3,7 @@ use Rattle.std.specs.List.{flat_map}
 use Rattle.yang_must.specs.Findings.{Gains}
 use Rattle.yang_must.specs.Routes.{spots_along, table_at}
 use Rattle.yang_must.specs.SpotRefs.{spot_at}
-use Rattle.yang_must.proofs.Found.{Gains-both, Gains-none}
+use Rattle.yang_must.proofs.FollowedPaths.{Gains-both, Gains-none}
 use Rattle.yang_must.proofs.Steps.{tables-next, tables-none, steps-past}
 use Rattle.yang_must.proofs.routes.Resolver.add_tables.Goals as goal
 

@@ -1,4 +1,4 @@
-use Rattle.yang_must.proofs.Found.{Finds-route}
+use Rattle.yang_must.proofs.FollowedPaths.{Finds-route}
 use Rattle.yang_must.specs.SpotRefs.{spot_at}
 use Rattle.xpath_part.specs.Expression.{strides_of}
 use Rattle.xpath_part.specs.Expressions.{step_of}

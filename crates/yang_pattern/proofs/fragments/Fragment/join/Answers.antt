@@ -1,6 +1,6 @@
 use Rattle.std.proofs.Common.{rules, ◌≡◌, length, arith, true}
 use Rattle.yang_pattern.specs.Machine.{texts_of}
-use Rattle.yang_pattern.proofs.Nothing.{takes_nothing, both_nothing}
+use Rattle.yang_pattern.proofs.EmptyMachines.{takes_nothing, both_nothing}
 use Rattle.yang_pattern.proofs.fragments.Fragment.join.Goals as goal
 
 pub returns-then-is_empty : goal.returns-then-is_empty

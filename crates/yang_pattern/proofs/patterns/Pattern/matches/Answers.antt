@@ -4,7 +4,7 @@ use Rattle.yang_pattern.specs.Symbols.{reads_token}
 use Rattle.yang_pattern.specs.Machine.{machine_of, Takes}
 use Rattle.yang_pattern.specs.Pattern.{Branches, Matches}
 use Rattle.yang_pattern.specs.Language.{SpellsWithin}
-use Rattle.yang_pattern.proofs.Unique.{same_pattern}
+use Rattle.yang_pattern.proofs.PatternUniqueness.{same_pattern}
 use Rattle.yang_pattern.proofs.patterns.Pattern.matches.Goals as goal
 
 pub returns-clause-language : goal.returns-clause-language

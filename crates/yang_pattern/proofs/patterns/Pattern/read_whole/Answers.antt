@@ -12,7 +12,7 @@ use Rattle.yang_pattern.specs.Pattern.{Branches, Matches}
 use Rattle.yang_pattern.specs.Reading.{run, start}
 use Rattle.yang_pattern.specs.Language.{SpellsWithin}
 use Rattle.yang_pattern.proofs.LetterSteps.{IfNoPattern-weaker}
-use Rattle.yang_pattern.proofs.Unique.{no_letters, no_tokens, no_pattern, found_large, found_whole}
+use Rattle.yang_pattern.proofs.PatternUniqueness.{no_letters, no_tokens, no_pattern, found_large, found_whole}
 use Rattle.yang_pattern.proofs.patterns.Pattern.read_whole.Goals as goal
 
 pub returns-in_err-letters-clause-bad : goal.returns-in_err-letters-clause-bad

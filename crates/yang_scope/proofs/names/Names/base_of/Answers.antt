@@ -1,7 +1,7 @@
 use Rattle.std.proofs.Common.{◌≡◌, None, ◌∙◌, sym, ap, inl, inr}
 use Rattle.yang_scope.specs.Links.{link_behind}
 use Rattle.yang_scope.specs.Meanings.{base_by, base_of, most_typedefs}
-use Rattle.yang_scope.proofs.Behind.{base_behind}
+use Rattle.yang_scope.proofs.TypedefDistances.{base_behind}
 use Rattle.yang_scope.proofs.names.Names.base_of.Goals as goal
 
 pub returns-in-Ends : goal.returns-in-Ends

@@ -2,7 +2,7 @@ use Rattle.std.proofs.Common.{◌∙◌, sym, ap, slice_get, option_and_then}
 use Rattle.std.specs.List.{find}
 use Rattle.yang_scope.specs.Paths.{is_named}
 use Rattle.yang_scope.proofs.Finding.{copied-item}
-use Rattle.yang_scope.proofs.Named.{named-at}
+use Rattle.yang_scope.proofs.ElementNumbers.{named-at}
 use Rattle.yang_scope.proofs.node_lists.NodeList.named.Goals as goal
 
 pub returns-in-Some : goal.returns-in-Some

@@ -2,7 +2,7 @@ use Rattle.std.proofs.Common.{arith, ◌≡◌, length, List, ◌++◌, ◌∙�
 use Rattle.yang_text.specs.Declarations.{argument}
 use Rattle.yang_scope.specs.NameTables.{IsTableOf}
 use Rattle.yang_scope.specs.Statements.{Entry, name_entry}
-use Rattle.yang_scope.proofs.Named.{entries, entries-push}
+use Rattle.yang_scope.proofs.ElementNumbers.{entries, entries-push}
 use Rattle.yang_scope.proofs.node_lists.NodeList.with.Goals as goal
 
 pub invariant_of-result : goal.invariant_of-result

@@ -3,7 +3,7 @@ use Rattle.yang_scope.specs.Modules.{Module}
 use Rattle.yang_scope.specs.Paths.{Placed}
 use Rattle.yang_values.specs.Endings.{DoesEnd}
 use Rattle.yang_values.specs.Walks.{placed}
-use Rattle.yang_values.proofs.Based.{ends_at_base}
+use Rattle.yang_values.proofs.TypedefBases.{ends_at_base}
 use Rattle.yang_values.proofs.Ends.{ends_among}
 use Rattle.yang_values.proofs.endings.Endings.does_end.Goals as goal
 
