@@ -3,6 +3,7 @@ pub mod Compared
 pub mod Edits
 pub mod Equal
 pub mod Escapes
+pub mod Joined
 pub mod Lists
 pub mod Names
 pub mod Parsed
