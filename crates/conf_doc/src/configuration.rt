@@ -4,6 +4,7 @@ ghost use Rattle.conf_doc.specs.Changes.{entry_at, value_at};
 ghost use Rattle.conf_doc.specs.Pairs.{find, first_from};
 ghost use Rattle.conf_doc.specs.WellFormed.{AreTexts, IsConfig, IsEntry, IsTable, IsValue};
 
+use crate::fields::Fields;
 use crate::sorted::Sorted;
 use host_core::{Memory, Names, Txt};
 use std::alloc::Global;
@@ -20,7 +21,7 @@ pub enum Value {
 /// list of pairs of a name and a value.
 #[derive(Drop, Eq, Hash, Ord, PartialEq, PartialOrd)]
 pub struct Entry {
-    pub(crate) fields: Sorted<Value>,
+    pub(crate) fields: Fields,
 }
 
 /// The entries of a table, sorted by key. No key is empty, and none stands twice. Contracts see the
@@ -282,7 +283,7 @@ impl Entry {
         ensures { result ≡ [] }
     {
         Entry {
-            fields: Sorted::new(alloc),
+            fields: Fields::new(alloc),
         }
     }
 
@@ -291,7 +292,7 @@ impl Entry {
         ensures field { option_map (λ v. v.now) result ≡ find name.now self.now }
         ensures formed { IsEntry self.now }
     {
-        self.fields.find(name)
+        self.fields.list().find(name)
     }
 
     /// How many fields there are.
@@ -299,7 +300,7 @@ impl Entry {
         ensures len { result ≡ length self.now }
         ensures formed { IsEntry self.now }
     {
-        self.fields.len()
+        self.fields.list().len()
     }
 
     /// The name of the field at an index, counted from 0 in the order of the names.
@@ -307,7 +308,7 @@ impl Entry {
         requires { i < length self.now }
         ensures { slice_get (map (λ p. p.0) self.now) i ≡ Some result.now }
     {
-        self.fields.name_at(i)
+        self.fields.list().name_at(i)
     }
 
     /// The value of the field at an index.
@@ -316,7 +317,7 @@ impl Entry {
         ensures part { slice_get (map (λ p. p.1) self.now) i ≡ Some result.now }
         ensures formed { IsEntry self.now }
     {
-        self.fields.part_at(i)
+        self.fields.list().part_at(i)
     }
 
     /// The name of a field and its value at an index.
@@ -325,14 +326,14 @@ impl Entry {
         ensures pair { slice_get self.now i ≡ Some (result.0.now, result.1.now) }
         ensures formed { IsEntry self.now }
     {
-        self.fields.both_at(i)
+        self.fields.list().both_at(i)
     }
 
     /// The first index from which no field's name is below that text, or the length.
     pub fn first_from(&self, name: &str) -> usize
         ensures { result ≡ first_from name.now self.now }
     {
-        self.fields.first_from(name)
+        self.fields.list().first_from(name)
     }
 
     /// The same entry.

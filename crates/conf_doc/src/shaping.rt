@@ -8,6 +8,7 @@ ghost use Rattle.conf_doc.specs.Stops.{located, stop_place};
 ghost use Rattle.conf_doc.specs.Trees.{document};
 ghost use Rattle.conf_doc.specs.WellFormed.{AreTexts, Each, IsConfig, IsEntry, IsShaped, IsTable, IsValue};
 
+use crate::fields::Fields;
 use crate::sorted::Sorted;
 use crate::stops::Stop;
 use crate::{Config, Entry, Items, Members, ShapeError, Table, Tree, Value};
@@ -83,8 +84,9 @@ impl Shaped for Entry {
     ghost IsWell = { IsEntry };
 
     fn shape(alloc: Global, tree: Tree) -> Result<Entry, Stop> {
+        let list = shape_map(alloc, tree)?;
         Ok(Entry {
-            fields: shape_map(alloc, tree)?,
+            fields: Fields::of(alloc, list),
         })
     }
 }
