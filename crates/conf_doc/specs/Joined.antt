@@ -8,10 +8,11 @@ use Rattle.conf_doc.specs.declared.configuration.Value.TheVariants.{Text, List a
 abbrev pub end_mark : ℕ
 end_mark = 0
 
--- what stands before a text, and before an item of a list: the letters T and I
+-- what a text begins with: the letter T
 abbrev pub text_mark : ℕ
 text_mark = 84
 
+-- what an item of a list begins with: the letter I
 abbrev pub item_mark : ℕ
 item_mark = 73
 

@@ -5,6 +5,10 @@ ghost use Rattle.std.specs.Ordering.{as_partial_cmp};
 ghost use Rattle.conf_doc.specs.Order.{pairs_cmp, pairs_eq, pairs_fed};
 ghost use Rattle.conf_doc.specs.OrderLaws.{pairs_alike, pairs_equiv, pairs_per, pairs_tied, pairs_total};
 ghost use Rattle.conf_doc.specs.Pairs.{set_part};
+ghost use Rattle.conf_doc.specs.contracts.configuration.ValueEq.TheImpl.Laws as full_eq;
+ghost use Rattle.conf_doc.specs.contracts.configuration.ValueHash.TheImpl.Laws as hashing;
+ghost use Rattle.conf_doc.specs.contracts.configuration.ValueOrd.TheImpl.Laws as order;
+ghost use Rattle.conf_doc.specs.contracts.configuration.ValuePartialEq.TheImpl.Laws as partial_eq;
 
 use crate::Value;
 use crate::joining::join_fields;
@@ -123,7 +127,7 @@ impl Fields {
 impl PartialEq for Fields {
     ghost eq = { pairs_eq ⟦<Value as PartialEq>⟧.eq };
 
-    ghost laws = { pairs_per ⟦<Value as PartialEq>⟧.laws };
+    ghost laws = { pairs_per partial_eq.laws-law };
 
     fn eq(&self, other: &Fields) -> bool {
         self.list == other.list
@@ -131,15 +135,15 @@ impl PartialEq for Fields {
 }
 
 impl Eq for Fields {
-    ghost laws = { pairs_equiv ⟦<Value as Eq>⟧.laws };
+    ghost laws = { pairs_equiv full_eq.laws-law };
 }
 
 impl PartialOrd for Fields {
     ghost partial_cmp = { as_partial_cmp (pairs_cmp ⟦<Value as Ord>⟧.cmp) };
 
     ghost laws = { partial_order_from_agreeing_total (pairs_cmp ⟦<Value as Ord>⟧.cmp)
-        (pairs_total ⟦<Value as Ord>⟧.total) (λ x y. refl)
-        (pairs_tied ⟦<Value as Ord>⟧.cmp ⟦<Value as Ord>⟧.matches_eq) };
+        (pairs_total order.total-law) (λ x y. refl)
+        (pairs_tied ⟦<Value as Ord>⟧.cmp order.matches_eq-law) };
 
     fn partial_cmp(&self, other: &Fields) -> Option<Ordering> {
         Some(self.cmp(other))
@@ -149,11 +153,11 @@ impl PartialOrd for Fields {
 impl Ord for Fields {
     ghost cmp = { pairs_cmp ⟦<Value as Ord>⟧.cmp };
 
-    ghost total = { pairs_total ⟦<Value as Ord>⟧.total };
+    ghost total = { pairs_total order.total-law };
 
     ghost matches_partial_cmp = { λ x y. refl };
 
-    ghost matches_eq = { pairs_tied ⟦<Value as Ord>⟧.cmp ⟦<Value as Ord>⟧.matches_eq };
+    ghost matches_eq = { pairs_tied ⟦<Value as Ord>⟧.cmp order.matches_eq-law };
 
     fn cmp(&self, other: &Fields) -> Ordering {
         self.list.cmp(&other.list)
@@ -163,7 +167,7 @@ impl Ord for Fields {
 impl Hash for Fields {
     ghost hash_input = { pairs_fed ⟦<Value as Hash>⟧.hash_input };
 
-    ghost respects_eq = { (pairs_alike (record { fed = ⟦<Value as Hash>⟧.respects_eq })).fed };
+    ghost respects_eq = { (pairs_alike (record { fed = hashing.respects_eq-law })).fed };
 
     fn hash<H: Hasher>(&self, state: &mut H) {
         self.list.hash(state);
