@@ -1,4 +1,4 @@
--- The names of what stands in a configuration aren't empty.
+-- The names in a configuration aren't empty.
 use Rattle.std.proofs.Common.{◌≡◌, ◌<◌, ℕ, zero, suc, List, [], ◌∷◌, ◌==◌, Bool, true, false, cond, ◌&&◌, not, length, Option, Some, None, option_map, option_and_then, slice_get, IsSome, refl, sym, subst, arith}
 use Rattle.std.specs.Ordering.{eq_by_cmp}
 use Rattle.host_core.specs.Names.{name_cmp}

@@ -36,7 +36,7 @@ new_text_is bytes text c is holds format = record { format = format; holds = hol
 
 -- ---- one name
 
--- it is the one that stands in the file
+-- it is the one in the file
 pub found_there : (o : Option State) (name : List ℕ) (found : Option (Vec ℕ Global)) (b : Vec ℕ Global) (r : Option Rewrite) → found ≡ Some b
     → IfSome o (λ s. option_map (λ (v : Vec ℕ Global). v.items) found ≡ get s.files (point_file name))
     → option_map rewrite_view r ≡ option_map (new_file name) (old_held b.items)

@@ -1,4 +1,4 @@
--- What stands under a name among the checkpoints, and how changes of the files change it.
+-- The checkpoint of a name, and how changes of the files change it.
 use Rattle.std.proofs.Common.{◌≡◌, ℕ, List, [], ◌∷◌, Bool, true, false, cond, map, filter, Option, Some, None, Vec, Global, option_map, ⊎_elim, refl, sym, ap, ◌∙◌}
 use Rattle.std.specs.Cmp.Lexicographic.{nat_list_cmp_total}
 use Rattle.std.specs.FinMap as finmap
@@ -17,7 +17,7 @@ find_in name es = finmap.find name_cmp name es
 
 -- ---- one name
 
--- what stands under a name, of what stands in its file
+-- the checkpoint of a name, by what its file holds
 abbrev pub held_in : List ℕ → Option (List ℕ) → Option Held
 held_in name found = cond (is_good_name name) (option_map held found) None
 

@@ -1,4 +1,4 @@
--- What the calls for checkpoints answer. A fault of the disk and want of memory may stand in the place of
+-- What the calls for checkpoints answer. A fault of the disk or want of memory may come in place of
 -- each answer but BadName.
 use Rattle.std.specs.Prelude.{◌≡◌, ◌⊎◌, ℕ, List, map, true, false, Option, Some, None, Result, Ok, Err, IsSome, ⊤}
 use Rattle.std.specs.FinMap.{get, keys}

@@ -1,4 +1,4 @@
--- The names of checkpoints, and of the files that they stand in.
+-- The names of checkpoints, and of their files.
 use Rattle.std.specs.Prelude.{ℕ, ◌-◌, ◌++◌, List, codes, length, take, Bool, not, ◌&&◌, ◌||◌, ◌==◌, nat_eq, nat_le}
 use Rattle.std.specs.Char.{is_ascii_alphanumeric}
 use Rattle.std.specs.List.{ends_with, list_all}
@@ -30,7 +30,7 @@ is_good_name name =
 abbrev pub point_end : List ℕ
 point_end = codes ".cp.json"
 
--- the file that a checkpoint of that name stands in
+-- the file of a checkpoint of that name
 abbrev pub point_file : List ℕ → List ℕ
 point_file name = name ++ point_end
 
@@ -38,6 +38,6 @@ point_file name = name ++ point_end
 abbrev pub point_name : List ℕ → List ℕ
 point_name file = take (length file - length point_end) file
 
--- whether a file is named like one that a checkpoint stands in
+-- whether a file is named like a checkpoint's
 abbrev pub is_point_file : List ℕ → Bool
 is_point_file file = ends_with nat_eq file point_end && is_good_name (point_name file)

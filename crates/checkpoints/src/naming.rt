@@ -1,4 +1,4 @@
-//! The names of checkpoints, and of the files that they stand in.
+//! The names of checkpoints, and of their files.
 ghost use Rattle.std.specs.Prelude.{◌≡◌, ◌≤◌, length, true, false, IfOk, MatchOption};
 ghost use Rattle.std.specs.List.{list_all};
 ghost use Rattle.host_core.specs.Names.{longest_plain_name};
@@ -33,7 +33,7 @@ fn is_name_character(byte: u8) -> bool
     byte.is_ascii_alphanumeric() || byte == b'_' || byte == b'-'
 }
 
-/// The file that a checkpoint of that name stands in.
+/// The file of a checkpoint of that name.
 pub(crate) fn point_file(alloc: Global, name: &str) -> Result<Txt, Memory>
     requires { is_name name.now ≡ true }
     ensures file { IfOk result (λ t. t ≡ file_of name.now) }
@@ -43,7 +43,7 @@ pub(crate) fn point_file(alloc: Global, name: &str) -> Result<Txt, Memory>
     Ok(Txt::from(file))
 }
 
-/// The name of the checkpoint that stands in a file, or None for another file.
+/// The name of the checkpoint that a file holds, or None for another file.
 pub(crate) fn point_name(file: &str) -> Option<&str>
     ensures { MatchOption result (is_point_file file.now ≡ false)
         (λ name. (is_point_file file.now ≡ true) × (name.now ≡ name_in file.now)) }

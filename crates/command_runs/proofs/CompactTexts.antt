@@ -16,7 +16,7 @@ tails a b x y e = cc
 
 -- ---- one byte
 
--- a byte with a short escape, one with its number, and one that stands for itself
+-- a byte with a short escape, one with its number, and one written as it is
 data Escaped (x : ℕ) : List ℕ → Type 0 where
   short : 0 < escape_letter x → Escaped x (92 ∷ escape_letter x ∷ [])
   long : x < 32 → Escaped x (92 ∷ 117 ∷ 48 ∷ 48 ∷ digit_char (x / 16) ∷ digit_char (x % 16) ∷ [])

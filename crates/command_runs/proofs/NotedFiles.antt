@@ -1,4 +1,4 @@
--- The files that a list of copies of them stands for.
+-- The files that a list of copies of them gives.
 use Rattle.std.proofs.Common.{◌≡◌, ℕ, List, [], ◌∷◌, map, refl, sym, ap, ◌∙◌, Vec, String}
 use denote.Bor.{Bor}
 use Rattle.std.specs.declared.alloc.Global.{Global}
@@ -15,7 +15,7 @@ entries_back files =
     finmap.same_map nat_list_cmp_total (finmap.slice_cmp-IsAntisymmetric finmap.nat_cmp-IsAntisymmetric) _ files
     (λ q. finmap.get-from_entries nat_list_cmp_total (finmap.entries files) q ∙ sym (finmap.get-entries files q))
 
--- copies of all entries stand for the files
+-- copies of all entries give the files
 pub noted_are_files : (noted : List (List ℕ × Vec ℕ Global)) (files : Files)
     → map (λ p. (p.0, p.1.items)) noted ≡ finmap.entries files → files_of noted ≡ files
 noted_are_files noted files e = ap (λ (es : List (List ℕ × List ℕ)). finmap.from_entries es) e ∙ entries_back files

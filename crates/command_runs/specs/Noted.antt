@@ -9,6 +9,6 @@ use Rattle.command_runs.specs.declared.stops.Ran.{Ran}
 abbrev pub found : Ran → Files
 found ran = files_of ran.before.items
 
--- by how much a count rose, or 1 where it stands at its last value
+-- by how much a count rose, or 1 where it is at its last value
 abbrev pub rise : (before after : ℕ) → ℕ
 rise before after = if after == last_count then 1 else after - before

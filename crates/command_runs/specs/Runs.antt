@@ -57,14 +57,14 @@ IsPromisedInScope words began ended result =
 abbrev pub IsFault : ℕ → Type 0
 IsFault status = (3 ≤ status) × (status ≤ 6)
 
--- a count stands at its last value
+-- a count is at its last value
 abbrev pub IsFull : Counts → Type 0
 IsFull c =
     (c.input ≡ last_count) ⊎ ((c.disk ≡ last_count)
     ⊎ ((c.print ≡ last_count) ⊎ (c.service ≡ last_count)))
 
 -- a call of the command had a reason to fail: a fault has its number, or it found no memory; or a count
--- stands where it no longer tells
+-- is at its last value
 abbrev pub HasReason : Faults → Ran → Counts → Type 0
 HasReason faults ran counts =
     ((call : ℕ) × (call < ran.calls) × IsTrue (is_faulty faults call))

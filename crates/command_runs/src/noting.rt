@@ -29,7 +29,7 @@ fn copy_file(alloc: Global, name: &String, bytes: &Vec<u8>) -> Result<(Txt, Vec<
     Ok((Txt::new(alloc, name.as_str())?, bytes.to_vec(alloc)?))
 }
 
-/// By how much a count rose, or 1 where it stands at its last value.
+/// By how much a count rose, or 1 where it is at its last value.
 pub(crate) fn rise_of(before: u64, after: u64) -> u64
     ensures { result ≡ rise before after }
 {

@@ -26,6 +26,6 @@ pub struct Ran {
     /// How many calls of the host it made, up to the greatest `u64`.
     pub calls: u64,
     /// How often a call that has no answer for want of memory found none, or 1 where that count of the
-    /// host stands at the greatest `u64`.
+    /// host is at the greatest `u64`.
     pub starved: u64,
 }

@@ -28,7 +28,7 @@ module _ {A : Type 0} (ps : List (List ℕ × A)) (rising : IsRising ps) where
       let tied : name_cmp name name ≡ Equal = tied_itself nat_list_cmp_total name in
       cc
 
-  -- a name stands once
+  -- a name occurs once
   pub stands_once : (i j : ℕ) (name : List ℕ) → slice_get (map (λ p. p.0) ps) i ≡ Some name → slice_get (map (λ p. p.0) ps) j ≡ Some name → i ≡ j
   stands_once i j name at_i at_j =
       elim (cases_lt i j) [
@@ -47,7 +47,7 @@ module _ (name : List ℕ) where
       cc
   nowhere_by false n names None (suc i) is e more at = more refl i at
 
-  -- a name that has no place stands nowhere
+  -- a name that has no place isn't there
   pub stands_nowhere : (names : List (List ℕ)) (i : ℕ) → place_of_name name names ≡ None → ¬ (slice_get names i ≡ Some name)
   stands_nowhere [] i e at = cc
   stands_nowhere (n ∷ names) i e at =
@@ -59,7 +59,7 @@ table_rises [] t entries all at = cc
 table_rises (p ∷ c) zero entries all at = subst (λ (es : Table). IsRising es) (some_same p.1 entries at) all.0.shaped.rising
 table_rises (p ∷ c) (suc t) entries all at = table_rises c t entries all.1 at
 
--- a name that has a place stands within the list
+-- the place of a name is within the list
 pub place_within : {A : Type 0} (ps : List (List ℕ × A)) (name : List ℕ) (i : ℕ) → Some i ≡ place_of_name name (map (λ p. p.0) ps) → i < length ps
 place_within ps name i e =
     let names = map (λ (p : List ℕ × _). p.0) ps in

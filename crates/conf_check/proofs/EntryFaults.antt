@@ -179,7 +179,7 @@ module _ (models : ModelSet) (config : Config) (t k : ℕ) (row : Row) where
     without_musts None none plain = nothing_first plain (λ i. subst (λ ms. ¬ IsSomeAnd (slice_get ms i) (IsFalse models config t k)) (sym none) (λ h. h))
     without_musts (Some f) none first = first
 
--- what an entry of a shape breaks, as the models and the configuration stand
+-- what an entry of a shape breaks, for equal models and configurations
 pub broken_as : (m n : ModelSet) (c d : Config) (t k : ℕ) (row : Row) (shape : Shape) (o : Option Fault) → m ≡ n → c ≡ d
     → IsFirstFault (BreaksShape m c t k row shape) o → IsFirstFault (BreaksShape n d t k row shape) o
 broken_as m n c d t k row shape o models configs first =

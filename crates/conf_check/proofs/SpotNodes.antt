@@ -231,7 +231,7 @@ module _ (models : ModelSet) (a b : Config) (p q : Belongings) where
     low_parent_b false i k f n = refl
     low_parent_b true i k f n = refl
 
-    -- nodes as they stand
+    -- for equal nodes
     lists_as : (at : Spot) (o u : Option Node) (v w : Option Node) → o ≡ u → v ≡ w → Lists at (option_to_list u) (option_to_list w) → Lists at (option_to_list o) (option_to_list v)
     lists_as at o u v w same_a same_b lists =
         subst (λ z. Lists at (option_to_list z) (option_to_list v)) (sym same_a)

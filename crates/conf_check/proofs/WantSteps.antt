@@ -28,7 +28,7 @@ module _ (W : ℕ → Want → Type 0) (from : ℕ) where
       ]
 
 module _ (models : ModelSet) (config : Config) where
-  -- what a text is wanted for is what it is wanted for as it stands
+  -- a text of the same type has the same wants
   pub typed_as : (a b : Option (DataType × List ℕ)) (w : Want) → a ≡ b → IsWantedText models config a w → IsWantedText models config b w
   typed_as a b w same wanted = subst (λ o. IsWantedText models config o w) same wanted
 

@@ -17,7 +17,7 @@ same_files m n alike =
 abbrev pub is_name : List ℕ → List ℕ → Bool
 is_name = eq_by_cmp name_cmp
 
--- what stands at a name in files with another file
+-- what a name finds in files with another file
 pub get_with : (name : List ℕ) (content : Option (List ℕ)) (files : Files) (q : List ℕ)
     → get (with_file name content files) q ≡ cond (is_name q name) content (get files q)
 get_with name None files q = finmap.get-remove nat_list_cmp_total files name q

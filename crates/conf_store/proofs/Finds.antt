@@ -28,7 +28,7 @@ use Rattle.conf_store.proofs.Walking.{alike, config_of}
 abbrev pub ok_of : {A : Type 0} → A → Result A StoredWhy
 ok_of a = Ok a
 
--- a document, and whether it stands in the folded file
+-- a document, and whether it is the folded file's
 abbrev folded_with : Bool → Document → Result (Document × Bool) StoredWhy
 folded_with b d = Ok (d, b)
 

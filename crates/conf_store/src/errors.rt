@@ -12,7 +12,7 @@ pub enum StoredWhy {
     NoFile,
     /// The file that is used is no JSON text.
     BadJson,
-    /// A number, true, false or null stands in it.
+    /// It holds a number, true, false or null.
     BadKind,
     /// It isn't a map of tables of entries of fields.
     BadShape,

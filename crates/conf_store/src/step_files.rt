@@ -10,7 +10,7 @@ use std::alloc::Global;
 /// How the name of a step file begins.
 const BEGIN: &str = "step.";
 
-/// How many digits stand in the name of a step file.
+/// How many digits the name of a step file has.
 const DIGITS: u32 = 6;
 
 /// The name of the step file of a number, counted from 1: `step.` and the number with six digits.

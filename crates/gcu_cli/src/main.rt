@@ -1,4 +1,4 @@
-//! The program `gcu`: works on the configuration of a switch that stands in the working folder.
+//! The program `gcu`: works on the switch configuration in the working folder.
 #![tactic(auto)]
 
 ghost use Rattle.std.specs.Prelude.{◌≡◌, [], IfOk, OnErr, map, drop, string_bytes};

@@ -1,4 +1,4 @@
--- What a form requests, where nothing stands against it.
+-- What a form requests, where it isn't refused.
 use Rattle.std.proofs.Common.{◌≡◌, inl, inr, ℕ, List, length, refl, sym, subst, Bool, true, false, if◌then◌else◌, Option, Some, None, Result, Ok, Err}
 use Rattle.std.specs.FinMap.{get}
 use Rattle.host_core.specs.Answers.{map_ok}
@@ -53,7 +53,7 @@ change_given task budget s r (inr (x, named, inr (u, settles, inr (w, given, e))
 
 -- ---- each form
 
--- what a form requests, where nothing stands against it
+-- what a form requests, where it isn't refused
 abbrev pub IsRequestOf : Option Form → State → Request → Type 0
 IsRequestOf (Some (forms.plan task budget)) s r = (w : Work) × IsWorkAsked task s w × (request.plan w ≡ r)
 IsRequestOf (Some (forms.change task budget)) s r = (w : Work) × IsWorkAsked task s w × (request.change w ≡ r)

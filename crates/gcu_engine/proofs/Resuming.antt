@@ -1,4 +1,4 @@
--- A change that was stopped is gone on with: no refusal stands against it, and a plan is there.
+-- A change that was stopped is resumed: nothing refuses it, and there is a plan.
 use Rattle.std.proofs.Common.{◌≡◌, inl, inr, ℕ, List, refl, sym, ap, subst, Option, Some, None, Result, Ok, Err, IfSome}
 use Rattle.host_core.specs.Counts.{Counts, NoneRose}
 use Rattle.host_core.specs.State.{State}

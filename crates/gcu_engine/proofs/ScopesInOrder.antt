@@ -1,4 +1,4 @@
--- The scopes that operations are in stand in their order.
+-- The scopes of operations come in their order.
 use Rattle.std.proofs.Common.{◌≡◌, ◌<◌, ◌≤◌, ℕ, zero, suc, ◌+◌, Bool, true, false, List, [], ◌∷◌, length, map, filter, refl, sym, ap, ◌∙◌, subst, arith}
 use Rattle.std.specs.List.{AllByRecursion, list_any, range_with_len}
 use Rattle.scopes.specs.Scopes.{IsScope, all_scopes, most_asics}

@@ -109,7 +109,7 @@ abbrev pub EndsSearch : Asking Request → Outcome → Type 0
 EndsSearch asking answer = (r : Request) × asking.Gives (Ok r) × IsUnsolved r answer
 
 -- what is there before the output with that answer, and the whole output; a fault is answered only where a
--- call of its kind stands
+-- call of its kind is made
 abbrev pub Says : Asking Request → State → State → Outcome → List ℕ → Type 0
 Says asking before now Done output =
     (r : Request) × asking.Gives (Ok r) × LeavesDone r before now × IsDoneOutput r output

@@ -1,4 +1,4 @@
--- A change that was stopped and is gone on with.
+-- A change that was stopped and is resumed.
 use Rattle.std.specs.Prelude.{◌≡◌, ℕ, List, Some, Ok, ⊤}
 use Rattle.host_core.specs.State.{State}
 use Rattle.conf_doc.specs.declared.configuration.Config.{Config}

@@ -37,7 +37,7 @@ pub(crate) fn check_plan<H: Host>(alloc: Global, patch: &Txt, plan: &Txt, host: 
     }
 }
 
-/// Prints of how many steps a plan is, and the last line of Done.
+/// Prints how many steps a plan has, and the last line of Done.
 fn show_yes<H: Host>(alloc: Global, count: usize, host: &mut H) -> Outcome
     ensures said { IsSaid done (yes_line count ++ last_line done)
         (H.told host.old) (H.told host.new) (H.counts host.old) (H.counts host.new) result }

@@ -1,4 +1,4 @@
-//! `gcu demo SEED N`: of how many steps a plan between two generated configurations is.
+//! `gcu demo SEED N`: how many steps a plan between two generated configurations has.
 ghost use Rattle.std.specs.Prelude.{◌≡◌, ◌≤◌, ◌++◌, IfErr, IfOk, IfSome, OnOk, string_bytes};
 ghost use Rattle.host_core.specs.Counts.{NoneFell, PrintMayRise};
 ghost use Rattle.host_core.specs.Crashes.{Elapses, LeavesOnly, MayLeaveNow};

@@ -1,4 +1,4 @@
-//! `gcu status`: whether a change was stopped, and how far it is.
+//! `gcu status`: whether a change was stopped, and how far it got.
 ghost use Rattle.std.specs.Prelude.{◌≡◌, ◌≤◌};
 ghost use Rattle.host_core.specs.Counts.{NoneFell};
 ghost use Rattle.host_core.specs.Crashes.{LeavesOnly};

@@ -39,7 +39,7 @@ scopes_of_parts : (given : List Scoped) → map (λ (p : Part). p.0) (map part_o
 scopes_of_parts [] = refl
 scopes_of_parts (p ∷ given) = ap (λ (l : List Scope). p.scope ∷ l) (scopes_of_parts given)
 
--- so they stand in their order
+-- so they are in order
 pub in_order : (ops : List Operation) (given : List Scoped) (es : List ScopeEnds) → split_answer (split ops) ≡ Ok (map part_of given)
     → map (λ (e : ScopeEnds). e.scope) es ≡ map (λ (p : Scoped). p.scope) given → AreInOrder es
 in_order ops given es gives same = (

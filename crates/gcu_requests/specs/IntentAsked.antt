@@ -41,7 +41,7 @@ interrupted_answer (Some bytes) = Ok tt
 abbrev pub interrupted : State → Asking (Unit {0})
 interrupted s = intent_asked s >>> λ found. follows (interrupted_answer found)
 
--- a change that was stopped is gone on with, and no other plan is made meanwhile
+-- a change that was stopped is resumed, and no other plan is made meanwhile
 abbrev pub gate_asked : Target → State → Asking (Unit {0})
 gate_asked (patched path) s = uninterrupted s
 gate_asked (replaced path) s = uninterrupted s

@@ -63,7 +63,7 @@ abbrev pub IsRightBy : {X Y : Type 0} → (X → Y) → Result X Outcome
     → (Result Y Outcome → Type 0) → Type 0
 IsRightBy view result Tells = IsGiven view result (follows_by Tells)
 
--- what was found or refused is what is asked, and a fault stands at a call that is made
+-- what was found or refused is what is asked, and a fault is of a call that is made
 pub record Found {X Y : Type 0} (view : X → Y) (result : Result X Outcome) (asking : Asking Y)
     : Type 0 where
   pub gives : IsGiven view result asking

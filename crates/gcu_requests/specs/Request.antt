@@ -1,4 +1,4 @@
--- What a command is to do, once nothing stands against it.
+-- What a command is to do, where it isn't refused.
 use Rattle.std.specs.Prelude.{ℕ, List, Option}
 use Rattle.conf_doc.specs.declared.configuration.Config.{Config}
 use Rattle.checkpoints.specs.Migrations.{NewFile}

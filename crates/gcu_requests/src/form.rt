@@ -24,7 +24,7 @@ pub enum Form<'a> {
     Check,
     /// Prints the names of all checkpoints.
     ListCheckpoints,
-    /// Puts the files of the old format anew.
+    /// Rewrites the files of the old format.
     MigrateCheckpoints,
     /// Saves the stored configuration as the checkpoint of this name.
     SaveCheckpoint { name: &'a Txt },

@@ -15,7 +15,7 @@ use gcu_output::{Intent, Outcome};
 use host_core::Host;
 use std::alloc::Global;
 
-/// How far a change is that was stopped.
+/// How far a change got that was stopped.
 #[derive(Clone, Copy)]
 pub struct Status {
     pub intent: Intent,
@@ -23,7 +23,7 @@ pub struct Status {
     pub steps: u32,
 }
 
-/// Reads how far a change is that was stopped.
+/// Reads how far a change got that was stopped.
 pub fn read_status<H: Host>(alloc: Global, host: &mut H) -> Result<Status, Outcome>
     requires { longest_plain_name ≤ H.longest_name }
     ensures answer { Finds (H.told host.old) status_request result status_asked }

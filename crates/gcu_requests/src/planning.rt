@@ -64,7 +64,7 @@ pub fn prepare<H: Host>(
     read_needs(alloc, target, budget, host)
 }
 
-/// Refuses a change that was stopped before its end, or that there is none where it is to be gone on with.
+/// Refuses a change that was stopped before its end, or that there is none where one is to be resumed.
 fn test_gate<H: Host>(alloc: Global, target: Target<'_>, host: &mut H) -> Result<(), Outcome>
     requires { longest_plain_name ≤ H.longest_name }
     ensures answer { Finds (H.told host.old) (λ u. u) result

@@ -69,7 +69,7 @@ fn cut_interruption<'a>(command: &'a Txt, option: &Txt, name: &'a Txt) -> Option
     None
 }
 
-/// The same of a change that is gone on with by a budget.
+/// The same of a change that is resumed by a budget.
 fn cut_resume<'a>(
     command: &'a Txt,
     a: &'a Txt,
@@ -114,7 +114,7 @@ fn cut_options<'a>(
     None
 }
 
-/// A change that is gone on with, by the budget that words are.
+/// A change that is resumed, by the budget that words are.
 fn resumed_by<'a>(command: &'a Txt, word: &Txt, digits: &Txt) -> Form<'a>
     ensures { form_view result ≡ form (resume_word ∷ word.now ∷ digits.now ∷ []) }
 {

@@ -12,7 +12,7 @@ use denote.Bor.{Bor}
 abbrev pub lent_cmp : Bor (List ℕ) → Bor (List ℕ) → Ordering
 lent_cmp a b = name_cmp a.now b.now
 
--- the set has the names of these services, and no name stands twice among them
+-- the set has the names of these services, and no name occurs twice among them
 pub record Seen (names : BTreeSet (Bor (List ℕ))) (rest : List ServiceTie) : Type 0 where
   pub differ : names_differ rest ≡ true
   pub has : (q : Bor (List ℕ)) → contains lent_cmp names q ≡ list_any (has_name q.now) rest
@@ -37,7 +37,7 @@ seen_more names new tie rest key seen is absent updates = record {
       ∙ ap (λ b. is_at (lent_cmp key) q || b) (seen.has q) ∙ ap (λ n. has_name q.now (record tie { name = n }) || list_any (has_name q.now) rest) is;
 }
 
--- a name that is there stands twice
+-- a name that is there occurs twice
 pub seen_twice : (names : BTreeSet (Bor (List ℕ))) (ties : List ServiceTie) (i : ℕ) (tie : ServiceTie) (rest : List ServiceTie) (key : Bor (List ℕ))
     → Seen names rest → key.now ≡ tie.name → contains lent_cmp names key ≡ true → drop i ties ≡ tie ∷ rest → names_differ ties ≡ false
 seen_twice names ties i tie rest key seen is there left =

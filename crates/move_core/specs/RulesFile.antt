@@ -162,14 +162,14 @@ service d =
 abbrev pub has_name : List ℕ → ServiceTie → Bool
 has_name own s = eq_by_cmp name_cmp s.name own
 
--- no name stands twice
+-- no name occurs twice
 abbrev pub names_differ : List ServiceTie → Bool
 names_differ [] = true
 names_differ (s ∷ ss) = not (list_any (has_name s.name) ss) && names_differ ss
 
 -- ---- the file
 
--- an absent member stands for an empty list
+-- an absent member means an empty list
 abbrev pub list_or_none : {A : Type 0}
     → RulesWhy → (values.Data → Result A RulesError) → Option values.Data
     → Result (List A) RulesError
@@ -180,7 +180,7 @@ list_or_none w f (Some d) = list w f (Some d)
 abbrev pub file_names : List (List ℕ)
 file_names = codes "create_only" ∷ codes "required" ∷ codes "services" ∷ []
 
--- the services, no name of which stands twice
+-- the services, where no name occurs twice
 abbrev pub services : Option values.Data → Result (List ServiceTie) RulesError
 services o = list_or_none why.Services service o >>= or_fails why.Services names_differ
 

@@ -1,4 +1,4 @@
-//! What stands in the lists of a rules file.
+//! The items of the lists of a rules file.
 ghost use Rattle.std.specs.Prelude.{◌≡◌, option_map, Some};
 ghost use Rattle.host_core.specs.Answers.{Gives};
 ghost use Rattle.std.specs.List.{list_all};

@@ -14,7 +14,7 @@ use host_core::{Sequence, Txt};
 use serde_json::{Map, Value};
 use std::alloc::Global;
 
-/// What stands in a list of a rules file.
+/// An item of a list of a rules file.
 pub(crate) trait Item: Drop {
     ghost use Rattle.move_core.specs.declared.errors.RulesError.{RulesError as Refusal};
 

@@ -15,7 +15,7 @@ use serde_json::Value;
 use std::alloc::Global;
 use std::collections::BTreeSet;
 
-/// Reads a rules file. Of a member that stands twice the last counts.
+/// Reads a rules file. Of a member given twice the last counts.
 pub fn read_rules(alloc: Global, bytes: &[u8]) -> Result<Settings, RulesError>
     ensures settings { Gives (λ s. s) rules_fault result (rules bytes.now) }
     ensures named { IfOk result HasNames }
@@ -56,7 +56,7 @@ fn settings_of(alloc: Global, value: &Value) -> Result<Settings, RulesError>
     })
 }
 
-/// The services, where no name stands twice.
+/// The services, where no name occurs twice.
 fn distinct(
     alloc: Global,
     services: Sequence<ServiceTie>,

@@ -1,7 +1,7 @@
 //! What a rules file says. No name in it is empty.
 use host_core::{Names, Sequence, Txt};
 
-/// A field that no step may change while its entry stands.
+/// A field that no step may change while its entry exists.
 #[derive(Drop)]
 pub struct CreateOnly {
     pub table: Txt,

@@ -136,7 +136,7 @@ fn part_said(row: &Value) -> Result<u8, Fail> {
     )
 }
 
-/// Whether the moves with the ranks that are said stand in order.
+/// Whether the moves with the ranks that are said are in order.
 fn are_ranked(alloc: Global, moves: &[Move], said: &[Value]) -> Result<bool, Fail> {
     let mut ranked = Vec::new(alloc);
     for (mv, row) in moves.iter().zip(said) {

@@ -25,7 +25,7 @@ pub fn move_texts(alloc: Global, moves: &[Move]) -> Result<Lines, Memory> {
     Ok(texts)
 }
 
-/// A line of what a list has: its texts as they stand, and the compact text of all else.
+/// A line of what a list has: its texts as they are, and the compact text of all else.
 pub fn line_of(alloc: Global, list: &Value) -> Result<Vec<u8>, Fail> {
     let mut line = Vec::new(alloc);
     let Value::Array(words) = list else {

@@ -17,7 +17,7 @@ use std::marker::Brand;
 use std::sync::ledger::{Blank, Ledger};
 
 /// A row has a situation and the first `plan` from `cur` to `goal`, or in its place the text `unorderable`,
-/// with the least budget that doesn't end the search, `least_budget`. Where `budget` stands for it, that
+/// with the least budget that doesn't end the search, `least_budget`. Where `budget` replaces it, that
 /// one is given alone, and the text `budget` in the place of a plan says that it ends the search. The
 /// kit with a first rule that looks at the whole configuration and the one that looks at what changed
 /// answer the same.

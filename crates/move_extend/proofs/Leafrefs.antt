@@ -210,7 +210,7 @@ table_unreferred c t u entries none x gives =
 
 -- ---- loops
 
--- what stands in a list stands before where nothing stands
+-- an index with an item is below one without
 pub before_end : {A : Type 0} (xs : List A) (i j : ℕ) (a : A) → slice_get xs i ≡ None → slice_get xs j ≡ Some a → j < i
 before_end [] i j a none at = absurd cc
 before_end (x ∷ xs) zero j a none at = absurd cc

@@ -17,7 +17,7 @@ module _ {A : Type 0} where
   first_found : (p : List ℕ × A) (ps : List (List ℕ × A)) → IsRising (p ∷ ps) → find p.0 (p ∷ ps) ≡ Some p.1
   first_found p ps rising = find_at (p ∷ ps) p.0 0 rising refl
 
-  -- the first name stands once
+  -- the first name occurs once
   first_gone : (p : List ℕ × A) (ps : List (List ℕ × A)) → IsRising (p ∷ ps) → find p.0 ps ≡ None
   first_gone p [] rising = refl
   first_gone p (q ∷ qs) rising = let h = and_parts _ _ rising in find_gap (q ∷ qs) p.0 0 h.1 (less _ (and_parts _ _ h.0).0)

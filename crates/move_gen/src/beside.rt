@@ -21,7 +21,7 @@ pub(crate) fn same_keys_front(table: &Table, other: &Table) -> usize
     both
 }
 
-/// The first index from one on at which a key above that one stands. Any other is as right, since it only
+/// The first index from one on whose key is above that one. Any other would do, since it only
 /// says where the next key is looked for first.
 fn first_above(table: &Table, key: &str, from: usize) -> usize {
     for i in from..table.len() {

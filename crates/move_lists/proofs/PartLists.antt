@@ -31,7 +31,7 @@ module _ (q : Question) where
     lands = λ m d there more. few_at k d few more (All-contains (λ (e : Move × ℕ). e.1 ≤ k) es (m, d) within there);
   }
 
-  -- nothing stands beside
+  -- `beside` is empty
   alone : (es : Depths) (n : ℕ) (m : Move) → HasMove [] m ⊎ HasWithin es n m → HasWithin es n m
   alone es n m (inl none) = absurd (no_member _ none.1)
   alone es n m (inr w) = w

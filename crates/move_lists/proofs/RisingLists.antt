@@ -42,7 +42,7 @@ module _ {A : Type 0} where
       by later false t =
           later_member p ps (n, a) (later (sym (ap (λ b. cond b (Some p.1) (find n ps)) t) ∙ e))
 
-  -- a rising list of pairs that stand in another list
+  -- a rising list of pairs of another list
   pub record IsSelected (ps new : List (List ℕ × A)) : Type 0 where
     pub rising : IsRising new
     pub there : (n : List ℕ) (a : A) → find n new ≡ Some a → Contains ps (n, a)
@@ -70,12 +70,12 @@ module _ {A : Type 0} where
           by false t false s = sym (put_in false t ∙ found_without n m ps ∙ ap (λ c. cond (not c) (find m ps) None) s)
 
   module _ (p : List ℕ × A) (ps : List (List ℕ × A)) where
-    -- it has the first pair, or stands in the rest
+    -- it has the first pair, or is of the rest
     selected_cases : (new : List (List ℕ × A)) → IsSelected (p ∷ ps) new
         → ((old : List (List ℕ × A)) × IsSelected ps old × (new ≡ put p.0 p.1 old)) ⊎ IsSelected ps new
     selected_cases new is = by (find p.0 new) refl
       where
-        -- what is found and isn't the first pair stands in the rest
+        -- what is found and isn't the first pair is in the rest
         others : (n : List ℕ) (a : A) → find n new ≡ Some a → (p ≡ (n, a) → Contains ps (n, a)) → Contains ps (n, a)
         others n a f first = of (member_cases p ps (n, a) (is.there n a f))
           where

@@ -104,7 +104,7 @@ pub record AreEarlier (q : Question) (part : ℕ) (rs : List Ranked) (known : De
   pub each : (m : Move) → HasMove known m → IsEarlier q part m
   pub all : (r : Ranked) → Contains rs r → IsEarlier q part r.mv → HasMove known r.mv
 
--- what extensions reach from the first moves, those that stand beside left out
+-- what extensions reach from the first moves, without those in `beside`
 pub record IsReachOf (q : Question) (beside : Depths) (first : List Move) (es : Depths)
     : Type 0 where
   pub each : All (IsLedTo q first) es

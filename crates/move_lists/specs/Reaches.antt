@@ -92,7 +92,7 @@ IsLedTo q first e = (f : Move) × Contains first f × LeadsIn q f e.1 e.0
 abbrev pub IsClosed : Question → Depths → Type 0
 IsClosed q es = (m x : Move) → HasMove es m → FollowsIn q m x → HasMove es x
 
--- what some extensions of the moves lead to is there, or stands beside
+-- what some extensions of the moves lead to is there, or in `beside`
 abbrev pub HoldsAll : Question → Depths → List Move → Depths → Type 0
 HoldsAll q beside first es =
     (f : Move) (n : ℕ) (x : Move) → Contains first f → LeadsIn q f n x

@@ -85,7 +85,7 @@ impl Reach {
         Ok(moves)
     }
 
-    /// Adds a move, unless it is there or stands beside.
+    /// Adds a move, unless it is there or in `beside`.
     pub(crate) fn note(&mut self, beside: &Reach, mv: Move, depth: usize) -> Result<(), Memory>
         ensures { OnOk result (IsNoted beside.now self.old self.new mv depth) }
     {
@@ -97,7 +97,7 @@ impl Reach {
         Ok(())
     }
 
-    /// Adds those moves that aren't there and don't stand beside.
+    /// Adds those moves that are neither there nor in `beside`.
     pub(crate) fn note_all(
         &mut self,
         beside: &Reach,
@@ -161,7 +161,7 @@ impl Reach {
     }
 }
 
-/// All that some moves lead to, those that stand beside and what these lead to left out.
+/// All that some moves lead to, without those in `beside` and what these lead to.
 pub(crate) fn reach_from(
     alloc: Global,
     question: &Question<'_>,

@@ -113,7 +113,7 @@ rest_none : (o : Option (List ℕ)) → option_and_then {T = List ℕ} {U = List
 rest_none None = refl
 rest_none (Some t) = refl
 
--- a part that stands for nothing
+-- a part that spells no token
 pub all_unescaped-none : (parts : List (List ℕ)) (n : ℕ) (part : List ℕ) → n < length parts → part ≡ get_or parts n part → token_of part ≡ None → tokens_of_parts parts ≡ None
 all_unescaped-none [] n part below here none = absurd (omega arith)
 all_unescaped-none (first ∷ parts) zero part below here none = rw (sym here ∙ refl, none)

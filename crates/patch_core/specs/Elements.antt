@@ -27,7 +27,7 @@ abbrev pub ok_value : {A F : Type 0} → Result A F → Option A
 ok_value (Ok a) = Some a
 ok_value (Err e) = None
 
--- a member in which no number, true, false or null stands
+-- a member without a number, true, false or null in it
 abbrev pub document_in : List ℕ → Data → Option Document
 document_in name d = option_and_then (λ v. ok_value (document_of v)) (get name d)
 

@@ -18,8 +18,8 @@ digit_1 = 49
 abbrev pub in_front : ℕ → Option (List ℕ) → Option (List ℕ)
 in_front b rest = option_map (λ bs. b ∷ bs) rest
 
--- the token that a part between slashes stands for: `~0` is `~`, and `~1` is `/`; a `~` before
--- anything else stands for nothing
+-- the token that a part between slashes spells: `~0` is `~`, and `~1` is `/`; a `~` before
+-- anything else spells none
 abbrev pub token_of : List ℕ → Option (List ℕ)
 token_of [] = Some []
 token_of (b ∷ []) = if b == tilde then None else Some (b ∷ [])
@@ -30,7 +30,7 @@ token_of (b ∷ c ∷ bs) =
     else None)
     else in_front b (token_of (c ∷ bs))
 
--- the tokens that the parts stand for, if each stands for one
+-- the tokens that the parts spell, if each spells one
 abbrev pub tokens_of_parts : List (List ℕ) → Option Tokens
 tokens_of_parts [] = Some []
 tokens_of_parts (part ∷ parts) =

@@ -52,7 +52,7 @@ pub enum PatchWhy {
     BadPath,
     /// An add, replace or test has no `value`.
     NoValue,
-    /// A number, true, false or null stands anywhere in that `value`.
+    /// That `value` has a number, true, false or null anywhere.
     BadValue,
     /// A move or copy has no `from`, or it is no text.
     NoFrom,

@@ -14,7 +14,7 @@ use conf_doc::{Items, Members, Tree};
 use host_core::Txt;
 use std::alloc::Global;
 
-/// A node without one of its children, in whose stead an empty list stands.
+/// A node with an empty list in the place of one of its children.
 #[derive(Drop)]
 pub(crate) enum Gap {
     /// The items, and the index of the child.
@@ -22,7 +22,7 @@ pub(crate) enum Gap {
     Member(Members),
 }
 
-/// What stands in a child's stead.
+/// What takes a child's place.
 fn hole(alloc: Global) -> Tree {
     Tree::List(Items::new(alloc))
 }

@@ -48,7 +48,7 @@ fn tokens_of(alloc: Global, text: &str) -> Result<Names, PointerError>
     Ok(tokens)
 }
 
-/// The token that a text between slashes stands for.
+/// The token that a text between slashes spells.
 fn token_of(alloc: Global, part: &str) -> Result<Txt, PointerError>
     ensures { Gives (λ t. t) pointer_fault result (or_malformed (token_of part.now)) }
 {
@@ -62,7 +62,7 @@ fn token_of(alloc: Global, part: &str) -> Result<Txt, PointerError>
     Ok(Txt::from(token))
 }
 
-/// Adds the character for which a `~` stands before a text, and gives what follows in that text.
+/// Adds the character that a `~` before a text spells, and gives what follows in that text.
 fn push_character<'a>(token: &mut String, behind: &'a str) -> Result<&'a str, PointerError>
     ensures ok { IfOk result (λ after.
         Escapes behind.now after.now (string_bytes token.old) (string_bytes token.new)) }

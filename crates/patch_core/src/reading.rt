@@ -17,7 +17,7 @@ use serde_json::Value;
 use std::alloc::Global;
 
 /// Reads a patch document (RFC 6902, section 3). Members that an operation doesn't define are ignored,
-/// and of a member that stands twice the last counts.
+/// and of a member given twice the last counts.
 pub fn read_patch(alloc: Global, bytes: &[u8]) -> Result<Patch, PatchError>
     ensures { Gives operations patch_fault result (patch bytes.now) }
 {

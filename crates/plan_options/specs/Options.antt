@@ -35,7 +35,7 @@ abbrev pub with_budget : Bool → List ℕ → Option Options
 with_budget dry_run word =
     option_map (λ n. record { dry_run = dry_run; budget = n }) (budget_in word)
 
--- the options that words are: each stands at most once, in either order
+-- the options that words are: each at most once, in either order
 abbrev pub options : List (List ℕ) → Option Options
 options [] = Some (record { dry_run = false; budget = default_budget })
 options (a ∷ []) =

@@ -1,4 +1,4 @@
-//! Which words are options: each stands at most once, in either order.
+//! Which words are options: each at most once, in either order.
 ghost use Rattle.std.specs.Prelude.{◌≡◌, ◌∷◌, [], option_map};
 ghost use Rattle.plan_options.specs.Options.{budget_word, dry_run_word, options, with_budget};
 ghost use Rattle.plan_options.specs.Views.{options_view};

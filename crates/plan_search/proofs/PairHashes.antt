@@ -63,7 +63,7 @@ module _ {A : Type 0} where
       let parts = and_parts _ _ below in
       both_true _ _ (is_less _ (nat_list_cmp_total.trans x y p.0 lt (less _ parts.0))) (below_less x y ps lt parts.1)
 
-  -- a name below all stands nowhere
+  -- a name below all isn't there
   found_below : (name : List ℕ) (ps : List (List ℕ × A)) → below_all name_cmp name ps ≡ true → find name ps ≡ None
   found_below name [] below = refl
   found_below name (p ∷ ps) below =

@@ -61,7 +61,7 @@ module _ (p : Problem) where
 
   -- ---- what was met
 
-  -- each configuration that was met is ahead of goal, and stands once; start is among them
+  -- each configuration that was met is ahead of goal, and occurs once; start is among them
   pub record AreMet (met : List Config) : Type 0 where
     pub each : All (IsAhead p) met
     pub distinct : AllPairs (λ a b. a ≢ b) met
@@ -102,7 +102,7 @@ module _ (p : Problem) where
 
   -- ---- the search
 
-  -- the stack stands on a trail of configurations that were met
+  -- the stack follows a trail of configurations that were met
   pub record IsStanding (met : List Config) (ss : List Spot) (ms : List Move) : Type 0 where
     pub trail : IsTrail ss ms
     pub asked : AreAsked ss

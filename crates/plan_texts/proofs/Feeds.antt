@@ -21,7 +21,7 @@ tested : (xs : List ℕ) → has_none xs ≡ true → HasNoFeed xs
 tested [] e = tt
 tested (x ∷ xs) e = let parts = and_parts _ _ e in (is_other x parts.0, tested xs parts.1)
 
--- ---- what stands in a string for a byte
+-- ---- what a string has for a byte
 
 abbrev none_below : ℕ → Bool
 none_below zero = true

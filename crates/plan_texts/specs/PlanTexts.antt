@@ -80,7 +80,7 @@ pub record LacksMove (text : List ℕ) (line : ℕ) : Type 0 where
   pub next : line ≡ length moves + 2
   pub none : (m : Move) → IsMove m → ¬ BeginsWith (plan_line (length moves + 1) m) rest
 
--- after the lines of all moves something else stands than `done`
+-- something other than `done` follows the lines of all moves
 pub record HasOther (text : List ℕ) (line : ℕ) : Type 0 where
   pub moves : List Move
   pub rest : List ℕ
@@ -89,7 +89,7 @@ pub record HasOther (text : List ℕ) (line : ℕ) : Type 0 where
   pub some : rest ≢ []
   pub other : ¬ BeginsWith done_line rest
 
--- something stands after `done`
+-- something follows `done`
 pub record HasMore (text : List ℕ) (line : ℕ) : Type 0 where
   pub moves : List Move
   pub rest : List ℕ

@@ -311,7 +311,7 @@ module _ (models : ModelSet) (config : Config) (left u v : List Verdict) (a b c 
   all_taken : take b v ≡ v
   all_taken = sym (append_nil (take b v)) ∙ ap (λ l. take b v ++ l) (sym all_behind) ∙ take-append-drop b v
 
-  -- all verdicts stand in the order of the entries
+  -- all verdicts are in the order of the entries
   pub ordered_after : AreWithin v es
   ordered_after =
       subst (λ l. AreWithin l es) all_taken

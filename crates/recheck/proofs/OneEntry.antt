@@ -39,7 +39,7 @@ module _ {A : Type 0} where
   turned : (ps qs : List (List ℕ × A)) (i j n : ℕ) → AreSameFrom ps i qs j n → AreSameFrom qs j ps i n
   turned ps qs i j n same k l low high e = sym (same l k (omega arith) (omega arith) (omega arith))
 
-  -- where each pair of another name stands in the other list, such a name finds the same in both
+  -- where each pair of another name is in the other list, such a name finds the same in both
   found_same : (ps qs : List (List ℕ × A)) (key : List ℕ) → IsRising ps → IsRising qs
       → ((k : List ℕ) (a : A) (i : ℕ) → k ≢ key → slice_get ps i ≡ Some (k, a) → (j : ℕ) × (slice_get qs j ≡ Some (k, a)))
       → ((k : List ℕ) (a : A) (i : ℕ) → k ≢ key → slice_get qs i ≡ Some (k, a) → (j : ℕ) × (slice_get ps j ≡ Some (k, a)))

@@ -75,7 +75,7 @@ module _ {A : Type 0} where
       let tied : name_cmp name name ≡ Equal = tied_itself nat_list_cmp_total name in
       cc
 
-  -- a name stands once
+  -- a name occurs once
   pub stands_once : (ps : List (List ℕ × A)) (i j : ℕ) (name : List ℕ) → IsRising ps
       → slice_get (map (λ p. p.0) ps) i ≡ Some name → slice_get (map (λ p. p.0) ps) j ≡ Some name → i ≡ j
   stands_once ps i j name rising at_i at_j =

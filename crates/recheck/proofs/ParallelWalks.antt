@@ -149,7 +149,7 @@ module _ {V E : Type 0} (on : E → V → Bool) where
   abbrev Within : List V → List E → Type 0
   Within vs es = IsTrue (is_within on vs es)
 
-  -- the next one stands for the next item
+  -- the next one is on the next item
   pub passed : (v : V) (vs : List V) (e : E) (es : List E) → on e v ≡ true → Within (v ∷ vs) (e ∷ es) → Within vs es
   passed v vs e es is within = subst (λ b. IsTrue b) (chosen (on e v) (is_within on vs es) (is_within on (v ∷ vs) es) is) within
 
@@ -180,7 +180,7 @@ module _ {V E : Type 0} (on : E → V → Bool) where
     each_by P v vs x es true is here within now later = (subst P (sym (found x v is)) here, now within)
     each_by P v vs x es false is here within now later = later within
 
-    -- what holds of each item holds of those that they stand for
+    -- what holds of each item holds of those that they are on
     pub each_within : (P : E → Type 0) (vs : List V) (es : List E) → Within vs es → Each P es → Each (λ v. P (at v)) vs
     each_within P [] es is all = tt
     each_within P (v ∷ vs) [] is all = cc

@@ -78,7 +78,7 @@ module _ (models : ModelSet) (a b : Config) (formed_a : IsConfig a) (formed_b : 
           ap (row_of v.table v.key) (sym fields_same)
           ∙ row_only models b br.table br.key (v.table, there.entries) (v.key, there.fields) there.at there.at_key is.broken.row is.broken.at
 
-      -- the row stands in the first too
+      -- the row is in the first too
       row_stands : row_at models a t k ≡ Some row
       row_stands =
           at_entry models a t k (v.table, at.entries) (v.key, at.fields) at.at at.at_key

@@ -1,4 +1,4 @@
--- Verdicts stand in the order of the entries, whichever configuration these are of.
+-- Verdicts are in the order of the entries, whichever configuration these are of.
 use Rattle.std.proofs.Common.{◌≡◌, ◌⊎◌, ℕ, zero, suc, Bool, true, false, cond, ◌&&◌, List, [], ◌∷◌, Some, is_some, slice_get, Less, Equal, refl, sym, ap, ◌∙◌, subst, inl, inr}
 use Rattle.std.specs.FinMap.Entries.{below_all}
 use Rattle.std.specs.Str.{bytes_eq}

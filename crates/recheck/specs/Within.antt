@@ -2,7 +2,7 @@
 use Rattle.std.specs.Prelude.{◌≡◌, ◌⊎◌, List, [], ◌∷◌, Bool, true, false, if◌then◌else◌}
 
 module _ {V E : Type 0} (on : E → V → Bool) where
-  -- the items of the first stand for items of the second, in their order
+  -- the items of the first are on items of the second, in their order
   abbrev pub is_within : List V → List E → Bool
   is_within [] es = true
   is_within (v ∷ vs) [] = false

@@ -1,4 +1,4 @@
--- Two configurations that agree but for one entry, which stands in both or in neither.
+-- Two configurations that agree but for one entry, which is in both or in neither.
 use Rattle.std.proofs.Common.{◌≡◌, ◌≢◌, ◌⊎◌, inl, inr, ℕ, zero, suc, true, false, List, [], ◌∷◌, map, Option, Some, None, option_and_then, is_some, slice_get, refl, sym, ap, ◌∙◌, subst}
 use Rattle.std.specs.List.{Contains}
 use Rattle.std.specs.Option.{option_map_or}
@@ -49,7 +49,7 @@ entry_found c t k i j formed is =
     ap (λ (o : Option Table). option_and_then (find k) o) (finds_part c i (t, is.entries) formed.shaped.rising is.at)
     ∙ finds_part is.entries j (k, is.fields) (table_rises c i t is.entries formed.parts is.at) is.at_key
 
--- that of two names stands somewhere
+-- that of two names has a place
 entry_placed : (c : Config) (t k : List ℕ) (e : Entry) → entry_of t k c ≡ Some e → (i j : ℕ) × (is : IsEntryAt c t k i j) × (is.fields ≡ e)
 entry_placed c t k e found = by (find t c) refl found
   where
@@ -118,7 +118,7 @@ module _ (models : ModelSet) where
             (key_satisfies a b table key agree formed both models w.text) (key_satisfies b a table key (turned a b table key agree) well (sym both) models w.text))
       ]
 
-  -- where the one entry stands in both or in neither, the wants of no other may differ
+  -- where the one entry is in both or in neither, the wants of no other may differ
   pub one_differs : (a b : Config) (table key : List ℕ) (names : List EntryName) → AgreeBut a b table key → IsConfig a → IsConfig b
       → is_some (entry_of table key a) ≡ is_some (entry_of table key b) → IsNamed names table key → AreDifferences models a b names
   one_differs a b table key names agree formed well both named = record {

@@ -75,7 +75,7 @@ module _ {A : Type 0} where
   pub finds_part : (ps : List (List ℕ × A)) (i : ℕ) (p : List ℕ × A) → IsRising ps → slice_get ps i ≡ Some p → find p.0 ps ≡ Some p.1
   finds_part ps i p rising at = find_at ps p.0 i rising (name_at ps i p at) ∙ part_at ps i p at
 
-  -- what is found stands somewhere
+  -- what is found has an index
   pub found_at : (ps : List (List ℕ × A)) (name : List ℕ) (a : A) → find name ps ≡ Some a → (i : ℕ) × (slice_get ps i ≡ Some (name, a))
   found_at [] name a e = absurd cc
   found_at (p ∷ ps) name a e =
@@ -84,7 +84,7 @@ module _ {A : Type 0} where
         | false ↦ λ is later. let rest = found_at ps name a later in (suc rest.0, rest.1)
       ] refl e
 
-  -- a name stands nowhere if it doesn't stand where it would
+  -- a name that isn't where it would be isn't there
   pub none_there : (ps : List (List ℕ × A)) (name : List ℕ) (i : ℕ) → IsRising ps → i ≡ first_from name ps → ¬ (slice_get (map (λ p. p.0) ps) i ≡ Some name)
       → ¬ Contains (map (λ p. p.0) ps) name
   none_there ps name i rising is not_there has =
@@ -112,7 +112,7 @@ entry_of_place c t k i j formed is = record {
   at = ap (λ es. slice_get es j) (entries_at c i t is.entries formed is.at) ∙ is.at_key;
 }
 
--- an entry of those names stands somewhere
+-- an entry of those names has a place
 pub place_of_entry : (c : Config) (t k : List ℕ) (fields : Entry) → HasEntry (entries_of c t) k fields
     → (i j : ℕ) × (is : IsEntryAt c t k i j) × (is.fields ≡ fields)
 place_of_entry c t k fields has = by (find t c) refl has
@@ -127,7 +127,7 @@ place_of_entry c t k fields has = by (find t c) refl has
 pub key_of_entry : (table : Table) (k : List ℕ) (fields : Entry) → HasEntry table k fields → HasKey table k
 key_of_entry table k fields has = item_at (map (λ e. e.0) table) has.index k (name_at table has.index (k, fields) has.at)
 
--- an entry stands at each key
+-- each key has an entry
 pub entry_of_key : (table : Table) (k : List ℕ) → HasKey table k → (fields : Entry) × HasEntry table k fields
 entry_of_key table k has = by (slice_get table has.0) refl
   where

@@ -80,7 +80,7 @@ module _ (models : ModelSet) (a b : Config) where
     subst (λ s. IsWanted models b t.0 s w.target) (sym h.0) (wanted w.text to back t.0 w.target (subst (λ s. IsWanted models a t.0 s w.target) h.0 h.1)),
   )
 
-  -- a want of an entry that stands in both, where its text has it in the second too
+  -- a want of an entry that is in both, where its text has it in the second too
   pub carried_want : (position : WantPlace) (w : Want) (p : Place) (at : IsPlaceAt a position p) (is : IsWantAt models a position w)
       → (i j : ℕ) (there : IsEntryAt b p.table p.key i j) → at.entry.fields ≡ there.fields
       → IsWantedText models b (typed_text is.shape is.row position.field position.item) w → HasWant models b w p

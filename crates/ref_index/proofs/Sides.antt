@@ -20,7 +20,7 @@ use Rattle.ref_index.proofs.NamedEntries.{finds_part, found_at, item_at, key_of_
 
 -- ---- what is so at an index
 
--- the key at an index of a table stands in another one, or it is named
+-- the key at an index of a table is in another one, or it is named
 abbrev pub LoneOf : List ℕ → Table → Table → List EntryName → ℕ → Type 0
 LoneOf t left right names j = (k : List ℕ) → slice_get (map (λ e. e.0) left) j ≡ Some k → HasKey right k ⊎ IsNamed names t k
 
@@ -143,7 +143,7 @@ adds_changed_of parts t left right old new n long stay all = record {
 }
 
 module _ (c : Config) (t : List ℕ) where
-  -- what stands in the table of a name stands in a table at an index
+  -- what the table of a name has is in a table at an index
   at_index : (n : ℕ) → length c ≤ n → (P : Table → Type 0) → (P [] → ⊥) → P (entries_of c t) → (i : ℕ) × (left : Table) × (i < n) × (slice_get c i ≡ Some (t, left)) × P left
   at_index n long P none has = by (find t c) refl has
     where
@@ -183,7 +183,7 @@ module _ (begun old : List EntryName) (stay : StayNamed begun old) (t : List ℕ
   abbrev LoneBefore : List EntryName → ℕ → Type 0
   LoneBefore names m = StayNamed begun names × ((j : ℕ) → j < m → LoneOf t left right names j)
 
-  -- the key stands in the other table
+  -- the key is in the other table
   pub lone_kept : (i : ℕ) → slice_get (map (λ e. e.0) right) i ≡ Some key → ((j : ℕ) → j < n → LoneOf t left right old j) → LoneBefore old (n + 1)
   lone_kept i there before = (
     stay,

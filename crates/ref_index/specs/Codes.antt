@@ -18,7 +18,7 @@ abbrev value_of : List ℕ ⊎ List (List ℕ) → Value
 value_of (inl t) = Text t
 value_of (inr ts) = Listed ts
 
--- a value and its content stand for each other
+-- a value is the one that its content gives
 pub content_back : (v : Value) → value_of (content_of v) ≡ v
 content_back (Text t) = refl
 content_back (Listed ts) = refl

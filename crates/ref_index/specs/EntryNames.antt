@@ -28,7 +28,7 @@ entries_of config t = option_map_or (λ entries. entries) (find t config) []
 abbrev pub HasKey : Table → List ℕ → Type 0
 HasKey table k = Contains (map (λ e. e.0) table) k
 
--- an entry of that key and those fields stands in the table
+-- the table has an entry of that key and those fields
 pub record HasEntry (table : Table) (k : List ℕ) (fields : Entry) : Type 0 where
   pub index : ℕ
   pub at : slice_get table index ≡ Some (k, fields)

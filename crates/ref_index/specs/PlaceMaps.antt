@@ -93,7 +93,7 @@ pub record IsListed (listed : List WantAt) (want : Want) (place : Place) : Type 
   pub wants : want ≡ want_of at.want
   pub stands : place ≡ place_of at
 
--- no place stands twice
+-- no place occurs twice
 abbrev pub AreOnce : PlaceMap → Type 0
 AreOnce m = (w : Want) → AllPairs (λ a b. a ≢ b) (places_at m w)
 

@@ -70,7 +70,7 @@ module _ (scope : Scope) where
           ∙ ap (λ b. cond b (Some e.1) (finmap.find name_cmp (file_name scope q) es))
           (sym (alike q p) ∙ ap (is_name (file_name scope q)) (sym (named scope e.0 p some)))
 
-  -- a scope shows under a plain name what stands in its file
+  -- a scope shows under a plain name what its file holds
   pub get-seen : (files : Files) (q : List ℕ) → get (seen_files scope files) q
       ≡ get files (file_name scope q)
   get-seen files q =

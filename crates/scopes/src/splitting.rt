@@ -21,7 +21,7 @@ pub struct Scoped {
 }
 
 /// The parts of a patch whose paths begin with scopes: for each scope that it names its operations, in
-/// order. The scopes stand in order, `localhost` first and then the ASICs by number.
+/// order. The scopes are in order, `localhost` first and then the ASICs by number.
 pub fn split(alloc: Global, patch: &Patch) -> Result<Vec<Scoped>, SplitError>
     ensures { Gives (λ v. map part_of v.items) split_fault result (split (operations patch.now)) }
 {

@@ -1,4 +1,4 @@
--- The entries of a map from names to sessions, and the sessions that they stand for.
+-- The entries of a map from names to sessions, and the sessions that they give.
 use Rattle.std.proofs.Common.{◌≡◌, ℕ, cond, List, [], ◌∷◌, map, Option, Some, None, refl, sym, ap, ◌∙◌, String, string_bytes}
 use Rattle.std.specs.declared.alloc.Global.{Global}
 use Rattle.std.specs.Ordering.{is_eq, eq_by_cmp, nat_cmp}

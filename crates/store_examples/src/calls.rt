@@ -55,7 +55,7 @@ fn is_answer(alloc: Global, row: &Value, host: &mut MemHost) -> Result<bool, Fai
     Ok(answer.as_str() == said)
 }
 
-/// Whether what came out of the host, and the files that stand under a name, are those of the row.
+/// Whether what came out of the host, and the files under a name, are those of the row.
 fn has_come_out(alloc: Global, row: &Value, name: &str, host: &mut MemHost) -> Result<bool, Fail> {
     Ok(came_out(alloc, row, host)? && has_files(alloc, row, name, host)?)
 }

@@ -135,7 +135,7 @@ fn answer_text(answer: Result<(), Failed>) -> &'static str {
     }
 }
 
-/// Whether a host after a crash has the files, and the configuration, that stand under a pick.
+/// Whether a host after a crash has the files and the configuration of a pick.
 fn is_left(alloc: Global, row: &Value, pick: &str, host: &mut MemHost) -> Result<bool, Fail> {
     let [which, said @ ..] = items_at(row, pick)? else {
         return Err(Fail::Row);

@@ -42,7 +42,7 @@ fn pair_at(alloc: Global, all: &Value, name: &str) -> Result<(Txt, Vec<u8>), Fai
     Ok((Txt::new(alloc, name)?, bytes))
 }
 
-/// The faults of the calls whose numbers stand in `fails`.
+/// The faults of the calls whose numbers are in `fails`.
 pub fn faults_at(alloc: Global, row: &Value) -> Result<Faults, Fail> {
     let numbers = numbers_of(alloc, items_at(row, "fails")?)?;
     Ok(faults(numbers, None))
@@ -83,7 +83,7 @@ fn torn_bytes(alloc: Global, row: &Value) -> Result<Pick, Fail> {
     Ok(Pick::Bytes(Sequence::from_vec(torn)))
 }
 
-/// Whether a host has the files that stand under a name, and no others.
+/// Whether a host has the files under a name, and no others.
 pub fn has_files(alloc: Global, row: &Value, name: &str, host: &mut MemHost) -> Result<bool, Fail> {
     let said = row.get(name).ok_or(Fail::Row)?;
     let mut count = 0usize;

@@ -47,7 +47,7 @@ fn is_config(alloc: Global, row: &Value, name: &str, config: &Config) -> Result<
     Ok(config.same(&said))
 }
 
-/// The configuration that stands under a name.
+/// The configuration under a name.
 fn config_at(alloc: Global, row: &Value, name: &str) -> Result<Config, Fail> {
     let bytes = row.get(name).ok_or(Fail::Row)?.to_vec(alloc)?;
     match read_tree(alloc, &bytes) {

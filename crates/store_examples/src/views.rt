@@ -58,7 +58,7 @@ fn host_done(alloc: Global, row: &Value) -> Result<MemHost, Fail> {
     Ok(host)
 }
 
-/// Whether what came out of the host, and the files that stand under a name, are those of the row.
+/// Whether what came out of the host, and the files under a name, are those of the row.
 fn has_come_out(alloc: Global, row: &Value, name: &str, host: &mut MemHost) -> Result<bool, Fail> {
     Ok(came_out(alloc, row, host)? && has_files(alloc, row, name, host)?)
 }
