@@ -6,7 +6,7 @@ use Rattle.std.specs.List.{join_with_byte, slice_split}
 abbrev pub bar : ℕ
 bar = 124
 
--- a part has no bar
+-- no bar stands in a part
 abbrev pub HasNoBar : List ℕ → Type 0
 HasNoBar part = All (λ c. c ≢ bar) part
 
