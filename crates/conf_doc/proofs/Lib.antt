@@ -3,7 +3,6 @@ pub mod ItemMaps
 pub mod Edits
 pub mod Equalities
 pub mod Escapes
-pub mod Joined
 pub mod Lists
 pub mod Names
 pub mod JsonValues

@@ -17,7 +17,6 @@ pub mod Trees
 pub mod WellFormed
 -- what only private clauses cite
 pub mod Indexes
-pub mod Joined
 pub mod OrderLaws
 pub mod Shared
 pub mod Stops

@@ -4,7 +4,6 @@ ghost use Rattle.conf_doc.specs.Changes.{entry_at, value_at};
 ghost use Rattle.conf_doc.specs.Pairs.{find, first_from};
 ghost use Rattle.conf_doc.specs.WellFormed.{AreTexts, IsConfig, IsEntry, IsTable, IsValue};
 
-use crate::fields::Fields;
 use crate::sorted::Sorted;
 use host_core::{Memory, Names, Txt};
 use std::alloc::Global;
@@ -21,7 +20,7 @@ pub enum Value {
 /// list of pairs of a name and a value.
 #[derive(Drop, Eq, Hash, Ord, PartialEq, PartialOrd)]
 pub struct Entry {
-    pub(crate) fields: Fields,
+    pub(crate) fields: Sorted<Value>,
 }
 
 /// The entries of a table, sorted by key. No key is empty, and none stands twice. Contracts see the
@@ -283,7 +282,7 @@ impl Entry {
         ensures { result ≡ [] }
     {
         Entry {
-            fields: Fields::new(alloc),
+            fields: Sorted::new(alloc),
         }
     }
 
@@ -292,7 +291,7 @@ impl Entry {
         ensures field { option_map (λ v. v.now) result ≡ find name.now self.now }
         ensures formed { IsEntry self.now }
     {
-        self.fields.list().find(name)
+        self.fields.find(name)
     }
 
     /// How many fields there are.
@@ -300,7 +299,7 @@ impl Entry {
         ensures len { result ≡ length self.now }
         ensures formed { IsEntry self.now }
     {
-        self.fields.list().len()
+        self.fields.len()
     }
 
     /// The name of the field at an index, counted from 0 in the order of the names.
@@ -308,7 +307,7 @@ impl Entry {
         requires { i < length self.now }
         ensures { slice_get (map (λ p. p.0) self.now) i ≡ Some result.now }
     {
-        self.fields.list().name_at(i)
+        self.fields.name_at(i)
     }
 
     /// The value of the field at an index.
@@ -317,7 +316,7 @@ impl Entry {
         ensures part { slice_get (map (λ p. p.1) self.now) i ≡ Some result.now }
         ensures formed { IsEntry self.now }
     {
-        self.fields.list().part_at(i)
+        self.fields.part_at(i)
     }
 
     /// The name of a field and its value at an index.
@@ -326,14 +325,14 @@ impl Entry {
         ensures pair { slice_get self.now i ≡ Some (result.0.now, result.1.now) }
         ensures formed { IsEntry self.now }
     {
-        self.fields.list().both_at(i)
+        self.fields.both_at(i)
     }
 
     /// The first index from which no field's name is below that text, or the length.
     pub fn first_from(&self, name: &str) -> usize
         ensures { result ≡ first_from name.now self.now }
     {
-        self.fields.list().first_from(name)
+        self.fields.first_from(name)
     }
 
     /// The same entry.

@@ -6,7 +6,7 @@ use crate::{Config, Entry, Table, Value};
 use host_core::{Names, Txt};
 
 /// Values of which can be said that they are the same.
-pub(crate) trait Same {
+trait Same {
     fn is_same(&self, other: &Self) -> bool
         ensures { IsTrue result ↔ (self.now ≡ other.now) };
 }
@@ -34,7 +34,7 @@ impl Entry {
     pub fn same(&self, other: &Entry) -> bool
         ensures { IsTrue result ↔ (self.now ≡ other.now) }
     {
-        self.fields.same(&other.fields)
+        same_parts(&self.fields, &other.fields)
     }
 }
 
@@ -69,7 +69,7 @@ impl Same for Value {
     }
 }
 
-pub(crate) fn same_parts<X: Same>(left: &Sorted<X>, right: &Sorted<X>) -> bool
+fn same_parts<X: Same>(left: &Sorted<X>, right: &Sorted<X>) -> bool
     ensures { IsTrue result ↔ (left.now ≡ right.now) }
 {
     if left.len() != right.len() {

@@ -8,7 +8,6 @@ ghost use Rattle.conf_doc.specs.Stops.{located, stop_place};
 ghost use Rattle.conf_doc.specs.Trees.{document};
 ghost use Rattle.conf_doc.specs.WellFormed.{AreTexts, Each, IsConfig, IsEntry, IsShaped, IsTable, IsValue};
 
-use crate::fields::Fields;
 use crate::sorted::Sorted;
 use crate::stops::Stop;
 use crate::{Config, Entry, Items, Members, ShapeError, Table, Tree, Value};
@@ -84,9 +83,8 @@ impl Shaped for Entry {
     ghost IsWell = { IsEntry };
 
     fn shape(alloc: Global, tree: Tree) -> Result<Entry, Stop> {
-        let list = shape_map(alloc, tree)?;
         Ok(Entry {
-            fields: Fields::of(alloc, list),
+            fields: shape_map(alloc, tree)?,
         })
     }
 }

@@ -47,7 +47,7 @@ impl Taken for Table {
 impl Taken for Entry {
     fn into_tree(self, alloc: Global) -> Result<Tree, Memory> {
         let Entry { fields } = self;
-        take_parts(alloc, fields.into_list())
+        take_parts(alloc, fields)
     }
 }
 

@@ -92,11 +92,11 @@ impl Written for Entry {
     ghost as_document = { entry_tree };
 
     fn tree(&self, alloc: Global) -> Result<Tree, Memory> {
-        tree_of_parts(alloc, self.fields.list())
+        tree_of_parts(alloc, &self.fields)
     }
 
     fn write(&self, out: &mut Pretty) -> Result<(), AllocError> {
-        write_parts(self.fields.list(), out)
+        write_parts(&self.fields, out)
     }
 }
 
