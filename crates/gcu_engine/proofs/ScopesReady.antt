@@ -15,8 +15,8 @@ use Rattle.scopes.specs.Views.{seen_files}
 use Rattle.scope_changes.specs.Ends.{AreReadyFor}
 use Rattle.scope_changes.specs.Works.{ScopeWork, all_steps}
 use Rattle.gcu_output.specs.declared.outcomes.Outcome.{Outcome}
-use Rattle.gcu_requests.specs.Asking.{of_each}
-use Rattle.gcu_requests.specs.Preparing.{AreFound, Finds}
+use Rattle.gcu_inputs.specs.Asking.{of_each}
+use Rattle.gcu_inputs.specs.Preparing.{AreFound, Finds}
 use Rattle.gcu_requests.specs.Request.{ScopePlan}
 use Rattle.gcu_requests.specs.ScopesAsked.{ScopePlanning, scopes_asked}
 use Rattle.gcu_requests.specs.ScopesPlannings.{AreReady, IsReadyBetween, StandsInEach, plan_in, plans_of, scope_planning}

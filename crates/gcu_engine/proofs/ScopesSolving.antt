@@ -11,14 +11,14 @@ use Rattle.gcu_output.specs.Lines.{last_line}
 use Rattle.gcu_output.specs.Printing.{LeftInText}
 use Rattle.gcu_output.specs.declared.outcomes.Outcome.{Outcome}
 use Rattle.gcu_output.specs.declared.outcomes.Outcome.TheVariants.{Done, Memory, Unorderable, Budget}
-use Rattle.gcu_requests.specs.Asking.{Asking, of_each}
-use Rattle.gcu_requests.specs.Preparing.{Finds, Found, Refuses, RefusesAlways}
+use Rattle.gcu_inputs.specs.Asking.{Asking, of_each}
+use Rattle.gcu_inputs.specs.Preparing.{Finds, Found, Refuses, RefusesAlways}
 use Rattle.gcu_requests.specs.Request.{Request, ScopePlan, plan_scopes}
 use Rattle.gcu_requests.specs.ScopesAsked.{scopes_asked}
 use Rattle.gcu_requests.specs.ScopesPlannings.{AreReady, IsReadyBetween, IsRefusalOf, IsStill, plan_in, plans_of, scope_planning}
 use Rattle.gcu_requests.specs.declared.scopes_planning.ScopeEnds.{ScopeEnds}
 use Rattle.gcu_requests.specs.declared.scopes_planning.ScopesPlanning.{ScopesPlanning}
-use Rattle.gcu_requests.proofs.Finding.{first_refused, then_found}
+use Rattle.gcu_inputs.proofs.Finding.{first_refused, then_found}
 use Rattle.gcu_engine.specs.Answers.{Says}
 use Rattle.gcu_engine.specs.Commands.{LeftTo}
 use Rattle.gcu_engine.specs.PlanCommands.{IsSolved, planning_between}

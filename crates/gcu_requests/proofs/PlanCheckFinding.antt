@@ -10,14 +10,14 @@ use Rattle.plan_options.specs.Options.{default_budget}
 use Rattle.plan_options.specs.Targets.{patched}
 use Rattle.plan_texts.specs.PlanTexts.{IsPlanText, done_line, most_bytes}
 use Rattle.gcu_output.specs.declared.outcomes.Outcome.{Outcome}
-use Rattle.gcu_requests.specs.ModelFiles.{bytes_asked}
+use Rattle.gcu_inputs.specs.ModelFiles.{bytes_asked}
+use Rattle.gcu_inputs.specs.Preparing.{Finds, IsRightBy, RefusesAlways}
 use Rattle.gcu_requests.specs.PlanAsked.{planning_asked}
 use Rattle.gcu_requests.specs.PlanCheckAsked.{IsAccepted, IsPlanIn, check_plan_asked, moves_asked}
-use Rattle.gcu_requests.specs.Preparing.{Finds, IsRightBy, RefusesAlways}
 use Rattle.gcu_requests.specs.ReadPlannings.{planning_of}
 use Rattle.gcu_requests.specs.Request.{accept_plan}
 use Rattle.gcu_requests.specs.declared.planning.Planning as code
-use Rattle.gcu_requests.proofs.Finding.{first_refused, found_told, then_found}
+use Rattle.gcu_inputs.proofs.Finding.{first_refused, found_told, then_found}
 
 abbrev self : {X : Type 0} → X → X
 self x = x
