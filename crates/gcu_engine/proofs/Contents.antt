@@ -38,7 +38,7 @@ use Rattle.plan_options.specs.Targets.{Target, patched, replaced, resumed, rolle
 use Rattle.gcu_output.specs.declared.outcomes.Outcome.{Outcome}
 use Rattle.gcu_inputs.specs.IntentAsked.{held_answer as intent_held, intended_asked}
 use Rattle.gcu_inputs.specs.ModelFiles.{File, Text, bytes_asked, bytes_in, files_asked, list_limit, list_path, model_limit, models_asked, paths_asked, statements_of, text_answer, texts_in}
-use Rattle.gcu_inputs.specs.PatchAsked.{patch_answer, patch_in, patch_limit, target, target_shape}
+use Rattle.gcu_inputs.specs.PatchAsked.{patch_answer, patch_in, patch_limit, target_shape}
 use Rattle.gcu_inputs.specs.PatchAsked as patches
 use Rattle.gcu_inputs.specs.RulesAsked.{ctx_asked, rules_answer, rules_limit, rules_path, settings_asked}
 use Rattle.gcu_requests.specs.FileAsked.{config_answer, document_answer, file_asked, file_limit}

@@ -16,7 +16,7 @@ use Rattle.plan_options.specs.Options.{default_budget}
 use Rattle.gcu_output.specs.declared.outcomes.Outcome.{Outcome}
 use Rattle.gcu_output.specs.declared.outcomes.Outcome.TheVariants.{BadName}
 use Rattle.gcu_output.specs.declared.statuses.Intent.{Intent}
-use Rattle.gcu_inputs.specs.Form.{Form, form}
+use Rattle.gcu_inputs.specs.Form.{Form}
 use Rattle.gcu_inputs.specs.Form as forms
 use Rattle.gcu_inputs.specs.Tasks.{Task}
 use Rattle.gcu_requests.specs.Asked.{absent_answer, delete_asked, form_asked, list_asked, migrate_asked, preview_asked, save_asked, there_answer}

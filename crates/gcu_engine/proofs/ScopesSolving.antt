@@ -1,12 +1,11 @@
 -- How the plans of scopes make what a change of several scopes says.
-use Rattle.std.proofs.Common.{◌≡◌, ◌<◌, ◌≤◌, ◌⊎◌, inl, inr, ⊎_elim, ℕ, zero, suc, ◌+◌, List, [], ◌∷◌, ◌++◌, get_or, length, map, take, refl, sym, ap, ◌∙◌, subst, append_assoc, append-nil, arith, Option, Some, None, Result, Ok, Err, IfErr, IfSome}
+use Rattle.std.proofs.Common.{◌≡◌, ◌<◌, ◌⊎◌, inl, inr, ⊎_elim, ℕ, zero, suc, ◌+◌, List, [], ◌∷◌, ◌++◌, get_or, length, map, take, refl, sym, ap, ◌∙◌, subst, append_assoc, append-nil, arith, Option, Some, None, Result, Ok, Err, IfSome}
 use Rattle.std.proofs.lemmas.List.{map-append, take_more}
 use Rattle.host_core.specs.Counts.{Counts, NoneFell, PrintMayRise}
 use Rattle.host_core.specs.Crashes.{Elapses, Left, MayLeaveNow}
 use Rattle.host_core.specs.State.{State}
 use Rattle.move_core.specs.Operations.{plan_text}
 use Rattle.move_core.specs.declared.contexts.Ctx.{Ctx}
-use Rattle.scopes.specs.declared.scope.Scope.{Scope}
 use Rattle.gcu_output.specs.Lines.{last_line}
 use Rattle.gcu_output.specs.Printing.{LeftInText}
 use Rattle.gcu_output.specs.declared.outcomes.Outcome.{Outcome}

@@ -1,5 +1,5 @@
 -- Which words are a change of several scopes.
-use Rattle.std.specs.Prelude.{ℕ, List, [], ◌∷◌, codes, Bool, ◌&&◌, if◌then◌else◌, Option, Some, None}
+use Rattle.std.specs.Prelude.{ℕ, List, ◌∷◌, codes, Bool, ◌&&◌, if◌then◌else◌, Option, Some, None}
 use Rattle.plan_options.specs.Options.{Options, options}
 use Rattle.plan_options.specs.Words.{is_positional, is_word}
 use Rattle.gcu_inputs.specs.declared.scopes_form.ScopesForm as code

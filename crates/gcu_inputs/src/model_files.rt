@@ -1,12 +1,12 @@
 //! The texts of the models that the list of files names.
-ghost use Rattle.std.specs.Prelude.{◌≡◌, ◌≤◌, ◌+◌, List, ℕ, IfErr, IfOk, All, length};
+ghost use Rattle.std.specs.Prelude.{◌≡◌, ◌≤◌, ◌+◌, IfErr, IfOk, length};
 ghost use Rattle.host_core.specs.Answers.{Gives};
 ghost use Rattle.host_core.specs.Counts.{InputMayRise};
 ghost use Rattle.host_core.specs.Crashes.{Elapses, MayLeaveNow};
 ghost use Rattle.model_list.specs.Lists.{most_files, paths_of};
 ghost use Rattle.yang_text.specs.Declarations.{total_weight};
 ghost use Rattle.yang_text.specs.Reading.{reading};
-ghost use Rattle.gcu_inputs.specs.ModelFiles.{paths_asked, files_asked, texts_in, texts_asked, text_answer, list_path, File, AreShort, AreSmall};
+ghost use Rattle.gcu_inputs.specs.ModelFiles.{paths_asked, files_asked, texts_in, texts_asked, text_answer, AreShort, AreSmall};
 ghost use Rattle.gcu_inputs.specs.Preparing.{Finds, Refuses, RefusesAlways, refusal};
 
 use crate::inputs::input_bytes;

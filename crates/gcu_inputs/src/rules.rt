@@ -1,5 +1,5 @@
 //! By what the moves of a plan are judged: the models, and the rules file.
-ghost use Rattle.std.specs.Prelude.{◌≡◌, ◌≤◌, IfErr, IfOk};
+ghost use Rattle.std.specs.Prelude.{◌≡◌, IfErr, IfOk};
 ghost use Rattle.host_core.specs.Answers.{Gives};
 ghost use Rattle.host_core.specs.Counts.{InputMayRise};
 ghost use Rattle.host_core.specs.Crashes.{Elapses, MayLeaveNow};

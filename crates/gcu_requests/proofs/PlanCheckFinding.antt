@@ -1,5 +1,5 @@
 -- How what is found for the check of a plan makes what it says.
-use Rattle.std.proofs.Common.{◌≡◌, ◌≤◌, ◌<◌, ℕ, suc, List, [], ◌∷◌, ◌++◌, length, inl, inr, refl, sym, ap, ◌∙◌, subst, arith, length-append, Option, Some, None, Result, Ok, Err, IfErr}
+use Rattle.std.proofs.Common.{◌≡◌, ◌≤◌, ◌<◌, ℕ, suc, List, [], ◌∷◌, ◌++◌, length, inl, inr, ap, arith, length-append, Option, Some, None, Result, Ok, Err, IfErr}
 use Rattle.host_core.specs.State.{State}
 use Rattle.conf_doc.specs.Texts.{compact, line_feed}
 use Rattle.patch_core.specs.Writing.{operation_document}

@@ -1,5 +1,5 @@
 -- What the plans of several scopes need, found scope after scope.
-use Rattle.std.proofs.Common.{◌≡◌, inl, inr, ℕ, List, [], ◌∷◌, ◌++◌, refl, sym, subst, Option, Some, None, Result, Ok, Err, IfErr, IfOk, IfSome, option_map}
+use Rattle.std.proofs.Common.{◌≡◌, inl, inr, ℕ, List, [], ◌∷◌, ◌++◌, refl, sym, subst, Option, Some, None, Result, Ok, Err, IfOk, IfSome, option_map}
 use Rattle.std.specs.List.{AllPass}
 use Rattle.host_core.specs.Answers.{Gives}
 use Rattle.host_core.specs.Counts.{Counts}
@@ -20,10 +20,9 @@ use Rattle.gcu_output.specs.declared.outcomes.Outcome.TheVariants.{Done, Memory,
 use Rattle.gcu_inputs.specs.Asking.{Asking, follows}
 use Rattle.gcu_inputs.specs.IntentAsked.{uninterrupted}
 use Rattle.gcu_inputs.specs.PatchAsked.{target}
-use Rattle.gcu_inputs.specs.Preparing.{FailsIn, Finds, Found, Refuses, RefusesAlways, refusal}
+use Rattle.gcu_inputs.specs.Preparing.{Finds, Found, Refuses, RefusesAlways, refusal}
 use Rattle.gcu_requests.specs.PlanAsked.{judged_asked, start_asked}
-use Rattle.gcu_requests.specs.Request as request
-use Rattle.gcu_requests.specs.ScopesAsked.{ScopePlanning, part_asked, patched_asked, patched_ends, patched_goal, refusal_of, within}
+use Rattle.gcu_requests.specs.ScopesAsked.{part_asked, patched_asked, patched_ends, patched_goal, within}
 use Rattle.gcu_requests.specs.ScopesPlannings.{AreReady, IsReadyBetween, IsRefusalOf, StandsInEach, plan_in, scope_planning}
 use Rattle.gcu_requests.specs.declared.scopes_planning.Ends.{Ends}
 use Rattle.gcu_requests.specs.declared.scopes_planning.ScopeEnds.{ScopeEnds}

@@ -1,5 +1,5 @@
 -- What was found over a view, as the host behind it has it.
-use Rattle.std.proofs.Common.{◌≡◌, ◌≤◌, ◌⊎◌, ⊎_elim, inl, inr, ℕ, List, refl, sym, ap, ◌∙◌, subst, arith, Option, Some, None, Result, Ok, Err, IfOk, IfSome, option_map}
+use Rattle.std.proofs.Common.{◌≡◌, ◌≤◌, ◌⊎◌, ⊎_elim, ℕ, refl, sym, ◌∙◌, subst, arith, Option, Some, None, Result, Ok, Err, IfOk, IfSome, option_map}
 use Rattle.host_core.specs.Crashes.{Elapses, Left, MayLeaveNow}
 use Rattle.host_core.specs.State.{State, settled}
 use Rattle.conf_store.specs.Folds.{StandsFor}

@@ -1,5 +1,5 @@
 -- How far a change is that was stopped, as the code keeps it.
-use Rattle.std.specs.Prelude.{◌≡◌, ℕ, Result, Ok, Err, IfErr}
+use Rattle.std.specs.Prelude.{ℕ, Result, Ok, Err}
 use Rattle.host_core.specs.State.{State}
 use Rattle.conf_store.specs.Applied.{AreApplied}
 use Rattle.gcu_output.specs.declared.outcomes.Outcome.{Outcome}

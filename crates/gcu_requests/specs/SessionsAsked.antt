@@ -1,6 +1,6 @@
 -- `sessions SCRIPT`: what the script of several operators asks. The whole script is read before the files that it
 -- names, and all of these before anything is done.
-use Rattle.std.specs.Prelude.{◌≡◌, ℕ, List, [], ◌∷◌, ◌++◌, if◌then◌else◌, Option, Some, None, Result, Ok, Err}
+use Rattle.std.specs.Prelude.{ℕ, List, [], ◌∷◌, ◌++◌, if◌then◌else◌, Option, Some, None, Result, Ok, Err}
 use Rattle.host_core.specs.State.{State}
 use Rattle.conf_doc.specs.declared.configuration.Config.{Config}
 use Rattle.move_core.specs.declared.contexts.Ctx.{Ctx}

@@ -1,5 +1,5 @@
 //! The patches that a script of several operators names: each file is read once.
-ghost use Rattle.std.specs.Prelude.{◌≡◌, ◌≤◌, IfErr, IfOk, IsSome, option_map};
+ghost use Rattle.std.specs.Prelude.{◌≡◌, IfErr, IfOk, IsSome, option_map};
 ghost use Rattle.host_core.specs.Counts.{InputMayRise};
 ghost use Rattle.host_core.specs.Crashes.{Elapses, MayLeaveNow};
 ghost use Rattle.patch_core.specs.Operation.{operations};
