@@ -15,13 +15,13 @@ use Rattle.move_core.specs.Plans.{conf}
 use Rattle.move_core.specs.declared.moves.Move.{Move}
 use Rattle.plan_options.specs.Options.{most_budget}
 use Rattle.gcu_output.specs.declared.outcomes.Outcome.{Outcome}
+use Rattle.gcu_inputs.specs.Form as forms
+use Rattle.gcu_inputs.specs.Form.{Form, form}
+use Rattle.gcu_inputs.specs.ScopeForm.{IsUnscoped}
+use Rattle.gcu_inputs.specs.Tasks.{Task}
 use Rattle.gcu_requests.specs.Asked.{form_asked, migrate_asked}
-use Rattle.gcu_requests.specs.Form as forms
-use Rattle.gcu_requests.specs.Form.{Form, form}
 use Rattle.gcu_requests.specs.Request as request
 use Rattle.gcu_requests.specs.Request.{Request}
-use Rattle.gcu_requests.specs.ScopeForm.{IsUnscoped}
-use Rattle.gcu_requests.specs.Tasks.{Task}
 use Rattle.gcu_engine.specs.Answers.{Leaves}
 use Rattle.gcu_engine.specs.Crashes.{LeftByForm, LeftOf, LeftOfMigration, LeftWriting}
 use Rattle.gcu_engine.proofs.IntentRemovals.{either_stored}

@@ -21,17 +21,17 @@ use Rattle.gcu_output.specs.Lines.{last_line, line_feed}
 use Rattle.gcu_output.specs.Statuses.{status_text}
 use Rattle.gcu_output.specs.declared.statuses.Intent.{Intent}
 use Rattle.gcu_output.specs.declared.statuses.Intent.TheVariants.{Absent, Broken, Whole}
+use Rattle.gcu_inputs.specs.Asking.{Asking}
+use Rattle.gcu_inputs.specs.Form as forms
+use Rattle.gcu_inputs.specs.Form.{Form}
 use Rattle.gcu_requests.specs.Asked.{absent_answer, form_asked, there_answer}
-use Rattle.gcu_requests.specs.Asking.{Asking}
-use Rattle.gcu_requests.specs.Form as forms
-use Rattle.gcu_requests.specs.Form.{Form}
-use Rattle.gcu_requests.specs.IntentAsked.{intent_of}
+use Rattle.gcu_requests.specs.InterruptionAsked.{intent_of}
 use Rattle.gcu_requests.specs.PlanAsked.{planning_asked, start_asked}
 use Rattle.plan_options.specs.Targets.{Target}
+use Rattle.gcu_inputs.specs.Tasks.{Task, reach, run_script}
 use Rattle.gcu_requests.specs.Request as request
 use Rattle.gcu_requests.specs.Request.{Operating, Planning, Request, Work, operated, planned}
 use Rattle.gcu_requests.specs.SessionsAsked.{operating_asked, script_answer, script_asked}
-use Rattle.gcu_requests.specs.Tasks.{Task, reach, run_script}
 use Rattle.gcu_requests.specs.WorkAsked.{work_asked}
 use Rattle.session_scripts.proofs.NamedLines.{script_named}
 use Rattle.session_scripts.specs.Scripts.{AreNamed, script}

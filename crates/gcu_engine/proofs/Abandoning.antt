@@ -7,12 +7,13 @@ use Rattle.conf_store.specs.Files.{intent_file}
 use Rattle.change_apply.specs.Intents.{IsClosed, IsClosedOrNot}
 use Rattle.gcu_output.specs.declared.outcomes.Outcome.{Outcome}
 use Rattle.gcu_output.specs.declared.outcomes.Outcome.TheVariants.{DiskFault}
-use Rattle.gcu_requests.specs.Asking.{Asking, a_settling, follows, settles_first, ◌>>>◌}
-use Rattle.gcu_requests.specs.IntentAsked.{abandon_asked, interrupted}
-use Rattle.gcu_requests.specs.Preparing.{Finds, Found}
+use Rattle.gcu_inputs.specs.Asking.{Asking, a_settling, follows, settles_first, ◌>>>◌}
+use Rattle.gcu_inputs.specs.IntentAsked.{interrupted}
+use Rattle.gcu_inputs.specs.Preparing.{Finds, Found}
+use Rattle.gcu_requests.specs.InterruptionAsked.{abandon_asked}
 use Rattle.gcu_requests.specs.Request as request
 use Rattle.gcu_requests.specs.Request.{Request}
-use Rattle.gcu_requests.proofs.Finding.{first_refused, then_found}
+use Rattle.gcu_inputs.proofs.Finding.{first_refused, then_found}
 use Rattle.gcu_engine.proofs.Writing.{FindsUnit, IsWriting}
 
 -- what giving it up does to the files

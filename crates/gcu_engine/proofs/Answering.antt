@@ -11,16 +11,17 @@ use Rattle.gcu_output.specs.Lines.{last_line}
 use Rattle.gcu_output.specs.Printing.{IsPrinted, IsSaid, text_in_lines}
 use Rattle.gcu_output.specs.declared.outcomes.Outcome.{Outcome}
 use Rattle.gcu_output.specs.declared.outcomes.Outcome.TheVariants.{Done, Memory, Usage, InputFault, DiskFault, PrintFault, ServiceFault, Unorderable, Budget}
+use Rattle.gcu_inputs.specs.Asking.{Asking}
+use Rattle.gcu_inputs.specs.Form.{Form, form, preview}
+use Rattle.gcu_inputs.specs.Preparing.{FailsIn, Finds, Refuses, StandsIn, refusal}
 use Rattle.gcu_requests.specs.Asked.{asked, form_asked, preview_asked, target_asked}
-use Rattle.gcu_requests.specs.Asking.{Asking}
-use Rattle.gcu_requests.specs.Form.{Form, form, preview}
-use Rattle.gcu_requests.specs.Preparing.{FailsIn, Finds, Refuses, StandsIn, refusal}
 use Rattle.gcu_requests.specs.Request as request
 use Rattle.gcu_requests.specs.Request.{Request}
 use Rattle.gcu_requests.specs.Trees.{preview_document}
 use Rattle.gcu_engine.specs.Answers.{Answers, Complete, HasCause, Leaves, Prints, Says}
 use Rattle.gcu_engine.specs.Commands.{AnswersTo}
-use Rattle.gcu_requests.proofs.Finding.{fails_before, fails_first, tree_given}
+use Rattle.gcu_inputs.proofs.Finding.{fails_first}
+use Rattle.gcu_requests.proofs.TreeFinding.{fails_before, tree_given}
 
 -- a refusal's last line is all that it says
 pub refused_says : (asking : Asking Request) (s : State) (e : Outcome) (old new : Counts)

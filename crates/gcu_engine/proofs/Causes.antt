@@ -6,7 +6,7 @@ use Rattle.gcu_output.specs.Printing.{IsTold, may_have_written, outcome_of, IsPr
 use Rattle.gcu_output.specs.Lines.{last_line}
 use Rattle.gcu_output.specs.declared.outcomes.Outcome.{Outcome}
 use Rattle.gcu_output.specs.declared.outcomes.Outcome.TheVariants.{Done, Memory, Usage, InputFault, DiskFault, PrintFault, ServiceFault, Unorderable, Budget}
-use Rattle.gcu_requests.specs.Preparing.{Refuses}
+use Rattle.gcu_inputs.specs.Preparing.{Refuses}
 use Rattle.gcu_engine.specs.Answers.{HasCause}
 use Rattle.gcu_engine.specs.PlanCommands.{RefusesOrEnds}
 

@@ -1,5 +1,5 @@
 -- A change from what is printed before it on.
-use Rattle.std.proofs.Common.{◌≡◌, inl, inr, ℕ, List, [], append-nil, refl, sym, ap, ◌∙◌, subst, Option, Some, None, IfSome, option_map}
+use Rattle.std.proofs.Common.{◌≡◌, inl, inr, ℕ, List, [], append-nil, refl, sym, ◌∙◌, subst, Option, Some, None, IfSome, option_map}
 use Rattle.host_core.specs.Counts.{Counts, NoneFell}
 use Rattle.host_core.specs.Crashes.{Elapses, Left, LeavesOnly, MayLeave, MayLeaveInPrint, MayLeaveNow}
 use Rattle.host_core.specs.State.{State, printed}

@@ -19,16 +19,16 @@ use Rattle.plan_options.specs.Targets.{Target, patched, replaced, resumed, rolle
 use Rattle.gcu_output.specs.Lines.{last_line, service_line}
 use Rattle.gcu_output.specs.declared.outcomes.Outcome.{Outcome}
 use Rattle.gcu_output.specs.declared.outcomes.Outcome.TheVariants.{Done, Memory, Usage, InputFault, DiskFault, PrintFault, ServiceFault, Unorderable, Budget, TargetInvalid}
-use Rattle.gcu_requests.specs.Asking.{Asking, a_file, follows, follows_by, ◌>>>◌}
-use Rattle.gcu_requests.specs.IntentAsked.{gate_asked, uninterrupted}
+use Rattle.gcu_inputs.specs.Asking.{Asking, a_file, follows, follows_by, ◌>>>◌}
+use Rattle.gcu_inputs.specs.IntentAsked.{gate_asked, uninterrupted}
+use Rattle.gcu_inputs.specs.Preparing.{FailsIn, Refuses, StandsIn, refusal}
+use Rattle.gcu_inputs.specs.RulesAsked.{settings_asked}
+use Rattle.gcu_inputs.specs.Tasks.{Task, reach, run_script}
 use Rattle.gcu_requests.specs.PlanAsked.{HasKeys, IsElsewhereAs, IsValidOr, made_asked, planning_asked, start_asked}
 use Rattle.gcu_requests.specs.ReadPlannings.{planning_of}
-use Rattle.gcu_requests.specs.Preparing.{FailsIn, Refuses, StandsIn, refusal}
 use Rattle.gcu_requests.specs.ReadScripts.{operating_of}
 use Rattle.gcu_requests.specs.Request.{Operating, Patched, Planning, Request, Work, change, ctx_of, operated, planned}
-use Rattle.gcu_requests.specs.RulesAsked.{settings_asked}
 use Rattle.gcu_requests.specs.SessionsAsked.{file_of, line_asked, operating_asked, patch_at, patches_asked, script_asked, unread_asked}
-use Rattle.gcu_requests.specs.Tasks.{Task, reach, run_script}
 use Rattle.gcu_requests.specs.WorkAsked.{settled_asked, work_asked}
 use Rattle.gcu_requests.specs.declared.planning.Planning as code
 use Rattle.gcu_requests.specs.declared.session_preparing.Operating as runs

@@ -6,8 +6,8 @@ use Rattle.conf_doc.specs.declared.configuration.Config.{Config}
 use Rattle.gcu_output.specs.Lines.{last_line}
 use Rattle.gcu_output.specs.declared.outcomes.Outcome.{Outcome}
 use Rattle.gcu_output.specs.declared.outcomes.Outcome.TheVariants.{Done}
+use Rattle.gcu_inputs.specs.Preparing.{Finds, Refuses}
 use Rattle.gcu_requests.specs.Checking.{check_asked}
-use Rattle.gcu_requests.specs.Preparing.{Finds, Refuses}
 use Rattle.gcu_requests.specs.Request as request
 use Rattle.gcu_engine.specs.Answers.{Says}
 use Rattle.gcu_requests.proofs.ValidityFinding.{check_of}

@@ -36,14 +36,14 @@ use Rattle.move_core.specs.declared.errors.RulesError.TheVariants as wrong
 use Rattle.move_core.specs.declared.settings.Settings.{Settings}
 use Rattle.plan_options.specs.Targets.{Target, patched, replaced, resumed, rolled_back}
 use Rattle.gcu_output.specs.declared.outcomes.Outcome.{Outcome}
-use Rattle.gcu_requests.specs.IntentAsked.{held_answer as intent_held, intended_asked}
+use Rattle.gcu_inputs.specs.IntentAsked.{held_answer as intent_held, intended_asked}
+use Rattle.gcu_inputs.specs.ModelFiles.{File, Text, bytes_asked, bytes_in, files_asked, list_limit, list_path, model_limit, models_asked, paths_asked, statements_of, text_answer, texts_in}
+use Rattle.gcu_inputs.specs.PatchAsked.{patch_answer, patch_in, patch_limit, target_shape}
+use Rattle.gcu_inputs.specs.PatchAsked as patches
+use Rattle.gcu_inputs.specs.RulesAsked.{ctx_asked, rules_answer, rules_limit, rules_path, settings_asked}
 use Rattle.gcu_requests.specs.FileAsked.{config_answer, document_answer, file_asked, file_limit}
-use Rattle.gcu_requests.specs.ModelFiles.{File, Text, bytes_asked, bytes_in, files_asked, list_limit, list_path, model_limit, models_asked, paths_asked, statements_of, text_answer, texts_in}
-use Rattle.gcu_requests.specs.PatchAsked.{patch_answer, patch_in, patch_limit, target, target_shape}
-use Rattle.gcu_requests.specs.PatchAsked as patches
 use Rattle.gcu_requests.specs.PlanAsked.{made_asked}
 use Rattle.gcu_requests.specs.PointAsked.{held_answer}
-use Rattle.gcu_requests.specs.RulesAsked.{ctx_asked, rules_answer, rules_limit, rules_path, settings_asked}
 use Rattle.gcu_engine.specs.Contents.{AreModelsIn, HoldFiles, Holds, HoldsConfig, HoldsIntent, IsContextIn, IsMade}
 
 -- ---- bytes

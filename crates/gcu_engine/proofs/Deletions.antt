@@ -8,13 +8,13 @@ use Rattle.checkpoints.specs.Names.{is_good_name}
 use Rattle.checkpoints.specs.Points.{Held, points}
 use Rattle.gcu_output.specs.declared.outcomes.Outcome.{Outcome}
 use Rattle.gcu_output.specs.declared.outcomes.Outcome.TheVariants.{BadName, DiskFault}
+use Rattle.gcu_inputs.specs.Asking.{Asking, a_settling, follows, settles_first, ◌>>>◌}
+use Rattle.gcu_inputs.specs.IntentAsked.{uninterrupted}
+use Rattle.gcu_inputs.specs.Preparing.{Finds, Found}
 use Rattle.gcu_requests.specs.Asked.{delete_asked, there_answer, there_asked}
-use Rattle.gcu_requests.specs.Asking.{Asking, a_settling, follows, settles_first, ◌>>>◌}
-use Rattle.gcu_requests.specs.IntentAsked.{uninterrupted}
-use Rattle.gcu_requests.specs.Preparing.{Finds, Found}
 use Rattle.gcu_requests.specs.Request as request
 use Rattle.gcu_requests.specs.Request.{Request}
-use Rattle.gcu_requests.proofs.Finding.{first_refused, then_found}
+use Rattle.gcu_inputs.proofs.Finding.{first_refused, then_found}
 use Rattle.gcu_engine.proofs.Writing.{FindsUnit, IsWriting}
 
 -- what deleting does to the files

@@ -5,15 +5,15 @@ use Rattle.host_core.specs.State.{State}
 use Rattle.move_core.specs.declared.moves.Move.{Move}
 use Rattle.gcu_output.specs.declared.outcomes.Outcome.{Outcome}
 use Rattle.gcu_output.specs.declared.outcomes.Outcome.TheVariants.{Memory, Unorderable, Budget}
-use Rattle.gcu_requests.specs.Asking.{Asking}
+use Rattle.gcu_inputs.specs.Asking.{Asking}
+use Rattle.gcu_inputs.specs.Preparing.{Finds, Found, Refuses}
 use Rattle.gcu_requests.specs.DemoAsked.{demo_asked, demo_planning_asked}
 use Rattle.gcu_requests.specs.ReadPlannings.{planning_of}
-use Rattle.gcu_requests.specs.Preparing.{Finds, Found, Refuses}
 use Rattle.gcu_requests.specs.Request as request
 use Rattle.gcu_requests.specs.Request.{Request}
 use Rattle.gcu_requests.specs.declared.planning.Planning as code
 use Rattle.gcu_engine.specs.PlanCommands.{IsSolved, SaysSteps}
-use Rattle.gcu_requests.proofs.Finding.{first_refused}
+use Rattle.gcu_inputs.proofs.Finding.{first_refused}
 use Rattle.gcu_engine.proofs.Answering.{refused_says}
 
 abbrev counting : ℕ → code.Planning → Request

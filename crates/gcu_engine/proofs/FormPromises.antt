@@ -10,9 +10,9 @@ use Rattle.move_core.specs.Contexts.{rulebook}
 use Rattle.move_core.specs.Plans.{IsReachable}
 use Rattle.move_core.specs.declared.contexts.Ctx.{Ctx}
 use Rattle.plan_options.specs.Targets.{Target}
-use Rattle.gcu_requests.specs.Form.{Form, form}
-use Rattle.gcu_requests.specs.Form as forms
-use Rattle.gcu_requests.specs.Tasks.{Task, reach, run_script}
+use Rattle.gcu_inputs.specs.Form.{Form, form}
+use Rattle.gcu_inputs.specs.Form as forms
+use Rattle.gcu_inputs.specs.Tasks.{Task, reach, run_script}
 use Rattle.gcu_engine.specs.Contents.{IsContextIn, IsMade}
 use Rattle.gcu_engine.specs.Headline.{AddsPoint, HasNoOrder, HasWholePoints, IsBefore, IsChangeCommand, IsLastOrNext, IsTaskCommand, RemovesPoint}
 use Rattle.gcu_engine.proofs.CommandWords.{IsFormOf, IsPlanForm, form_words, plan_form}

@@ -18,14 +18,14 @@ use Rattle.plan_options.specs.Targets.{Target, rolled_back}
 use Rattle.gcu_output.specs.Lines.{last_line}
 use Rattle.gcu_output.specs.declared.outcomes.Outcome.{Outcome}
 use Rattle.gcu_output.specs.declared.outcomes.Outcome.TheVariants.{Done, Memory, InputFault, DiskFault, PrintFault, ServiceFault, Unorderable, Budget}
+use Rattle.gcu_inputs.specs.Asking.{Asking}
+use Rattle.gcu_inputs.specs.Form.{Form, form}
+use Rattle.gcu_inputs.specs.Form as forms
+use Rattle.gcu_inputs.specs.Tasks.{Task, reach, run_script}
 use Rattle.gcu_requests.specs.Asked.{asked, form_asked, migrate_asked}
-use Rattle.gcu_requests.specs.Asking.{Asking}
-use Rattle.gcu_requests.specs.Form.{Form, form}
-use Rattle.gcu_requests.specs.Form as forms
 use Rattle.gcu_requests.specs.OneAnswer.{AskedIsOne, HasOneAnswer}
 use Rattle.gcu_requests.specs.Request as request
 use Rattle.gcu_requests.specs.Request.{Request, Work, ctx_of, operated, planned, start_of}
-use Rattle.gcu_requests.specs.Tasks.{Task, reach, run_script}
 use Rattle.gcu_requests.specs.WorkAsked.{change_asked}
 use Rattle.gcu_engine.specs.Answers.{Answers, IsDoneOutput, IsRefusal, IsUntouched, Leaves, LeavesDone, Prints, Says}
 use Rattle.gcu_engine.specs.Changing.{IsChangeFor, IsChanged, IsLastLine, acknowledged, begun}

@@ -9,11 +9,11 @@ use Rattle.host_core.proofs.Runs as runs
 use Rattle.checkpoints.specs.Migrations.{IsDue, NewFile}
 use Rattle.gcu_output.specs.declared.outcomes.Outcome.{Outcome}
 use Rattle.gcu_output.specs.declared.outcomes.Outcome.TheVariants.{Done, Usage, InputFault, DiskFault, PrintFault, ServiceFault, Unorderable, Budget}
+use Rattle.gcu_inputs.specs.Asking.{settles_first}
+use Rattle.gcu_inputs.specs.Preparing.{Finds, Found, Refuses}
 use Rattle.gcu_requests.specs.Asked.{migrate_asked, migration_asked, old_asked}
-use Rattle.gcu_requests.specs.Asking.{settles_first}
-use Rattle.gcu_requests.specs.Preparing.{Finds, Found, Refuses}
 use Rattle.gcu_requests.specs.Request.{Request, migrate_checkpoints}
-use Rattle.gcu_requests.proofs.Finding.{then_found}
+use Rattle.gcu_inputs.proofs.Finding.{then_found}
 use Rattle.gcu_engine.specs.Answers.{Leaves, Prints, Says}
 use Rattle.gcu_engine.specs.Commands.{AnswersTo, IsReady, LeftTo, LeftToMigration}
 use Rattle.gcu_engine.specs.Migrating.{AreTold, LeftMigrating}

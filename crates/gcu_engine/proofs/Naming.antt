@@ -10,16 +10,16 @@ use Rattle.plan_options.specs.Targets.{Target, patched, replaced, resumed, rolle
 use Rattle.gcu_output.specs.Lines.{last_line}
 use Rattle.gcu_output.specs.declared.outcomes.Outcome.{Outcome}
 use Rattle.gcu_output.specs.declared.outcomes.Outcome.TheVariants.{Done, Memory, InputFault, DiskFault, PrintFault, ServiceFault, Unorderable, Budget, BadName}
-use Rattle.gcu_requests.specs.Asking.{Asking, Source, follows}
+use Rattle.gcu_inputs.specs.Asking.{Asking, Source, follows}
+use Rattle.gcu_inputs.specs.Preparing.{Found, Refuses, RefusesAlways, refusal}
+use Rattle.gcu_inputs.specs.Tasks.{Task, reach, run_script}
 use Rattle.gcu_requests.specs.PlanAsked.{target_answer}
-use Rattle.gcu_requests.specs.Preparing.{Found, Refuses, RefusesAlways, refusal}
 use Rattle.gcu_requests.specs.Request.{Request}
-use Rattle.gcu_requests.specs.Tasks.{Task, reach, run_script}
 use Rattle.gcu_requests.specs.WorkAsked.{change_asked, settled_asked, task_answer}
 use Rattle.gcu_engine.specs.Answers.{Complete, IsStopped, IsUntouched, Prints, Says}
 use Rattle.gcu_engine.specs.Commands.{AnswersTo, CompleteTo}
 use Rattle.gcu_engine.specs.Doing.{LeftToChange, LeftToEarly}
-use Rattle.gcu_requests.proofs.Finding.{first_refused, found_always}
+use Rattle.gcu_inputs.proofs.Finding.{first_refused, found_always}
 use Rattle.gcu_engine.proofs.Answering.{refused_says}
 
 -- ---- names

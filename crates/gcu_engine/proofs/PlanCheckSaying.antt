@@ -5,8 +5,8 @@ use Rattle.host_core.specs.State.{State}
 use Rattle.gcu_output.specs.Lines.{last_line}
 use Rattle.gcu_output.specs.declared.outcomes.Outcome.{Outcome}
 use Rattle.gcu_output.specs.declared.outcomes.Outcome.TheVariants.{Done}
+use Rattle.gcu_inputs.specs.Preparing.{Finds, Refuses}
 use Rattle.gcu_requests.specs.PlanCheckAsked.{check_plan_asked}
-use Rattle.gcu_requests.specs.Preparing.{Finds, Refuses}
 use Rattle.gcu_requests.specs.Request as request
 use Rattle.gcu_engine.specs.Answers.{Says}
 use Rattle.gcu_engine.specs.Summary.{yes_line}

@@ -10,11 +10,11 @@ use Rattle.change_apply.specs.declared.ready.Restart.{Restart}
 use Rattle.gcu_output.specs.Lines.{last_line}
 use Rattle.gcu_output.specs.declared.outcomes.Outcome.{Outcome}
 use Rattle.gcu_output.specs.declared.outcomes.Outcome.TheVariants.{Done, Memory, InputFault, DiskFault, PrintFault, ServiceFault, Unorderable, Budget, Usage as usage}
+use Rattle.gcu_inputs.specs.Asking.{Asking}
+use Rattle.gcu_inputs.specs.Tasks.{Task}
 use Rattle.gcu_requests.specs.Asked.{form_asked}
-use Rattle.gcu_requests.specs.Asking.{Asking}
 use Rattle.gcu_requests.specs.Request as request
 use Rattle.gcu_requests.specs.Request.{Request, Work}
-use Rattle.gcu_requests.specs.Tasks.{Task}
 use Rattle.gcu_requests.specs.WorkAsked.{change_asked, dry_run_asked}
 use Rattle.gcu_engine.specs.Answers.{IsDoneOutput, IsUntouched, LeavesDone, LeavesStopped, Prints, Says}
 use Rattle.gcu_engine.specs.Changing.{IsBegun, IsChangeFor, IsLastLine, begun}

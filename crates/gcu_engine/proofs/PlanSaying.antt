@@ -8,18 +8,18 @@ use Rattle.move_core.specs.declared.moves.Move.{Move}
 use Rattle.plan_options.specs.Targets.{Target}
 use Rattle.gcu_output.specs.declared.outcomes.Outcome.{Outcome}
 use Rattle.gcu_output.specs.declared.outcomes.Outcome.TheVariants.{Done, Memory, Usage, InputFault, DiskFault, PrintFault, ServiceFault, Unorderable, Budget}
-use Rattle.gcu_requests.specs.Asking.{Asking, follows}
+use Rattle.gcu_inputs.specs.Asking.{Asking, follows}
+use Rattle.gcu_inputs.specs.Preparing.{Finds, Refuses, RefusesAlways, refusal}
+use Rattle.gcu_inputs.specs.Tasks.{reach}
 use Rattle.gcu_requests.specs.PlanAsked.{planning_asked, target_answer}
 use Rattle.gcu_requests.specs.ReadPlannings.{planning_of}
-use Rattle.gcu_requests.specs.Preparing.{Finds, Refuses, RefusesAlways, refusal}
 use Rattle.gcu_requests.specs.Request as request
 use Rattle.gcu_requests.specs.Request.{Request, Work, planned}
-use Rattle.gcu_requests.specs.Tasks.{reach}
 use Rattle.gcu_requests.specs.WorkAsked.{dry_run_asked, plan_asked, task_answer, work_asked}
 use Rattle.gcu_requests.specs.declared.planning.Planning as code
 use Rattle.gcu_engine.specs.Answers.{HasCause}
 use Rattle.gcu_engine.specs.PlanCommands.{IsSolved, RefusesOrEnds, SaysPlan}
-use Rattle.gcu_requests.proofs.Finding.{first_refused, found_always, then_found}
+use Rattle.gcu_inputs.proofs.Finding.{first_refused, found_always, then_found}
 use Rattle.gcu_engine.proofs.Answering.{refused_says}
 
 -- the work that it is, and the request for it

@@ -18,15 +18,15 @@ use Rattle.gcu_output.specs.Lines.{last_line}
 use Rattle.gcu_output.specs.Printing.{IsSaid, LeftInText}
 use Rattle.gcu_output.specs.declared.outcomes.Outcome.{Outcome}
 use Rattle.gcu_output.specs.declared.outcomes.Outcome.TheVariants.{Memory, InputFault, DiskFault, Unorderable, Budget}
-use Rattle.gcu_requests.specs.Asking.{Asking}
-use Rattle.gcu_requests.specs.IntentAsked.{gate_asked, uninterrupted}
+use Rattle.gcu_inputs.specs.Asking.{Asking}
+use Rattle.gcu_inputs.specs.IntentAsked.{gate_asked, uninterrupted}
+use Rattle.gcu_inputs.specs.Preparing.{Finds, Found, Refuses}
+use Rattle.gcu_inputs.specs.Tasks.{Task, reach, run_script}
 use Rattle.gcu_requests.specs.PlanAsked.{planning_asked}
 use Rattle.gcu_requests.specs.ReadPlannings.{planning_of}
-use Rattle.gcu_requests.specs.Preparing.{Finds, Found, Refuses}
 use Rattle.gcu_requests.specs.ReadScripts.{operating_of}
 use Rattle.gcu_requests.specs.Request.{Operating, Planning, Request, Work, operated, planned}
 use Rattle.gcu_requests.specs.SessionsAsked.{operating_asked}
-use Rattle.gcu_requests.specs.Tasks.{Task, reach, run_script}
 use Rattle.gcu_requests.specs.WorkAsked.{settled_asked, work_asked}
 use Rattle.gcu_requests.specs.declared.session_preparing.Operating as scripts
 use Rattle.gcu_requests.specs.declared.planning.Planning as code
@@ -38,7 +38,7 @@ use Rattle.gcu_engine.specs.PlanCommands.{IsSolved, RefusesOrEnds}
 use Rattle.gcu_engine.specs.Plannings.{IsPlanFor}
 use Rattle.gcu_engine.specs.declared.change.ReadyChange.{ReadyChange}
 use Rattle.gcu_output.proofs.Elapsing.{elapses_both}
-use Rattle.gcu_requests.proofs.Finding.{first_refused}
+use Rattle.gcu_inputs.proofs.Finding.{first_refused}
 use Rattle.gcu_engine.proofs.Abandoning.{stopped_some}
 use Rattle.gcu_engine.proofs.Causes.{rose_from}
 use Rattle.gcu_engine.proofs.Changes.{KeepsPoints, change_for, commits_for, doing_left, early_changes, early_left, missed_before, missed_says, part_left, ready_before, refused_missed, settled_early, solved_missed}

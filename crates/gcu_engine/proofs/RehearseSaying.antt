@@ -4,16 +4,16 @@ use Rattle.host_core.specs.Counts.{Counts}
 use Rattle.host_core.specs.State.{State}
 use Rattle.gcu_output.specs.declared.outcomes.Outcome.{Outcome}
 use Rattle.gcu_output.specs.declared.outcomes.Outcome.TheVariants.{Memory}
-use Rattle.gcu_requests.specs.Preparing.{Finds, Found, Refuses}
+use Rattle.gcu_inputs.specs.Preparing.{Finds, Found, Refuses}
+use Rattle.gcu_inputs.specs.Asking.{Asking, follows}
+use Rattle.gcu_inputs.specs.Tasks.{run_script}
 use Rattle.gcu_requests.specs.ReadScripts.{operating_of}
 use Rattle.gcu_requests.specs.Request as request
-use Rattle.gcu_requests.specs.Asking.{Asking, follows}
 use Rattle.gcu_requests.specs.Request.{Request, Work, operated}
 use Rattle.gcu_requests.specs.SessionsAsked.{operating_asked}
-use Rattle.gcu_requests.specs.Tasks.{run_script}
 use Rattle.gcu_requests.specs.WorkAsked.{dry_run_asked, plan_asked, task_answer, work_asked}
 use Rattle.gcu_requests.specs.declared.session_preparing.Operating as code
-use Rattle.gcu_requests.proofs.Finding.{first_refused, then_found}
+use Rattle.gcu_inputs.proofs.Finding.{first_refused, then_found}
 use Rattle.gcu_engine.specs.Rehearsing.{IsRehearsed, SaysText}
 use Rattle.gcu_engine.proofs.Answering.{refused_says}
 

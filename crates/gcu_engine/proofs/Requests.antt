@@ -16,16 +16,16 @@ use Rattle.plan_options.specs.Options.{default_budget}
 use Rattle.gcu_output.specs.declared.outcomes.Outcome.{Outcome}
 use Rattle.gcu_output.specs.declared.outcomes.Outcome.TheVariants.{BadName}
 use Rattle.gcu_output.specs.declared.statuses.Intent.{Intent}
+use Rattle.gcu_inputs.specs.Form.{Form}
+use Rattle.gcu_inputs.specs.Form as forms
+use Rattle.gcu_inputs.specs.Tasks.{Task}
 use Rattle.gcu_requests.specs.Asked.{absent_answer, delete_asked, form_asked, list_asked, migrate_asked, preview_asked, save_asked, there_answer}
 use Rattle.gcu_requests.specs.Checking.{check_asked}
 use Rattle.gcu_requests.specs.DemoAsked.{demo_asked, generated_asked}
-use Rattle.gcu_requests.specs.IntentAsked.{abandon_asked, intent_of, status_asked}
+use Rattle.gcu_requests.specs.InterruptionAsked.{abandon_asked, intent_of, status_asked}
 use Rattle.gcu_requests.specs.PlanCheckAsked.{check_plan_asked}
-use Rattle.gcu_requests.specs.Form.{Form, form}
-use Rattle.gcu_requests.specs.Form as forms
 use Rattle.gcu_requests.specs.Request as request
 use Rattle.gcu_requests.specs.Request.{Planning, Request, Work}
-use Rattle.gcu_requests.specs.Tasks.{Task}
 use Rattle.gcu_requests.specs.WorkAsked.{change_asked, dry_run_asked}
 use Rattle.gcu_engine.specs.Contents.{IsContextIn}
 use Rattle.gcu_engine.proofs.Naming.{named_is}

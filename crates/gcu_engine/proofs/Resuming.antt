@@ -6,15 +6,15 @@ use Rattle.move_core.specs.Plans.{conf}
 use Rattle.plan_options.specs.Targets.{resumed}
 use Rattle.gcu_output.specs.declared.outcomes.Outcome.{Outcome}
 use Rattle.gcu_output.specs.declared.outcomes.Outcome.TheVariants.{Unorderable, Budget}
+use Rattle.gcu_inputs.specs.Form.{Form, form}
+use Rattle.gcu_inputs.specs.IntentAsked.{held_answer, interrupted}
+use Rattle.gcu_inputs.specs.StoredAsked.{stored_answer}
+use Rattle.gcu_inputs.specs.Tasks.{reach}
 use Rattle.gcu_requests.specs.Asked.{asked, form_asked}
-use Rattle.gcu_requests.specs.Form.{Form, form}
-use Rattle.gcu_requests.specs.IntentAsked.{held_answer, interrupted}
 use Rattle.gcu_requests.specs.OneAnswer.{AskedIsOne, HasOneAnswer}
 use Rattle.gcu_requests.specs.PlanAsked.{goal_asked, planning_asked, start_asked}
 use Rattle.gcu_requests.specs.Request as request
 use Rattle.gcu_requests.specs.Request.{Planning, Request, planned}
-use Rattle.gcu_requests.specs.StoredAsked.{stored_answer}
-use Rattle.gcu_requests.specs.Tasks.{reach}
 use Rattle.gcu_requests.specs.WorkAsked.{change_asked}
 use Rattle.gcu_engine.specs.Answers.{Complete, Finishes}
 use Rattle.gcu_engine.specs.Plannings.{HasNone}

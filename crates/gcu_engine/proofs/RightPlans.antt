@@ -16,11 +16,11 @@ use Rattle.move_core.specs.declared.contexts.Ctx.{Ctx}
 use Rattle.move_core.specs.declared.moves.Move.{Move}
 use Rattle.plan_options.specs.Targets.{Target}
 use Rattle.gcu_output.specs.declared.outcomes.Outcome.{Outcome}
+use Rattle.gcu_inputs.specs.StoredAsked.{stored_answer}
+use Rattle.gcu_inputs.specs.Tasks.{Task, reach, run_script}
 use Rattle.gcu_requests.specs.PlanAsked.{goal_asked, planning_asked, start_asked}
 use Rattle.gcu_requests.specs.Request.{Operating, Planning, Work, ctx_of, operated, planned, start_of}
 use Rattle.gcu_requests.specs.SessionsAsked.{operating_asked}
-use Rattle.gcu_requests.specs.StoredAsked.{stored_answer}
-use Rattle.gcu_requests.specs.Tasks.{Task, reach, run_script}
 use Rattle.gcu_requests.specs.WorkAsked.{work_asked}
 use Rattle.operators.specs.Replies.{commits_line}
 use Rattle.operators.specs.Runs.{IsOperated, reply_lines}

@@ -11,16 +11,16 @@ use Rattle.checkpoints.specs.Numbers.{is_full}
 use Rattle.checkpoints.specs.Points.{Held, points}
 use Rattle.gcu_output.specs.declared.outcomes.Outcome.{Outcome}
 use Rattle.gcu_output.specs.declared.outcomes.Outcome.TheVariants.{BadName, DiskFault}
+use Rattle.gcu_inputs.specs.Asking.{Asking, a_settling, follows, follows_by, settles_first, ◌>>>◌}
+use Rattle.gcu_inputs.specs.IntentAsked.{uninterrupted}
+use Rattle.gcu_inputs.specs.ModelFiles.{AreModels, File, bytes_asked, files_asked, model_limit, models_asked, paths_asked, texts_in}
+use Rattle.gcu_inputs.specs.Preparing.{Finds, Found}
+use Rattle.gcu_inputs.specs.StoredAsked.{stored_asked}
 use Rattle.gcu_requests.specs.Asked.{absent_answer, absent_asked, save_asked}
-use Rattle.gcu_requests.specs.Asking.{Asking, a_settling, follows, follows_by, settles_first, ◌>>>◌}
 use Rattle.gcu_requests.specs.Checking.{IsJudged, check_asked}
-use Rattle.gcu_requests.specs.IntentAsked.{uninterrupted}
-use Rattle.gcu_requests.specs.ModelFiles.{AreModels, File, bytes_asked, files_asked, model_limit, models_asked, paths_asked, texts_in}
-use Rattle.gcu_requests.specs.Preparing.{Finds, Found}
 use Rattle.gcu_requests.specs.Request as request
 use Rattle.gcu_requests.specs.Request.{Request}
-use Rattle.gcu_requests.specs.StoredAsked.{stored_asked}
-use Rattle.gcu_requests.proofs.Finding.{first_refused, then_found}
+use Rattle.gcu_inputs.proofs.Finding.{first_refused, then_found}
 use Rattle.gcu_engine.proofs.Writing.{FindsUnit, IsWriting}
 
 -- what saving does to the files

@@ -8,13 +8,13 @@ use Rattle.scope_changes.specs.Works.{ScopeWork}
 use Rattle.gcu_output.specs.Lines.{last_line}
 use Rattle.gcu_output.specs.declared.outcomes.Outcome.{Outcome}
 use Rattle.gcu_output.specs.declared.outcomes.Outcome.TheVariants.{Done, DiskFault, PrintFault, ServiceFault}
-use Rattle.gcu_requests.specs.Asking.{of_each}
-use Rattle.gcu_requests.specs.Preparing.{Finds, Found, Refuses}
+use Rattle.gcu_inputs.specs.Asking.{of_each}
+use Rattle.gcu_inputs.specs.Preparing.{Finds, Found, Refuses}
 use Rattle.gcu_requests.specs.Request.{plan_scopes}
 use Rattle.gcu_requests.specs.ScopesAsked.{ScopePlanning, scopes_asked}
 use Rattle.gcu_requests.specs.ScopesPlannings.{IsStill, plans_of}
 use Rattle.gcu_requests.specs.declared.scopes_planning.ScopesPlanning.{ScopesPlanning}
-use Rattle.gcu_requests.proofs.Finding.{first_refused}
+use Rattle.gcu_inputs.proofs.Finding.{first_refused}
 use Rattle.gcu_engine.specs.Answers.{Complete, HasCause, IsRefusal, Says}
 use Rattle.gcu_engine.specs.Commands.{AnswersTo, CompleteTo, LeftTo}
 use Rattle.gcu_engine.specs.ScopeCrashes.{LeftDoingScopes, LeftOfScopes}

@@ -10,8 +10,8 @@ use Rattle.scopes.specs.Views.{seen, seen_files}
 use Rattle.scopes.specs.declared.scope.Scope.{Scope}
 use Rattle.scope_changes.specs.Works.{ScopeWork}
 use Rattle.gcu_output.specs.declared.outcomes.Outcome.{Outcome}
-use Rattle.gcu_requests.specs.Asking.{of_each}
-use Rattle.gcu_requests.specs.IntentAsked.{uninterrupted, uninterrupted_answer}
+use Rattle.gcu_inputs.specs.Asking.{of_each}
+use Rattle.gcu_inputs.specs.IntentAsked.{uninterrupted, uninterrupted_answer}
 use Rattle.gcu_requests.specs.ScopesAsked.{ScopePlanning, part_asked, scopes_asked}
 use Rattle.gcu_engine.specs.ScopeEndings.{AreClosed}
 use Rattle.gcu_engine.specs.ScopeWorks.{AreWorks, AreWorksFor}

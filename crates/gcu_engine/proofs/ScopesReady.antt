@@ -1,5 +1,5 @@
 -- How the plans of scopes make the changes that are asked.
-use Rattle.std.proofs.Common.{◌≡◌, ◌<◌, inl, inr, ℕ, zero, suc, ◌+◌, List, [], ◌∷◌, ◌++◌, length, map, take, All, refl, sym, ap, ◌∙◌, subst, arith, append-nil, Option, Some, None, Result, Ok, Err, IfSome, get_or}
+use Rattle.std.proofs.Common.{◌≡◌, ◌<◌, inl, inr, ℕ, zero, suc, ◌+◌, List, [], ◌∷◌, ◌++◌, length, map, take, All, refl, sym, ap, ◌∙◌, subst, append-nil, Option, Some, None, Result, Ok, Err, IfSome, get_or}
 use Rattle.std.specs.Prelude.{flat_map, slice_get}
 use Rattle.std.proofs.lemmas.List.{length-append, length-map, map-append, take_more}
 use Rattle.std.proofs.lemmas.List.Concat.{flat_map-append}
@@ -9,14 +9,14 @@ use Rattle.conf_store.specs.Folds.{StandsFor}
 use Rattle.move_core.specs.Services.{services_of}
 use Rattle.move_core.specs.declared.contexts.Ctx.{Ctx}
 use Rattle.move_core.specs.declared.settings.Settings.{Settings}
-use Rattle.change_apply.specs.Change.{ArePositions, restarts_of, steps}
+use Rattle.change_apply.specs.Change.{ArePositions, restarts_of}
 use Rattle.change_apply.specs.declared.ready.Restart.{Restart}
 use Rattle.scopes.specs.Views.{seen_files}
 use Rattle.scope_changes.specs.Ends.{AreReadyFor}
 use Rattle.scope_changes.specs.Works.{ScopeWork, all_steps}
 use Rattle.gcu_output.specs.declared.outcomes.Outcome.{Outcome}
-use Rattle.gcu_requests.specs.Asking.{of_each}
-use Rattle.gcu_requests.specs.Preparing.{AreFound, Finds}
+use Rattle.gcu_inputs.specs.Asking.{of_each}
+use Rattle.gcu_inputs.specs.Preparing.{AreFound, Finds}
 use Rattle.gcu_requests.specs.Request.{ScopePlan}
 use Rattle.gcu_requests.specs.ScopesAsked.{ScopePlanning, scopes_asked}
 use Rattle.gcu_requests.specs.ScopesPlannings.{AreReady, IsReadyBetween, StandsInEach, plan_in, plans_of, scope_planning}

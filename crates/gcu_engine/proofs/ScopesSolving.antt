@@ -1,24 +1,23 @@
 -- How the plans of scopes make what a change of several scopes says.
-use Rattle.std.proofs.Common.{◌≡◌, ◌<◌, ◌≤◌, ◌⊎◌, inl, inr, ⊎_elim, ℕ, zero, suc, ◌+◌, List, [], ◌∷◌, ◌++◌, get_or, length, map, take, refl, sym, ap, ◌∙◌, subst, append_assoc, append-nil, arith, Option, Some, None, Result, Ok, Err, IfErr, IfSome}
+use Rattle.std.proofs.Common.{◌≡◌, ◌<◌, ◌⊎◌, inl, inr, ⊎_elim, ℕ, zero, suc, ◌+◌, List, [], ◌∷◌, ◌++◌, get_or, length, map, take, refl, sym, ap, ◌∙◌, subst, append_assoc, append-nil, arith, Option, Some, None, Result, Ok, Err, IfSome}
 use Rattle.std.proofs.lemmas.List.{map-append, take_more}
 use Rattle.host_core.specs.Counts.{Counts, NoneFell, PrintMayRise}
 use Rattle.host_core.specs.Crashes.{Elapses, Left, MayLeaveNow}
 use Rattle.host_core.specs.State.{State}
 use Rattle.move_core.specs.Operations.{plan_text}
 use Rattle.move_core.specs.declared.contexts.Ctx.{Ctx}
-use Rattle.scopes.specs.declared.scope.Scope.{Scope}
 use Rattle.gcu_output.specs.Lines.{last_line}
 use Rattle.gcu_output.specs.Printing.{LeftInText}
 use Rattle.gcu_output.specs.declared.outcomes.Outcome.{Outcome}
 use Rattle.gcu_output.specs.declared.outcomes.Outcome.TheVariants.{Done, Memory, Unorderable, Budget}
-use Rattle.gcu_requests.specs.Asking.{Asking, of_each}
-use Rattle.gcu_requests.specs.Preparing.{Finds, Found, Refuses, RefusesAlways}
+use Rattle.gcu_inputs.specs.Asking.{Asking, of_each}
+use Rattle.gcu_inputs.specs.Preparing.{Finds, Found, Refuses, RefusesAlways}
 use Rattle.gcu_requests.specs.Request.{Request, ScopePlan, plan_scopes}
 use Rattle.gcu_requests.specs.ScopesAsked.{scopes_asked}
 use Rattle.gcu_requests.specs.ScopesPlannings.{AreReady, IsReadyBetween, IsRefusalOf, IsStill, plan_in, plans_of, scope_planning}
 use Rattle.gcu_requests.specs.declared.scopes_planning.ScopeEnds.{ScopeEnds}
 use Rattle.gcu_requests.specs.declared.scopes_planning.ScopesPlanning.{ScopesPlanning}
-use Rattle.gcu_requests.proofs.Finding.{first_refused, then_found}
+use Rattle.gcu_inputs.proofs.Finding.{first_refused, then_found}
 use Rattle.gcu_engine.specs.Answers.{Says}
 use Rattle.gcu_engine.specs.Commands.{LeftTo}
 use Rattle.gcu_engine.specs.PlanCommands.{IsSolved, planning_between}

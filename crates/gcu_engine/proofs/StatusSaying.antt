@@ -6,9 +6,9 @@ use Rattle.gcu_output.specs.Lines.{last_line}
 use Rattle.gcu_output.specs.Statuses.{status_text}
 use Rattle.gcu_output.specs.declared.outcomes.Outcome.{Outcome}
 use Rattle.gcu_output.specs.declared.outcomes.Outcome.TheVariants.{Done}
-use Rattle.gcu_requests.specs.IntentAsked.{status_asked}
+use Rattle.gcu_inputs.specs.Preparing.{Finds, Refuses}
+use Rattle.gcu_requests.specs.InterruptionAsked.{status_asked}
 use Rattle.gcu_requests.specs.IntentView.{status_request}
-use Rattle.gcu_requests.specs.Preparing.{Finds, Refuses}
 use Rattle.gcu_requests.specs.declared.interruption.Status.{Status}
 use Rattle.gcu_engine.specs.Answers.{Says}
 use Rattle.gcu_engine.proofs.Answering.{refused_says}

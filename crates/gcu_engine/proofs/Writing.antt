@@ -17,8 +17,8 @@ use Rattle.gcu_output.specs.Printing.{IsFirst, IsTold, may_have_written, outcome
 use Rattle.gcu_output.specs.Lines.{last_line}
 use Rattle.gcu_output.specs.declared.outcomes.Outcome.{Outcome}
 use Rattle.gcu_output.specs.declared.outcomes.Outcome.TheVariants.{Done, Memory, Usage, InputFault, DiskFault, PrintFault, ServiceFault, Unorderable, Budget}
-use Rattle.gcu_requests.specs.Asking.{Asking, a_file, a_settling}
-use Rattle.gcu_requests.specs.Preparing.{FailsIn, Finds, Found, Refuses, StandsIn, refusal}
+use Rattle.gcu_inputs.specs.Asking.{Asking, a_file, a_settling}
+use Rattle.gcu_inputs.specs.Preparing.{FailsIn, Finds, Found, Refuses, StandsIn, refusal}
 use Rattle.gcu_requests.specs.Request.{Request}
 use Rattle.gcu_engine.specs.Answers.{HasCause, LeavesDone, LeavesStopped, Says, IsDoneOutput}
 use Rattle.gcu_engine.specs.Commands.{AnswersTo, IsReady, LeavesRefused, LeftTo}

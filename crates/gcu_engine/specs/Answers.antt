@@ -16,8 +16,8 @@ use Rattle.gcu_output.specs.Lines.{last_line, service_line}
 use Rattle.gcu_output.specs.Statuses.{status_text}
 use Rattle.gcu_output.specs.declared.outcomes.Outcome.{Outcome}
 use Rattle.gcu_output.specs.declared.outcomes.Outcome.TheVariants.{Done, Memory, Usage, InputFault, DiskFault, PrintFault, ServiceFault, Unorderable, Budget}
+use Rattle.gcu_inputs.specs.Asking.{Asking, an_input, a_file, a_settling}
 use Rattle.gcu_requests.specs.Asked.{asked}
-use Rattle.gcu_requests.specs.Asking.{Asking, an_input, a_file, a_settling}
 use Rattle.gcu_requests.specs.Request.{Request, Work, abandon, accept_plan, change, check, ctx_of, delete_checkpoint, demo, list_checkpoints, migrate_checkpoints, plan, plan_scopes, preview, save_checkpoint, status}
 use Rattle.gcu_engine.specs.Changing.{AreAcknowledged, IsChanged, IsCutShort, IsHalted, closed}
 use Rattle.gcu_engine.specs.Migrating.{AreTold, IsMigrated, IsMigrationStopped}

@@ -7,7 +7,7 @@ use Rattle.conf_store.specs.Changes.{Changes}
 use Rattle.gcu_output.specs.Lines.{last_line}
 use Rattle.gcu_output.specs.declared.outcomes.Outcome.{Outcome}
 use Rattle.gcu_output.specs.declared.outcomes.Outcome.TheVariants.{DiskFault}
-use Rattle.gcu_requests.specs.Asking.{Asking}
+use Rattle.gcu_inputs.specs.Asking.{Asking}
 use Rattle.gcu_requests.specs.Request.{Request}
 use Rattle.gcu_engine.specs.Answers.{Complete, Leaves, Says}
 use Rattle.gcu_engine.specs.Crashes.{LeftOf, LeftOfMigration}

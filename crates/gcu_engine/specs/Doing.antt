@@ -15,8 +15,8 @@ use Rattle.change_apply.specs.declared.errors.ApplyFault.TheVariants.{Print}
 use Rattle.plan_options.specs.Targets.{Target, resumed}
 use Rattle.gcu_output.specs.declared.outcomes.Outcome.{Outcome}
 use Rattle.gcu_output.specs.declared.outcomes.Outcome.TheVariants.{PrintFault, Unorderable, Budget}
-use Rattle.gcu_requests.specs.Asking.{Asking}
-use Rattle.gcu_requests.specs.Preparing.{FailsIn, StandsIn, refusal}
+use Rattle.gcu_inputs.specs.Asking.{Asking}
+use Rattle.gcu_inputs.specs.Preparing.{FailsIn, StandsIn, refusal}
 use Rattle.gcu_requests.specs.ReadScripts.{operating_of}
 use Rattle.gcu_requests.specs.Request.{Request, Work, operated}
 use Rattle.gcu_requests.specs.declared.session_preparing.Operating.{Operating}

@@ -10,8 +10,8 @@ use Rattle.move_core.specs.declared.moves.Move.{Move}
 use Rattle.gcu_output.specs.Lines.{last_line}
 use Rattle.gcu_output.specs.declared.outcomes.Outcome.{Outcome}
 use Rattle.gcu_output.specs.declared.outcomes.Outcome.TheVariants.{Done, Memory, Unorderable, Budget}
-use Rattle.gcu_requests.specs.Asking.{Asking}
-use Rattle.gcu_requests.specs.Preparing.{Refuses}
+use Rattle.gcu_inputs.specs.Asking.{Asking}
+use Rattle.gcu_inputs.specs.Preparing.{Refuses}
 use Rattle.gcu_requests.specs.Request.{Request}
 use Rattle.gcu_requests.specs.declared.planning.Planning.{Planning}
 use Rattle.gcu_requests.specs.ReadPlannings.{planning_of}

@@ -6,7 +6,7 @@ use Rattle.move_core.specs.declared.moves.Move.{Move}
 use Rattle.gcu_output.specs.Lines.{last_line}
 use Rattle.gcu_output.specs.declared.outcomes.Outcome.{Outcome}
 use Rattle.gcu_output.specs.declared.outcomes.Outcome.TheVariants.{Done}
-use Rattle.gcu_requests.specs.Asking.{Asking}
+use Rattle.gcu_inputs.specs.Asking.{Asking}
 use Rattle.gcu_requests.specs.ReadScripts.{operating_of}
 use Rattle.gcu_requests.specs.Request.{Request, operated}
 use Rattle.gcu_requests.specs.declared.session_preparing.Operating.{Operating}

@@ -11,9 +11,9 @@ use Rattle.goal_checks.specs.Targets.{HasNoEmptyTable}
 use Rattle.plan_options.specs.Targets.{resumed}
 use Rattle.gcu_output.specs.declared.outcomes.Outcome.{Outcome}
 use Rattle.gcu_output.specs.declared.outcomes.Outcome.TheVariants.{Done, Memory, Budget}
-use Rattle.gcu_requests.specs.Form.{change, form}
-use Rattle.gcu_requests.specs.RulesAsked.{ctx_asked}
-use Rattle.gcu_requests.specs.Tasks.{reach}
+use Rattle.gcu_inputs.specs.Form.{change, form}
+use Rattle.gcu_inputs.specs.RulesAsked.{ctx_asked}
+use Rattle.gcu_inputs.specs.Tasks.{reach}
 use Rattle.gcu_engine.specs.Contents.{HoldsIntent}
 
 -- the folder stands for a configuration of a plan, `intent` holds its goal, and the inputs are as when it was

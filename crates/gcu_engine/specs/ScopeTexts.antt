@@ -1,5 +1,5 @@
 -- What a change of several scopes prints, and its plans.
-use Rattle.std.specs.Prelude.{◌≡◌, ℕ, List, [], ◌∷◌, ◌++◌, codes, Result, Ok, Err}
+use Rattle.std.specs.Prelude.{ℕ, List, [], ◌∷◌, ◌++◌, codes, Result, Ok, Err}
 use Rattle.host_core.specs.State.{State}
 use Rattle.move_core.specs.Operations.{plan_text}
 use Rattle.move_core.specs.declared.moves.Move.{Move}
@@ -7,7 +7,7 @@ use Rattle.scopes.specs.Scopes.{scope_name}
 use Rattle.scopes.specs.declared.scope.Scope.{Scope}
 use Rattle.gcu_output.specs.Lines.{line_feed}
 use Rattle.gcu_output.specs.declared.outcomes.Outcome.{Outcome}
-use Rattle.gcu_requests.specs.Asking.{Asking, follows, follows_by, of_each, ◌>>>◌}
+use Rattle.gcu_inputs.specs.Asking.{Asking, follows, follows_by, of_each, ◌>>>◌}
 use Rattle.gcu_requests.specs.Request.{Planning, Request, ScopePlan, plan_scopes}
 use Rattle.gcu_requests.specs.ScopesAsked.{ScopePlanning, scopes_asked, within}
 use Rattle.gcu_engine.specs.Plannings.{HasNone, IsPlanFor}

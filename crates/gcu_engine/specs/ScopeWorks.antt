@@ -4,7 +4,7 @@ use Rattle.host_core.specs.State.{State}
 use Rattle.move_core.specs.Operations.{plan_text}
 use Rattle.scopes.specs.Views.{seen}
 use Rattle.scope_changes.specs.Works.{ScopeWork}
-use Rattle.gcu_requests.specs.Asking.{Asking, follows_by, ◌>>>◌}
+use Rattle.gcu_inputs.specs.Asking.{Asking, follows_by, ◌>>>◌}
 use Rattle.gcu_requests.specs.Request.{Request, ScopePlan, planned}
 use Rattle.gcu_requests.specs.ScopesAsked.{ScopePlanning, scopes_asked}
 use Rattle.gcu_engine.specs.Changing.{IsChangeFor}

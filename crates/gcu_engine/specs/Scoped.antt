@@ -7,11 +7,11 @@ use Rattle.host_core.specs.State.{State, settled, with_pending}
 use Rattle.scopes.specs.Views.{AreOthersSame, IsSeen, seen}
 use Rattle.scopes.specs.declared.scope.Scope.{Scope}
 use Rattle.gcu_output.specs.declared.outcomes.Outcome.{Outcome}
+use Rattle.gcu_inputs.specs.Asking.{Asking, a_file}
+use Rattle.gcu_inputs.specs.ScopeForm.{IsScoped}
+use Rattle.gcu_inputs.specs.ScopesForm.{ScopesForm, scopes_form}
 use Rattle.gcu_requests.specs.Asked.{asked}
-use Rattle.gcu_requests.specs.Asking.{Asking, a_file}
 use Rattle.gcu_requests.specs.Request.{Request}
-use Rattle.gcu_requests.specs.ScopeForm.{IsScoped}
-use Rattle.gcu_requests.specs.ScopesForm.{ScopesForm, scopes_form}
 use Rattle.gcu_engine.specs.Answers.{Answers, Complete}
 use Rattle.gcu_engine.specs.Commands.{AnswersTo, CompleteTo, LeftTo}
 use Rattle.gcu_engine.specs.Crashes.{LeftMeanwhile}

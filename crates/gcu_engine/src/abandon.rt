@@ -9,15 +9,15 @@ ghost use Rattle.conf_store.specs.Files.{intent_file};
 ghost use Rattle.change_apply.specs.Intents.{IsClosed, IsClosedOrNot};
 ghost use Rattle.gcu_output.specs.Printing.{outcome_of};
 ghost use Rattle.gcu_output.specs.declared.outcomes.Outcome.TheVariants.{DiskFault as disk_fault, Usage as usage};
-ghost use Rattle.gcu_requests.specs.IntentAsked.{abandon_asked};
-ghost use Rattle.gcu_requests.specs.Preparing.{Refuses};
+ghost use Rattle.gcu_inputs.specs.Preparing.{Refuses};
+ghost use Rattle.gcu_requests.specs.InterruptionAsked.{abandon_asked};
 ghost use Rattle.gcu_engine.specs.Answers.{HasCause};
 ghost use Rattle.gcu_engine.specs.Commands.{AnswersTo, CompleteTo, IsReady, LeavesRefused, LeftTo};
 
 use crate::Outcome;
 use change_apply::close;
+use gcu_inputs::test_interrupted;
 use gcu_output::tell;
-use gcu_requests::test_interrupted;
 use host_core::Host;
 use std::alloc::Global;
 

@@ -11,16 +11,16 @@ ghost use Rattle.checkpoints.specs.Names.{is_good_name as is_name};
 ghost use Rattle.checkpoints.specs.Points.{points};
 ghost use Rattle.gcu_output.specs.Printing.{outcome_of};
 ghost use Rattle.gcu_output.specs.declared.outcomes.Outcome.TheVariants.{Usage as usage};
+ghost use Rattle.gcu_inputs.specs.Preparing.{Finds, Refuses};
 ghost use Rattle.gcu_requests.specs.Asked.{delete_asked, there_asked};
-ghost use Rattle.gcu_requests.specs.Preparing.{Finds, Refuses};
 ghost use Rattle.gcu_requests.specs.Request.{delete_checkpoint as deletion_of};
 ghost use Rattle.gcu_engine.specs.Answers.{HasCause};
 ghost use Rattle.gcu_engine.specs.Commands.{AnswersTo, CompleteTo, IsReady, LeavesRefused, LeftTo};
 
 use crate::{Outcome, PointWhy};
 use checkpoints::{PointError, delete, is_good_name};
+use gcu_inputs::test_uninterrupted;
 use gcu_output::tell;
-use gcu_requests::test_uninterrupted;
 use host_core::{Host, Txt};
 use std::alloc::Global;
 

@@ -7,8 +7,8 @@ ghost use Rattle.checkpoints.specs.Answers.{numbered_view};
 ghost use Rattle.gcu_output.specs.Printing.{LeftInText, IsSaid};
 ghost use Rattle.gcu_output.specs.Lines.{last_line, line_feed};
 ghost use Rattle.gcu_output.specs.declared.outcomes.Outcome.TheVariants.{Done as done, Usage as usage};
+ghost use Rattle.gcu_inputs.specs.Preparing.{Finds, Refuses};
 ghost use Rattle.gcu_requests.specs.Asked.{list_asked, numbers_asked};
-ghost use Rattle.gcu_requests.specs.Preparing.{Finds, Refuses};
 ghost use Rattle.gcu_requests.specs.Request.{list_checkpoints as list_of};
 ghost use Rattle.gcu_engine.specs.Answers.{HasCause};
 ghost use Rattle.gcu_engine.specs.Commands.{AnswersTo, CompleteTo, LeftTo};
@@ -16,8 +16,8 @@ ghost use Rattle.gcu_engine.specs.PointLines.{named_number, point_lines};
 
 use crate::Outcome;
 use checkpoints::{Numbered, PointError, numbers};
+use gcu_inputs::test_uninterrupted;
 use gcu_output::{print, say, say_memory};
-use gcu_requests::test_uninterrupted;
 use host_core::{Host, Memory, Sequence};
 use std::alloc::{AllocError, Global};
 

@@ -4,7 +4,7 @@ ghost use Rattle.host_core.specs.Counts.{NoneFell};
 ghost use Rattle.host_core.specs.Crashes.{Elapses, MayLeaveNow};
 ghost use Rattle.host_core.specs.Names.{longest_plain_name};
 ghost use Rattle.plan_options.specs.Views.{target_view};
-ghost use Rattle.gcu_requests.specs.Tasks.{reach};
+ghost use Rattle.gcu_inputs.specs.Tasks.{reach};
 ghost use Rattle.gcu_requests.specs.WorkAsked.{dry_run_asked};
 ghost use Rattle.gcu_requests.specs.ReadPlannings.{IsReadyToSearch};
 ghost use Rattle.gcu_engine.specs.PlanCommands.{IsSolved, RefusesOrEnds, SaysPlan, planning_between};

@@ -4,7 +4,7 @@ ghost use Rattle.host_core.specs.Counts.{NoneFell};
 ghost use Rattle.host_core.specs.Crashes.{LeavesOnly};
 ghost use Rattle.host_core.specs.Names.{longest_plain_name};
 ghost use Rattle.gcu_output.specs.declared.outcomes.Outcome.TheVariants.{Usage as usage};
-ghost use Rattle.gcu_requests.specs.IntentAsked.{status_asked};
+ghost use Rattle.gcu_requests.specs.InterruptionAsked.{status_asked};
 ghost use Rattle.gcu_engine.specs.Answers.{HasCause};
 ghost use Rattle.gcu_engine.specs.Commands.{AnswersTo, CompleteTo, LeftTo};
 

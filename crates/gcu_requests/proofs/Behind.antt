@@ -1,5 +1,5 @@
 -- What is so of a host where a scope shows no change of it.
-use Rattle.std.proofs.Common.{◌≡◌, ◌≤◌, ◌⊎◌, inl, inr, ⊎_elim, ℕ, List, Option, Some, None, IfSome, option_map, refl, sym, ap, ◌∙◌, subst, arith}
+use Rattle.std.proofs.Common.{◌≡◌, ◌⊎◌, ⊎_elim, ℕ, List, Option, Some, None, IfSome, option_map, refl, sym, ap, ◌∙◌, subst}
 use Rattle.std.specs.FinMap.{get}
 use Rattle.std.specs.Option.{option_map_or}
 use Rattle.std.specs.Prelude.{is_some}
@@ -9,7 +9,7 @@ use Rattle.host_core.specs.State.{Files, Pending, State, dirty, listing, settled
 use Rattle.scopes.specs.Files.{file_name, plain_name}
 use Rattle.scopes.specs.Renaming.{named}
 use Rattle.scopes.specs.Seeing.{get-seen}
-use Rattle.scopes.specs.Views.{AreOthersSame, AreOthersSettled, IsSeen, KeepsOthers, seen, seen_files, seen_left, seen_pending}
+use Rattle.scopes.specs.Views.{AreOthersSame, AreOthersSettled, IsSeen, seen, seen_files, seen_left, seen_pending}
 use Rattle.scopes.specs.declared.scope.Scope.{Scope}
 
 module _ (scope : Scope) where

@@ -7,15 +7,15 @@ use Rattle.move_core.specs.declared.contexts.Ctx.{Ctx}
 use Rattle.plan_options.specs.Options.{default_budget}
 use Rattle.gcu_output.specs.declared.outcomes.Outcome.{Outcome}
 use Rattle.gcu_output.specs.declared.outcomes.Outcome.TheVariants.{CurrentInvalid}
-use Rattle.gcu_requests.specs.Asking.{follows_by}
+use Rattle.gcu_inputs.specs.Asking.{follows_by}
+use Rattle.gcu_inputs.specs.Preparing.{Finds, Found, IsRightBy}
+use Rattle.gcu_inputs.specs.RulesAsked.{ctx_asked}
 use Rattle.gcu_requests.specs.DemoAsked.{generating_asked, generated_asked}
 use Rattle.gcu_requests.specs.PlanAsked.{IsValidOr, judged_asked}
 use Rattle.gcu_requests.specs.ReadPlannings.{planning_of}
-use Rattle.gcu_requests.specs.Preparing.{Finds, Found, IsRightBy}
 use Rattle.gcu_requests.specs.Request as request
-use Rattle.gcu_requests.specs.RulesAsked.{ctx_asked}
 use Rattle.gcu_requests.specs.declared.planning.Planning as code
-use Rattle.gcu_requests.proofs.Finding.{first_refused, found_told, then_found}
+use Rattle.gcu_inputs.proofs.Finding.{first_refused, found_told, then_found}
 
 abbrev self : {X : Type 0} → X → X
 self x = x

@@ -1,11 +1,11 @@
 -- How what is found of each item makes what is found of all of them.
-use Rattle.std.proofs.Common.{◌≡◌, ◌<◌, ◌≤◌, inl, inr, ℕ, ◌+◌, List, [], ◌∷◌, ◌++◌, drop, get_or, length, map, take, refl, sym, ap, ◌∙◌, subst, append_assoc, Option, Some, None, Result, Ok, Err, IfSome}
+use Rattle.std.proofs.Common.{◌≡◌, ◌<◌, ◌≤◌, inr, ℕ, ◌+◌, List, [], ◌∷◌, ◌++◌, drop, get_or, length, map, take, refl, sym, ap, ◌∙◌, subst, append_assoc, Option, Some, None, Ok, Err, IfSome}
 use Rattle.std.proofs.lemmas.List.{map-append, take-append-drop, take_all, take_more}
 use Rattle.host_core.specs.State.{State}
 use Rattle.gcu_output.specs.declared.outcomes.Outcome.{Outcome}
-use Rattle.gcu_requests.specs.Asking.{Asking, of_each}
-use Rattle.gcu_requests.specs.Preparing.{AreFound, Finds, Found}
-use Rattle.gcu_requests.proofs.Finding.{first_refused, then_found}
+use Rattle.gcu_inputs.specs.Asking.{Asking, of_each}
+use Rattle.gcu_inputs.specs.Preparing.{AreFound, Finds, Found}
+use Rattle.gcu_inputs.proofs.Finding.{first_refused, then_found}
 
 module _ {X Y V : Type 0} (view : V → Y) (ask : X → Asking Y) where
   -- one more is found

@@ -1,22 +1,18 @@
 -- How what is found of the file of a change under way makes what a command finds behind it.
-use Rattle.std.proofs.Common.{◌≡◌, ℕ, Global, List, Option, Some, None, Result, Ok, Err, IfErr, IfSome, Vec, option_map, refl, sym, ap, subst}
+use Rattle.std.proofs.Common.{ℕ, Global, List, Option, Some, None, Result, Ok, Err, IfErr, Vec, option_map}
 use Rattle.host_core.specs.Answers.{Gives}
 use Rattle.host_core.specs.State.{State}
-use Rattle.conf_doc.specs.Document.{Document}
 use Rattle.conf_doc.specs.Trees.{document}
 use Rattle.conf_doc.specs.Configuration.{tree}
 use Rattle.conf_doc.specs.declared.trees.Tree.{Tree}
-use Rattle.conf_store.specs.Applied.{AreApplied}
 use Rattle.gcu_output.specs.declared.outcomes.Outcome.{Outcome}
+use Rattle.gcu_inputs.specs.Asking.{Asking, follows, ◌>>>◌}
+use Rattle.gcu_inputs.specs.IntentAsked.{intent_asked, uninterrupted}
+use Rattle.gcu_inputs.specs.Preparing.{Finds, RefusesAlways, refusal}
 use Rattle.gcu_requests.specs.Asked.{patching_asked}
-use Rattle.gcu_requests.specs.Asking.{Asking, follows, ◌>>>◌}
-use Rattle.gcu_requests.specs.IntentAsked.{intent_asked, intent_of, status_asked, uninterrupted}
-use Rattle.gcu_requests.specs.IntentView.{CountsIn, status_request}
-use Rattle.gcu_requests.specs.Preparing.{FailsIn, Finds, Found, RefusesAlways, refusal}
-use Rattle.gcu_requests.specs.StoredAsked.{stored_asked}
-use Rattle.gcu_requests.specs.Trees.{patched_document, preview_document, through}
-use Rattle.gcu_requests.specs.declared.interruption.Status.{Status}
-use Rattle.gcu_requests.proofs.Finding.{fails_first, first_refused, found_always, found_through, stands_first, then_found}
+use Rattle.gcu_requests.specs.Trees.{patched_document, preview_document}
+use Rattle.gcu_inputs.proofs.Finding.{first_refused, found_always, then_found}
+use Rattle.gcu_requests.proofs.TreeFinding.{found_through}
 
 abbrev self : {X : Type 0} → X → X
 self x = x

@@ -1,12 +1,9 @@
 pub mod Behind
 pub mod ValidityFinding
-mod Choices
-pub mod Finding
 mod DemoFinding
 pub mod EachFinding
 mod FirstBreaches
 pub mod IntentFinding
-mod ModelTexts
 mod OneAnswer
 mod OnePlanAnswer
 mod PlanCheckFinding
@@ -16,4 +13,4 @@ mod ScopesInOrder
 mod ScopesPreparing
 pub mod ViewsEnded
 mod SessionFinding
-mod Words
+pub mod TreeFinding

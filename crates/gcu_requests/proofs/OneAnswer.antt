@@ -20,25 +20,26 @@ use Rattle.plan_texts.specs.PlanTexts.{most_bytes}
 use Rattle.session_scripts.specs.declared.script_lines.ScriptLine.{ScriptLine}
 use Rattle.gcu_output.specs.declared.outcomes.Outcome.{Outcome}
 use Rattle.gcu_output.specs.declared.outcomes.Outcome.TheVariants.{BadModels, CurrentInvalid, TargetInvalid, NoModel, EmptyTable}
+use Rattle.gcu_inputs.specs.Asking.{Asking, IsRefused, Source, asks, follows, follows_by, settles_first, ◌>>>◌}
+use Rattle.gcu_inputs.specs.Form.{Form, form}
+use Rattle.gcu_inputs.specs.Form as forms
+use Rattle.gcu_inputs.specs.IntentAsked.{gate_asked, intent_asked, interrupted, uninterrupted}
+use Rattle.gcu_inputs.specs.ModelFiles.{AreModels, File, IsModelRefusal, Text, bytes_asked, files_asked, list_limit, list_path, model_limit, models_asked, paths_asked, statements_of, texts_asked}
+use Rattle.gcu_inputs.specs.PatchAsked.{patch_asked}
+use Rattle.gcu_inputs.specs.RulesAsked.{ctx_asked, rules_limit, rules_path, settings_asked}
+use Rattle.gcu_inputs.specs.StoredAsked.{stored_asked}
+use Rattle.gcu_inputs.specs.Tasks.{Task, reach, run_script}
 use Rattle.gcu_requests.specs.Asked.{delete_asked, form_asked, list_asked, migrate_asked, preview_asked, save_asked, target_asked}
-use Rattle.gcu_requests.specs.Asking.{Asking, IsRefused, Source, asks, follows, follows_by, settles_first, ◌>>>◌}
 use Rattle.gcu_requests.specs.Checking.{IsJudged, check_asked, judging_asked}
 use Rattle.gcu_requests.specs.DemoAsked.{demo_asked, demo_planning_asked, generated_asked}
 use Rattle.gcu_requests.specs.FileAsked.{file_limit}
-use Rattle.gcu_requests.specs.Form.{Form, form}
-use Rattle.gcu_requests.specs.Form as forms
-use Rattle.gcu_requests.specs.IntentAsked.{abandon_asked, gate_asked, intent_asked, interrupted, status_asked, uninterrupted}
-use Rattle.gcu_requests.specs.ModelFiles.{AreModels, File, IsModelRefusal, Text, bytes_asked, files_asked, list_limit, list_path, model_limit, models_asked, paths_asked, statements_of, texts_asked}
+use Rattle.gcu_requests.specs.InterruptionAsked.{abandon_asked, status_asked}
 use Rattle.gcu_requests.specs.OneAnswer.{AskedIsOne, HasOneAnswer}
-use Rattle.gcu_requests.specs.PatchAsked.{patch_asked}
 use Rattle.gcu_requests.specs.PlanAsked.{HasKeys, IsElsewhereAs, IsValidOr, goal_asked, judged_asked, made_asked, needs_asked, planning_asked, start_asked}
 use Rattle.gcu_requests.specs.PlanCheckAsked.{check_plan_asked, moves_asked}
 use Rattle.gcu_requests.specs.PointAsked.{name_answer}
 use Rattle.gcu_requests.specs.Request.{Patched, Request}
-use Rattle.gcu_requests.specs.RulesAsked.{ctx_asked, rules_limit, rules_path, settings_asked}
 use Rattle.gcu_requests.specs.SessionsAsked.{file_of, line_asked, patch_at, patches_asked, operating_asked, script_asked, script_limit, unread_asked}
-use Rattle.gcu_requests.specs.StoredAsked.{stored_asked}
-use Rattle.gcu_requests.specs.Tasks.{Task, reach, run_script}
 use Rattle.gcu_requests.specs.WorkAsked.{change_asked, dry_run_asked, task_answer, work_asked}
 use Rattle.gcu_requests.proofs.FirstBreaches.{invalid_one}
 use Rattle.gcu_requests.proofs.OnePlanAnswer.{PlanLaws, accepted_same, plan_same}

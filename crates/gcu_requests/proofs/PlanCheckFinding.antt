@@ -1,5 +1,5 @@
 -- How what is found for the check of a plan makes what it says.
-use Rattle.std.proofs.Common.{◌≡◌, ◌≤◌, ◌<◌, ℕ, suc, List, [], ◌∷◌, ◌++◌, length, inl, inr, refl, sym, ap, ◌∙◌, subst, arith, length-append, Option, Some, None, Result, Ok, Err, IfErr}
+use Rattle.std.proofs.Common.{◌≡◌, ◌≤◌, ◌<◌, ℕ, suc, List, [], ◌∷◌, ◌++◌, length, inl, inr, ap, arith, length-append, Option, Some, None, Result, Ok, Err, IfErr}
 use Rattle.host_core.specs.State.{State}
 use Rattle.conf_doc.specs.Texts.{compact, line_feed}
 use Rattle.patch_core.specs.Writing.{operation_document}
@@ -10,14 +10,14 @@ use Rattle.plan_options.specs.Options.{default_budget}
 use Rattle.plan_options.specs.Targets.{patched}
 use Rattle.plan_texts.specs.PlanTexts.{IsPlanText, done_line, most_bytes}
 use Rattle.gcu_output.specs.declared.outcomes.Outcome.{Outcome}
-use Rattle.gcu_requests.specs.ModelFiles.{bytes_asked}
+use Rattle.gcu_inputs.specs.ModelFiles.{bytes_asked}
+use Rattle.gcu_inputs.specs.Preparing.{Finds, IsRightBy, RefusesAlways}
 use Rattle.gcu_requests.specs.PlanAsked.{planning_asked}
 use Rattle.gcu_requests.specs.PlanCheckAsked.{IsAccepted, IsPlanIn, check_plan_asked, moves_asked}
-use Rattle.gcu_requests.specs.Preparing.{Finds, IsRightBy, RefusesAlways}
 use Rattle.gcu_requests.specs.ReadPlannings.{planning_of}
 use Rattle.gcu_requests.specs.Request.{accept_plan}
 use Rattle.gcu_requests.specs.declared.planning.Planning as code
-use Rattle.gcu_requests.proofs.Finding.{first_refused, found_told, then_found}
+use Rattle.gcu_inputs.proofs.Finding.{first_refused, found_told, then_found}
 
 abbrev self : {X : Type 0} → X → X
 self x = x

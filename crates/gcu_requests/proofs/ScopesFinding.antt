@@ -1,5 +1,5 @@
 -- What the plans of several scopes need, found scope after scope.
-use Rattle.std.proofs.Common.{◌≡◌, inl, inr, ℕ, List, [], ◌∷◌, ◌++◌, refl, sym, subst, Option, Some, None, Result, Ok, Err, IfErr, IfOk, IfSome, option_map}
+use Rattle.std.proofs.Common.{◌≡◌, inl, inr, ℕ, List, [], ◌∷◌, ◌++◌, refl, sym, subst, Option, Some, None, Result, Ok, Err, IfOk, IfSome, option_map}
 use Rattle.std.specs.List.{AllPass}
 use Rattle.host_core.specs.Answers.{Gives}
 use Rattle.host_core.specs.Counts.{Counts}
@@ -17,17 +17,16 @@ use Rattle.scopes.specs.Views.{seen, seen_files}
 use Rattle.scopes.specs.declared.scope.Scope.{Scope}
 use Rattle.gcu_output.specs.declared.outcomes.Outcome.{Outcome}
 use Rattle.gcu_output.specs.declared.outcomes.Outcome.TheVariants.{Done, Memory, Usage, InputFault, DiskFault, PrintFault, ServiceFault, Unorderable, Budget}
-use Rattle.gcu_requests.specs.Asking.{Asking, follows}
-use Rattle.gcu_requests.specs.IntentAsked.{uninterrupted}
-use Rattle.gcu_requests.specs.PatchAsked.{target}
+use Rattle.gcu_inputs.specs.Asking.{Asking, follows}
+use Rattle.gcu_inputs.specs.IntentAsked.{uninterrupted}
+use Rattle.gcu_inputs.specs.PatchAsked.{target}
+use Rattle.gcu_inputs.specs.Preparing.{Finds, Found, Refuses, RefusesAlways, refusal}
 use Rattle.gcu_requests.specs.PlanAsked.{judged_asked, start_asked}
-use Rattle.gcu_requests.specs.Preparing.{FailsIn, Finds, Found, Refuses, RefusesAlways, refusal}
-use Rattle.gcu_requests.specs.Request as request
-use Rattle.gcu_requests.specs.ScopesAsked.{ScopePlanning, part_asked, patched_asked, patched_ends, patched_goal, refusal_of, within}
+use Rattle.gcu_requests.specs.ScopesAsked.{part_asked, patched_asked, patched_ends, patched_goal, within}
 use Rattle.gcu_requests.specs.ScopesPlannings.{AreReady, IsReadyBetween, IsRefusalOf, StandsInEach, plan_in, scope_planning}
 use Rattle.gcu_requests.specs.declared.scopes_planning.Ends.{Ends}
 use Rattle.gcu_requests.specs.declared.scopes_planning.ScopeEnds.{ScopeEnds}
-use Rattle.gcu_requests.proofs.Finding.{first_refused, found_always, then_found}
+use Rattle.gcu_inputs.proofs.Finding.{first_refused, found_always, then_found}
 
 abbrev self : {X : Type 0} → X → X
 self x = x

@@ -4,7 +4,6 @@ use Rattle.std.proofs.lemmas.List.{map-append}
 use Rattle.std.specs.Option.{option_map_or}
 use Rattle.patch_core.specs.Operation.{Operation}
 use Rattle.scopes.specs.Splitting.{Part, operations_in, part_of, parts, scopes_of, split}
-use Rattle.scopes.specs.declared.errors.SplitError.{SplitError}
 use Rattle.scopes.specs.declared.errors.SplitError.TheVariants as error
 use Rattle.scopes.specs.declared.scope.Scope.{Scope}
 use Rattle.scopes.specs.declared.splitting.Scoped.{Scoped}

@@ -1,5 +1,5 @@
 -- What a change of several scopes needs, found call after call.
-use Rattle.std.proofs.Common.{◌≡◌, inl, inr, ℕ, Global, List, map, sym, subst, Option, Some, None, Vec, Result, Ok, Err, IfSome}
+use Rattle.std.proofs.Common.{◌≡◌, ℕ, Global, List, map, sym, subst, Option, Some, None, Vec, Result, Ok, Err}
 use Rattle.host_core.specs.State.{State}
 use Rattle.move_core.specs.declared.contexts.Ctx.{Ctx}
 use Rattle.patch_core.specs.Operation.{operations}
@@ -7,16 +7,16 @@ use Rattle.patch_core.specs.declared.patches.Patch.{Patch}
 use Rattle.scopes.specs.Splitting.{Part, part_of, split}
 use Rattle.scopes.specs.declared.splitting.Scoped.{Scoped}
 use Rattle.gcu_output.specs.declared.outcomes.Outcome.{Outcome}
-use Rattle.gcu_requests.specs.Asking.{follows, of_each, ◌>>>◌}
-use Rattle.gcu_requests.specs.IntentAsked.{uninterrupted}
-use Rattle.gcu_requests.specs.PatchAsked.{patch_asked}
-use Rattle.gcu_requests.specs.Preparing.{Finds, Found}
-use Rattle.gcu_requests.specs.RulesAsked.{ctx_asked}
+use Rattle.gcu_inputs.specs.Asking.{follows, of_each}
+use Rattle.gcu_inputs.specs.IntentAsked.{uninterrupted}
+use Rattle.gcu_inputs.specs.PatchAsked.{patch_asked}
+use Rattle.gcu_inputs.specs.Preparing.{Finds, Found}
+use Rattle.gcu_inputs.specs.RulesAsked.{ctx_asked}
 use Rattle.gcu_requests.specs.ScopesAsked.{ScopePlanning, part_asked, scopes_asked, split_answer}
 use Rattle.gcu_requests.specs.ScopesPlannings.{plans_of, scope_planning}
 use Rattle.gcu_requests.specs.declared.scopes_planning.ScopeEnds.{ScopeEnds}
 use Rattle.gcu_requests.specs.declared.scopes_planning.ScopesPlanning.{ScopesPlanning}
-use Rattle.gcu_requests.proofs.Finding.{first_refused, then_found}
+use Rattle.gcu_inputs.proofs.Finding.{first_refused, then_found}
 
 abbrev self : {X : Type 0} → X → X
 self x = x

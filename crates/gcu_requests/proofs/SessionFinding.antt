@@ -1,5 +1,5 @@
 -- How what is read for the script of several operators is found.
-use Rattle.std.proofs.Common.{◌≡◌, ◌∙◌, ℕ, List, [], ◌∷◌, ◌++◌, Bool, true, false, if◌then◌else◌, map, refl, sym, ap, subst, Option, Some, None, IsSome, option_map, is_some, Result, Ok, Err, IfErr}
+use Rattle.std.proofs.Common.{◌≡◌, ◌∙◌, ℕ, List, [], ◌∷◌, ◌++◌, Bool, true, false, if◌then◌else◌, refl, sym, ap, subst, Option, Some, None, IsSome, option_map, is_some, Result, Ok, Err, IfErr}
 use Rattle.std.proofs.lemmas.List.{map-append}
 use Rattle.std.proofs.lemmas.Cmp.{nat_list_eq_equiv}
 use Rattle.host_core.specs.Answers.{Gives}
@@ -14,18 +14,18 @@ use Rattle.session_scripts.specs.Scripts.{script}
 use Rattle.session_scripts.specs.declared.script_lines.ScriptLine.{ScriptLine}
 use Rattle.session_scripts.specs.declared.script_lines.ScriptLine.TheVariants.{Begin, Step, Retarget, End}
 use Rattle.gcu_output.specs.declared.outcomes.Outcome.{Outcome}
-use Rattle.gcu_requests.specs.Asking.{follows}
-use Rattle.gcu_requests.specs.ModelFiles.{bytes_asked}
-use Rattle.gcu_requests.specs.PatchAsked.{patch_asked, target}
+use Rattle.gcu_inputs.specs.Asking.{follows}
+use Rattle.gcu_inputs.specs.ModelFiles.{bytes_asked}
+use Rattle.gcu_inputs.specs.PatchAsked.{patch_asked, target}
+use Rattle.gcu_inputs.specs.Preparing.{Finds, Found, RefusesAlways, refusal}
+use Rattle.gcu_inputs.specs.RulesAsked.{ctx_asked}
 use Rattle.gcu_requests.specs.PlanAsked.{judged_asked, start_asked}
-use Rattle.gcu_requests.specs.Preparing.{Finds, Found, RefusesAlways, refusal}
 use Rattle.gcu_requests.specs.ReadScripts.{GoesOn, IsFound, operating_of, patched, patched_all}
 use Rattle.gcu_requests.specs.Request as request
 use Rattle.gcu_requests.specs.Request.{Patched}
-use Rattle.gcu_requests.specs.RulesAsked.{ctx_asked}
 use Rattle.gcu_requests.specs.SessionsAsked.{aim_asked, file_of, line_asked, patch_at, patches_asked, script_answer, script_asked, script_limit, script_needs_asked, unread_asked}
 use Rattle.gcu_requests.specs.declared.session_preparing.Operating as code
-use Rattle.gcu_requests.proofs.Finding.{first_refused, found_always, then_found}
+use Rattle.gcu_inputs.proofs.Finding.{first_refused, found_always, then_found}
 use Rattle.gcu_requests.proofs.PlanFinding.{config_of}
 
 abbrev self : {X : Type 0} → X → X

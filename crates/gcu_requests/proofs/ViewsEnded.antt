@@ -1,5 +1,5 @@
 -- What was found over a view, as the host behind it has it.
-use Rattle.std.proofs.Common.{◌≡◌, ◌≤◌, ◌⊎◌, ⊎_elim, inl, inr, ℕ, List, refl, sym, ap, ◌∙◌, subst, arith, Option, Some, None, Result, Ok, Err, IfOk, IfSome, option_map}
+use Rattle.std.proofs.Common.{◌≡◌, ◌≤◌, ◌⊎◌, ⊎_elim, ℕ, refl, sym, ◌∙◌, subst, arith, Option, Some, None, Result, Ok, Err, IfOk, IfSome, option_map}
 use Rattle.host_core.specs.Crashes.{Elapses, Left, MayLeaveNow}
 use Rattle.host_core.specs.State.{State, settled}
 use Rattle.conf_store.specs.Folds.{StandsFor}
@@ -7,8 +7,8 @@ use Rattle.conf_store.specs.declared.loaded.Stored.{Stored}
 use Rattle.scopes.specs.Views.{AreOthersSame, AreOthersSettled, IsSeen, KeepsOthers, seen, seen_files}
 use Rattle.scopes.specs.declared.scope.Scope.{Scope}
 use Rattle.gcu_output.specs.declared.outcomes.Outcome.{Outcome}
-use Rattle.gcu_requests.specs.Asking.{Asking}
-use Rattle.gcu_requests.specs.Preparing.{Finds}
+use Rattle.gcu_inputs.specs.Asking.{Asking}
+use Rattle.gcu_inputs.specs.Preparing.{Finds}
 use Rattle.gcu_requests.specs.ScopesPlannings.{IsStill}
 use Rattle.gcu_requests.specs.declared.scopes_planning.Ends.{Ends}
 use Rattle.gcu_requests.proofs.Behind.{stays_behind, told_behind}

@@ -10,17 +10,18 @@ use Rattle.checkpoints.specs.Points.{Held, points}
 use Rattle.gcu_output.specs.declared.outcomes.Outcome.{Outcome}
 use Rattle.gcu_output.specs.declared.outcomes.Outcome.TheVariants.{Usage, NoCheckpoint, CheckpointExists, SequenceFull}
 use Rattle.gcu_output.specs.declared.outcomes.PointWhy.TheVariants as why
-use Rattle.gcu_requests.specs.Asking.{Asking, a_file, asks, follows, settles_first, ◌>>>◌}
+use Rattle.gcu_inputs.specs.Asking.{Asking, a_file, asks, follows, settles_first, ◌>>>◌}
+use Rattle.gcu_inputs.specs.Form.{Form, abandon, change, check, check_plan, delete_checkpoint, demo, form, list_checkpoints, migrate_checkpoints, plan, preview, save_checkpoint, status}
+use Rattle.gcu_inputs.specs.IntentAsked.{uninterrupted}
+use Rattle.gcu_inputs.specs.PatchAsked.{patch_asked, target}
+use Rattle.gcu_inputs.specs.StoredAsked.{stored_asked}
 use Rattle.gcu_requests.specs.Checking.{check_asked}
 use Rattle.gcu_requests.specs.DemoAsked.{demo_asked}
-use Rattle.gcu_requests.specs.Form.{Form, abandon, change, check, check_plan, delete_checkpoint, demo, form, list_checkpoints, migrate_checkpoints, plan, preview, save_checkpoint, status}
-use Rattle.gcu_requests.specs.IntentAsked.{abandon_asked, status_asked, uninterrupted}
-use Rattle.gcu_requests.specs.PatchAsked.{patch_asked, target}
+use Rattle.gcu_requests.specs.InterruptionAsked.{abandon_asked, status_asked}
 use Rattle.gcu_requests.specs.PlanCheckAsked.{check_plan_asked}
 use Rattle.gcu_requests.specs.PointAsked.{name_answer}
 use Rattle.gcu_requests.specs.Request as request
 use Rattle.gcu_requests.specs.Request.{Request}
-use Rattle.gcu_requests.specs.StoredAsked.{stored_asked}
 use Rattle.gcu_requests.specs.WorkAsked.{change_asked, dry_run_asked}
 
 -- ---- checkpoints

@@ -8,11 +8,11 @@ use Rattle.conf_check.specs.declared.violations.Rule.{Rule}
 use Rattle.violation_places.specs.Places.{IsPlaceOf}
 use Rattle.gcu_output.specs.declared.outcomes.Outcome.{Outcome}
 use Rattle.gcu_output.specs.declared.outcomes.Outcome.TheVariants.{CurrentInvalid}
-use Rattle.gcu_requests.specs.Asking.{Asking, follows_by, ◌>>>◌}
-use Rattle.gcu_requests.specs.IntentAsked.{uninterrupted}
-use Rattle.gcu_requests.specs.ModelFiles.{models_asked}
+use Rattle.gcu_inputs.specs.Asking.{Asking, follows_by, ◌>>>◌}
+use Rattle.gcu_inputs.specs.IntentAsked.{uninterrupted}
+use Rattle.gcu_inputs.specs.ModelFiles.{models_asked}
+use Rattle.gcu_inputs.specs.StoredAsked.{stored_asked}
 use Rattle.gcu_requests.specs.Request.{Request, check}
-use Rattle.gcu_requests.specs.StoredAsked.{stored_asked}
 
 -- a violation before which there is no other one
 pub record IsFirstBreach (models : ModelSet) (config : Config) (b : Breach) : Type 0 where

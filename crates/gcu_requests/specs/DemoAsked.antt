@@ -6,11 +6,11 @@ use Rattle.move_core.specs.declared.contexts.Ctx.{Ctx}
 use Rattle.plan_options.specs.Options.{default_budget}
 use Rattle.gcu_demo.specs.Demo as generated
 use Rattle.gcu_output.specs.declared.outcomes.Outcome.TheVariants.{CurrentInvalid}
-use Rattle.gcu_requests.specs.Asking.{Asking, follows, follows_by, ◌>>>◌}
-use Rattle.gcu_requests.specs.IntentAsked.{uninterrupted}
+use Rattle.gcu_inputs.specs.Asking.{Asking, follows, follows_by, ◌>>>◌}
+use Rattle.gcu_inputs.specs.IntentAsked.{uninterrupted}
+use Rattle.gcu_inputs.specs.RulesAsked.{ctx_asked}
 use Rattle.gcu_requests.specs.PlanAsked.{IsValidOr, judged_asked}
 use Rattle.gcu_requests.specs.Request.{Planning, Request, demo}
-use Rattle.gcu_requests.specs.RulesAsked.{ctx_asked}
 
 -- from the generated start to the generated goal, where a plan may go so
 abbrev pub generated_asked : (seed ports : ℕ) → Ctx → Asking Planning

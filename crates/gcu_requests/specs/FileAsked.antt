@@ -12,8 +12,8 @@ use Rattle.conf_doc.specs.declared.errors.ShapeError.{ShapeError}
 use Rattle.conf_doc.specs.declared.errors.ShapeError.TheVariants as shape
 use Rattle.gcu_output.specs.declared.outcomes.Outcome.{Outcome}
 use Rattle.gcu_output.specs.declared.outcomes.Outcome.TheVariants.{Memory, BadJson, BadConfig}
-use Rattle.gcu_requests.specs.Asking.{Asking, follows, ◌>>>◌}
-use Rattle.gcu_requests.specs.ModelFiles.{bytes_asked}
+use Rattle.gcu_inputs.specs.Asking.{Asking, follows, ◌>>>◌}
+use Rattle.gcu_inputs.specs.ModelFiles.{bytes_asked}
 
 -- how many bytes it may have
 abbrev pub file_limit : ℕ

@@ -1,12 +1,12 @@
 -- How far a change is that was stopped, as the code keeps it.
-use Rattle.std.specs.Prelude.{◌≡◌, ℕ, Result, Ok, Err, IfErr}
+use Rattle.std.specs.Prelude.{ℕ, Result, Ok, Err}
 use Rattle.host_core.specs.State.{State}
 use Rattle.conf_store.specs.Applied.{AreApplied}
 use Rattle.gcu_output.specs.declared.outcomes.Outcome.{Outcome}
-use Rattle.gcu_requests.specs.Preparing.{FailsIn, StandsIn, refusal}
+use Rattle.gcu_inputs.specs.Preparing.{FailsIn, StandsIn, refusal}
+use Rattle.gcu_inputs.specs.StoredAsked.{stored_asked}
 use Rattle.gcu_requests.specs.Request as request
 use Rattle.gcu_requests.specs.Request.{Request}
-use Rattle.gcu_requests.specs.StoredAsked.{stored_asked}
 use Rattle.gcu_requests.specs.declared.interruption.Status.{Status}
 
 -- what is to be said

@@ -5,8 +5,8 @@ use Rattle.conf_check.specs.declared.violations.Rule.{Rule}
 use Rattle.yang_model.specs.ModelSets.{ModelSet}
 use Rattle.gcu_output.specs.declared.outcomes.Outcome.{Outcome}
 use Rattle.gcu_output.specs.declared.outcomes.Outcome.TheVariants.{CurrentInvalid, TargetInvalid}
+use Rattle.gcu_inputs.specs.Preparing.{refusal}
 use Rattle.gcu_requests.specs.Checking.{IsInvalidAs}
-use Rattle.gcu_requests.specs.Preparing.{refusal}
 use Rattle.gcu_requests.specs.declared.judging.End.{End}
 use Rattle.gcu_requests.specs.declared.judging.End.TheVariants.{Start, Goal}
 

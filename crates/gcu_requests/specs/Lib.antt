@@ -1,31 +1,20 @@
 -- what public clauses cite
 pub mod Asked
-pub mod Asking
 pub mod Checking
 pub mod DemoAsked
 pub mod FileAsked
-pub mod Form
-pub mod FormView
-pub mod IntentAsked
 pub mod IntentView
-pub mod ModelFiles
+pub mod InterruptionAsked
 pub mod OneAnswer
-pub mod PatchAsked
 pub mod PlanAsked
 pub mod PlanCheckAsked
 pub mod PointAsked
-pub mod Preparing
 pub mod ReadPlannings
 pub mod ReadScripts
 pub mod Request
-pub mod RulesAsked
-pub mod ScopeForm
 pub mod ScopesAsked
-pub mod ScopesForm
 pub mod ScopesPlannings
 pub mod SessionsAsked
-pub mod StoredAsked
-pub mod Tasks
 pub mod Trees
 pub mod WorkAsked
 -- what only private clauses cite

@@ -2,8 +2,8 @@
 use Rattle.std.specs.Prelude.{◌≡◌, ℕ, List, Result}
 use Rattle.host_core.specs.State.{State}
 use Rattle.gcu_output.specs.declared.outcomes.Outcome.{Outcome}
+use Rattle.gcu_inputs.specs.Asking.{Asking}
 use Rattle.gcu_requests.specs.Asked.{asked}
-use Rattle.gcu_requests.specs.Asking.{Asking}
 
 -- two right answers to a question are the same
 pub record HasOneAnswer {X : Type 0} (asking : Asking X) : Type 0 where

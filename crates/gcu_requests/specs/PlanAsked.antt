@@ -10,15 +10,15 @@ use Rattle.goal_checks.specs.Targets.{HasNoEmptyTable, IsFirstDifference, IsFirs
 use Rattle.plan_options.specs.Targets.{Target, patched, replaced, resumed, rolled_back}
 use Rattle.gcu_output.specs.declared.outcomes.Outcome.{Outcome}
 use Rattle.gcu_output.specs.declared.outcomes.Outcome.TheVariants.{CurrentInvalid, TargetInvalid, NoModel, EmptyTable}
-use Rattle.gcu_requests.specs.Asking.{Asking, follows, follows_by, ◌>>>◌}
+use Rattle.gcu_inputs.specs.Asking.{Asking, follows, follows_by, ◌>>>◌}
+use Rattle.gcu_inputs.specs.IntentAsked.{gate_asked, intended_asked}
+use Rattle.gcu_inputs.specs.PatchAsked.{patch_asked, target}
+use Rattle.gcu_inputs.specs.RulesAsked.{ctx_asked}
+use Rattle.gcu_inputs.specs.StoredAsked.{stored_asked}
 use Rattle.gcu_requests.specs.Checking.{IsInvalidAs}
 use Rattle.gcu_requests.specs.FileAsked.{file_asked}
-use Rattle.gcu_requests.specs.IntentAsked.{gate_asked, intended_asked}
-use Rattle.gcu_requests.specs.PatchAsked.{patch_asked, target}
 use Rattle.gcu_requests.specs.PointAsked.{held_asked, name_answer}
 use Rattle.gcu_requests.specs.Request.{Planning}
-use Rattle.gcu_requests.specs.RulesAsked.{ctx_asked}
-use Rattle.gcu_requests.specs.StoredAsked.{stored_asked}
 
 -- the configuration where it is valid, or its first violation, told by an answer
 abbrev pub IsValidOr : (List ℕ → Rule → Outcome) → Ctx → Config → Result Config Outcome → Type 0

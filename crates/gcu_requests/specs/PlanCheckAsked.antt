@@ -13,8 +13,8 @@ use Rattle.plan_check.specs.Checks.{IsFirstFault}
 use Rattle.plan_check.specs.declared.errors.NoWhy.{NoWhy}
 use Rattle.gcu_output.specs.declared.outcomes.Outcome.{Outcome}
 use Rattle.gcu_output.specs.declared.outcomes.Outcome.TheVariants.{BadPlan, PlanRejected}
-use Rattle.gcu_requests.specs.Asking.{Asking, follows_by, ◌>>>◌}
-use Rattle.gcu_requests.specs.ModelFiles.{bytes_asked}
+use Rattle.gcu_inputs.specs.Asking.{Asking, follows_by, ◌>>>◌}
+use Rattle.gcu_inputs.specs.ModelFiles.{bytes_asked}
 use Rattle.gcu_requests.specs.PlanAsked.{planning_asked}
 use Rattle.gcu_requests.specs.Request.{Planning, Request, accept_plan}
 

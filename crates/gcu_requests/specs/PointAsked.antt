@@ -8,7 +8,7 @@ use Rattle.checkpoints.specs.Points.{Held, points}
 use Rattle.gcu_output.specs.declared.outcomes.Outcome.{Outcome}
 use Rattle.gcu_output.specs.declared.outcomes.Outcome.TheVariants.{NoCheckpoint, BadName}
 use Rattle.gcu_output.specs.declared.outcomes.PointWhy.TheVariants as why
-use Rattle.gcu_requests.specs.Asking.{Asking, a_file, asks}
+use Rattle.gcu_inputs.specs.Asking.{Asking, a_file, asks}
 
 -- a name that no checkpoint has is refused
 abbrev pub name_answer : List ℕ → Result (List ℕ) Outcome

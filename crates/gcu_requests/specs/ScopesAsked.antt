@@ -14,12 +14,12 @@ use Rattle.scopes.specs.declared.scope.Scope.{Scope}
 use Rattle.gcu_output.specs.Lines.{number}
 use Rattle.gcu_output.specs.declared.outcomes.Outcome.{Outcome}
 use Rattle.gcu_output.specs.declared.outcomes.Outcome.TheVariants.{BadScope, Memory, ScopeRefused}
-use Rattle.gcu_requests.specs.Asking.{Asking, follows, of_each, ◌>>>◌}
-use Rattle.gcu_requests.specs.IntentAsked.{uninterrupted}
-use Rattle.gcu_requests.specs.PatchAsked.{patch_asked, target}
+use Rattle.gcu_inputs.specs.Asking.{Asking, follows, of_each, ◌>>>◌}
+use Rattle.gcu_inputs.specs.IntentAsked.{uninterrupted}
+use Rattle.gcu_inputs.specs.PatchAsked.{patch_asked, target}
+use Rattle.gcu_inputs.specs.RulesAsked.{ctx_asked}
 use Rattle.gcu_requests.specs.PlanAsked.{judged_asked, start_asked}
 use Rattle.gcu_requests.specs.Request.{Planning}
-use Rattle.gcu_requests.specs.RulesAsked.{ctx_asked}
 
 -- ---- one scope
 

@@ -1,6 +1,6 @@
 -- `sessions SCRIPT`: what the script of several operators asks. The whole script is read before the files that it
 -- names, and all of these before anything is done.
-use Rattle.std.specs.Prelude.{◌≡◌, ℕ, List, [], ◌∷◌, ◌++◌, if◌then◌else◌, Option, Some, None, Result, Ok, Err}
+use Rattle.std.specs.Prelude.{ℕ, List, [], ◌∷◌, ◌++◌, if◌then◌else◌, Option, Some, None, Result, Ok, Err}
 use Rattle.host_core.specs.State.{State}
 use Rattle.conf_doc.specs.declared.configuration.Config.{Config}
 use Rattle.move_core.specs.declared.contexts.Ctx.{Ctx}
@@ -11,13 +11,13 @@ use Rattle.session_scripts.specs.declared.script_lines.ScriptLine.{ScriptLine}
 use Rattle.session_scripts.specs.declared.script_lines.ScriptLine.TheVariants.{Begin, Step, Retarget, End}
 use Rattle.gcu_output.specs.declared.outcomes.Outcome.{Outcome}
 use Rattle.gcu_output.specs.declared.outcomes.Outcome.TheVariants.{BadScript}
-use Rattle.gcu_requests.specs.Asking.{Asking, follows, ◌>>>◌}
-use Rattle.gcu_requests.specs.IntentAsked.{uninterrupted}
-use Rattle.gcu_requests.specs.ModelFiles.{bytes_asked}
-use Rattle.gcu_requests.specs.PatchAsked.{patch_asked, target}
+use Rattle.gcu_inputs.specs.Asking.{Asking, follows, ◌>>>◌}
+use Rattle.gcu_inputs.specs.IntentAsked.{uninterrupted}
+use Rattle.gcu_inputs.specs.ModelFiles.{bytes_asked}
+use Rattle.gcu_inputs.specs.PatchAsked.{patch_asked, target}
+use Rattle.gcu_inputs.specs.RulesAsked.{ctx_asked}
 use Rattle.gcu_requests.specs.PlanAsked.{judged_asked, start_asked}
 use Rattle.gcu_requests.specs.Request.{Operating, Patched}
-use Rattle.gcu_requests.specs.RulesAsked.{ctx_asked}
 
 -- ---- the script
 

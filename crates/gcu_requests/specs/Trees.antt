@@ -8,10 +8,10 @@ use Rattle.conf_doc.specs.Shaping.{shaping}
 use Rattle.patch_core.specs.Apply.{apply}
 use Rattle.patch_core.specs.Operation.{Operation}
 use Rattle.gcu_output.specs.declared.outcomes.Outcome.{Outcome}
+use Rattle.gcu_inputs.specs.PatchAsked.{target_in, target_shape}
+use Rattle.gcu_inputs.specs.StoredAsked.{stored_asked}
+use Rattle.gcu_inputs.specs.Asking.{Asking}
 use Rattle.gcu_requests.specs.Asked.{patching_asked, target_asked}
-use Rattle.gcu_requests.specs.PatchAsked.{target_in, target_shape}
-use Rattle.gcu_requests.specs.StoredAsked.{stored_asked}
-use Rattle.gcu_requests.specs.Asking.{Asking}
 
 -- the same calls, and what f makes of what they give
 abbrev pub through : {X Y : Type 0} → (X → Y) → Asking X → Asking Y

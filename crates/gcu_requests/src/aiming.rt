@@ -2,7 +2,7 @@
 ghost use Rattle.std.specs.Prelude.{IfErr, IfOk};
 ghost use Rattle.move_core.specs.Contexts.{IsValidIn};
 ghost use Rattle.patch_core.specs.Operation.{operations};
-ghost use Rattle.gcu_requests.specs.Preparing.{Found, RefusesAlways};
+ghost use Rattle.gcu_inputs.specs.Preparing.{Found, RefusesAlways};
 ghost use Rattle.gcu_requests.specs.SessionsAsked.{aim_asked};
 
 use crate::patch_goal::patch_start;

@@ -4,8 +4,8 @@ ghost use Rattle.host_core.specs.Counts.{DiskMayRise};
 ghost use Rattle.host_core.specs.Crashes.{Elapses, MayLeaveNow};
 ghost use Rattle.host_core.specs.Names.{longest_plain_name};
 ghost use Rattle.checkpoints.specs.Names.{is_good_name as is_name};
+ghost use Rattle.gcu_inputs.specs.Preparing.{Finds, Refuses};
 ghost use Rattle.gcu_requests.specs.PointAsked.{held_asked};
-ghost use Rattle.gcu_requests.specs.Preparing.{Finds, Refuses};
 
 use checkpoints::{PointError, load};
 use conf_doc::Config;

@@ -6,11 +6,11 @@ ghost use Rattle.host_core.specs.Crashes.{Elapses, MayLeaveNow};
 ghost use Rattle.conf_doc.specs.Reading.{reading};
 ghost use Rattle.conf_doc.specs.Shaping.{shaping};
 ghost use Rattle.conf_doc.specs.Trees.{document};
+ghost use Rattle.gcu_inputs.specs.Preparing.{Finds, Refuses, RefusesAlways, refusal};
 ghost use Rattle.gcu_requests.specs.FileAsked.{config_answer, config_found, document_answer, file_asked};
-ghost use Rattle.gcu_requests.specs.Preparing.{Finds, Refuses, RefusesAlways, refusal};
 
-use crate::inputs::input_bytes;
 use conf_doc::{Config, ReadError, ShapeError, Tree, config_of_tree, read_tree};
+use gcu_inputs::input_bytes;
 use gcu_output::Outcome;
 use host_core::{Host, Txt};
 use std::alloc::Global;

@@ -5,12 +5,12 @@ ghost use Rattle.host_core.specs.Crashes.{Elapses, MayLeaveNow};
 ghost use Rattle.host_core.specs.Names.{longest_plain_name};
 ghost use Rattle.conf_store.specs.Stored.{config_in};
 ghost use Rattle.gcu_output.specs.declared.outcomes.Outcome.TheVariants.{Memory as no_memory};
-ghost use Rattle.gcu_requests.specs.IntentAsked.{intent_holding, intent_of, status_asked};
+ghost use Rattle.gcu_inputs.specs.Preparing.{Finds, Refuses};
+ghost use Rattle.gcu_requests.specs.InterruptionAsked.{intent_holding, intent_of, status_asked};
 ghost use Rattle.gcu_requests.specs.IntentView.{CountsIn, status_request};
-ghost use Rattle.gcu_requests.specs.Preparing.{Finds, Refuses};
 
-use crate::intent::read_intent;
 use conf_store::{LoadError, count_steps, read_config};
+use gcu_inputs::read_intent;
 use gcu_output::{Intent, Outcome};
 use host_core::Host;
 use std::alloc::Global;

@@ -2,9 +2,9 @@
 ghost use Rattle.std.specs.Prelude.{◌≡◌, IfErr, IfOk};
 ghost use Rattle.conf_check.specs.Validity.{IsFirstViolation};
 ghost use Rattle.move_core.specs.Contexts.{IsValidIn};
+ghost use Rattle.gcu_inputs.specs.Preparing.{IsRightBy, RefusesAlways};
 ghost use Rattle.gcu_requests.specs.Judging.{TellsFirst, answer_of};
 ghost use Rattle.gcu_requests.specs.PlanAsked.{IsValidOr};
-ghost use Rattle.gcu_requests.specs.Preparing.{IsRightBy, RefusesAlways};
 
 use conf_check::{Rule, Violation, check};
 use conf_doc::Config;

@@ -7,12 +7,12 @@ ghost use Rattle.conf_doc.specs.Shaping.{shaping};
 ghost use Rattle.conf_doc.specs.Trees.{document};
 ghost use Rattle.patch_core.specs.Operation.{operations};
 ghost use Rattle.plan_options.specs.Targets.{patched};
-ghost use Rattle.gcu_requests.specs.PatchAsked.{target, target_in, target_shape};
+ghost use Rattle.gcu_inputs.specs.PatchAsked.{target, target_shape};
+ghost use Rattle.gcu_inputs.specs.Preparing.{Finds, Refuses, RefusesAlways, refusal};
 ghost use Rattle.gcu_requests.specs.PlanAsked.{made_asked};
-ghost use Rattle.gcu_requests.specs.Preparing.{Finds, Refuses, RefusesAlways, refusal};
 
-use crate::patch_input::input_patch;
 use conf_doc::{Config, ShapeError, Tree, config_of_tree, tree_of};
+use gcu_inputs::input_patch;
 use gcu_output::Outcome;
 use host_core::{Host, Txt};
 use patch_core::{ApplyError, Patch, apply_owned};

@@ -7,14 +7,14 @@ ghost use Rattle.plan_check.specs.Checks.{most_steps};
 ghost use Rattle.plan_options.specs.Options.{default_budget};
 ghost use Rattle.plan_options.specs.Targets.{patched};
 ghost use Rattle.plan_texts.specs.PlanTexts.{most_bytes};
+ghost use Rattle.gcu_inputs.specs.Preparing.{Finds, IsRightBy, Refuses, RefusesAlways};
 ghost use Rattle.gcu_requests.specs.PlanAsked.{planning_asked};
 ghost use Rattle.gcu_requests.specs.PlanCheckAsked.{IsAccepted, IsPlanIn, check_plan_asked, moves_asked};
-ghost use Rattle.gcu_requests.specs.Preparing.{Finds, IsRightBy, Refuses, RefusesAlways};
 ghost use Rattle.gcu_requests.specs.ReadPlannings.{IsReadyToSearch, planning_of};
 ghost use Rattle.gcu_requests.specs.Request.{accept_plan};
 
-use crate::inputs::input_bytes;
 use crate::planning::{Planning, prepare};
+use gcu_inputs::input_bytes;
 use gcu_output::Outcome;
 use host_core::{Host, Txt};
 use move_core::Plan;

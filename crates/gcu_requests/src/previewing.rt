@@ -6,14 +6,13 @@ ghost use Rattle.host_core.specs.Crashes.{Elapses, MayLeaveNow};
 ghost use Rattle.host_core.specs.Names.{longest_plain_name};
 ghost use Rattle.conf_doc.specs.Trees.{document};
 ghost use Rattle.patch_core.specs.Operation.{operations};
-ghost use Rattle.gcu_requests.specs.Preparing.{Finds, Refuses, RefusesAlways, refusal};
+ghost use Rattle.gcu_inputs.specs.Preparing.{Finds, Refuses, RefusesAlways, refusal};
 ghost use Rattle.gcu_requests.specs.Trees.{document_shape, patched_document, preview_document, target_document};
 
-use crate::intent::test_uninterrupted;
-use crate::patch_input::input_patch;
-use crate::stored::read_stored;
+use crate::stored_tree::read_stored;
 use conf_doc::{ShapeError, Tree, config_of_tree};
 use conf_store::is_configuration;
+use gcu_inputs::{input_patch, test_uninterrupted};
 use gcu_output::Outcome;
 use host_core::{Host, Txt};
 use patch_core::{ApplyError, Patch, apply_owned};

@@ -1,13 +1,13 @@
 //! The patches that a script of several operators names: each file is read once.
-ghost use Rattle.std.specs.Prelude.{◌≡◌, ◌≤◌, IfErr, IfOk, IsSome, option_map};
+ghost use Rattle.std.specs.Prelude.{◌≡◌, IfErr, IfOk, IsSome, option_map};
 ghost use Rattle.host_core.specs.Counts.{InputMayRise};
 ghost use Rattle.host_core.specs.Crashes.{Elapses, MayLeaveNow};
 ghost use Rattle.patch_core.specs.Operation.{operations};
-ghost use Rattle.gcu_requests.specs.Preparing.{Finds, Refuses};
+ghost use Rattle.gcu_inputs.specs.Preparing.{Finds, Refuses};
 ghost use Rattle.gcu_requests.specs.ReadScripts.{AreFound, GoesOn, IsFound, patched_all};
 ghost use Rattle.gcu_requests.specs.SessionsAsked.{file_of, line_asked, patch_at, patches_asked, unread_asked};
 
-use crate::patch_input::input_patch;
+use gcu_inputs::input_patch;
 use gcu_output::Outcome;
 use host_core::{Host, Sequence, Txt};
 use patch_core::Patch;

@@ -6,16 +6,14 @@ ghost use Rattle.host_core.specs.Crashes.{Elapses, MayLeaveNow};
 ghost use Rattle.host_core.specs.Names.{longest_plain_name};
 ghost use Rattle.conf_store.specs.Folds.{StandsFor};
 ghost use Rattle.session_scripts.specs.Scripts.{most_lines, script as script_of};
-ghost use Rattle.gcu_requests.specs.Preparing.{Finds, Refuses, RefusesAlways, refusal};
+ghost use Rattle.gcu_inputs.specs.Preparing.{Finds, Refuses, RefusesAlways, refusal};
 ghost use Rattle.gcu_requests.specs.ReadScripts.{IsReadyToOperate, operating_of};
 ghost use Rattle.gcu_requests.specs.SessionsAsked.{operating_asked, script_answer, script_asked, script_needs_asked};
 
-use crate::inputs::input_bytes;
-use crate::intent::test_uninterrupted;
 use crate::planning::read_start;
-use crate::rules::input_ctx;
 use crate::session_patches::{Patches, input_patches};
 use conf_store::Stored;
+use gcu_inputs::{input_bytes, input_ctx, test_uninterrupted};
 use gcu_output::Outcome;
 use host_core::{Host, Txt};
 use move_core::Ctx;

@@ -21,8 +21,8 @@ use Rattle.sessions.specs.declared.replies.Reply.TheVariants.{Exists, Unknown}
 use Rattle.gcu_output.specs.Lines.{number}
 use Rattle.gcu_output.specs.declared.outcomes.Outcome.{Outcome}
 use Rattle.gcu_output.specs.declared.outcomes.Outcome.TheVariants.{Done, Memory, Usage, InputFault, DiskFault, PrintFault, ServiceFault, Unorderable, Budget}
-use Rattle.gcu_requests.specs.Asking.{Asking}
-use Rattle.gcu_requests.specs.Preparing.{FailsIn, Found, RefusesAlways, refusal}
+use Rattle.gcu_inputs.specs.Asking.{Asking}
+use Rattle.gcu_inputs.specs.Preparing.{FailsIn, Found, RefusesAlways, refusal}
 use Rattle.gcu_requests.specs.Request.{Operating, Patched}
 use Rattle.gcu_requests.specs.SessionsAsked.{aim_asked, patch_at}
 use Rattle.operators.specs.Runs.{AreTold, IsAim, IsAimOf, IsOperated, IsPlanned, IsRunOf, IsTurnOf, reply_lines}

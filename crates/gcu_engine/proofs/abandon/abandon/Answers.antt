@@ -1,5 +1,5 @@
 use Rattle.gcu_output.specs.Printing.{outcome_of}
-use Rattle.gcu_requests.specs.IntentAsked.{abandon_asked}
+use Rattle.gcu_requests.specs.InterruptionAsked.{abandon_asked}
 use Rattle.gcu_engine.proofs.Causes.{disk_fell, ended_cause}
 use Rattle.gcu_engine.proofs.Completing.{completes}
 use Rattle.gcu_engine.proofs.Elapsing.{asking_prints}

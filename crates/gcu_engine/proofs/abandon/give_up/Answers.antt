@@ -3,8 +3,9 @@ use Rattle.std.proofs.lemmas.Result.{err_from_is_err_and}
 use Rattle.host_core.specs.Crashes.{Elapses, MayLeaveNow}
 use Rattle.change_apply.specs.Intents.{IsClosed, IsClosedOrNot}
 use Rattle.gcu_output.specs.declared.outcomes.Outcome.TheVariants.{DiskFault}
-use Rattle.gcu_requests.specs.IntentAsked.{abandon_asked, interrupted}
-use Rattle.gcu_requests.specs.Preparing.{Finds}
+use Rattle.gcu_inputs.specs.IntentAsked.{interrupted}
+use Rattle.gcu_inputs.specs.Preparing.{Finds}
+use Rattle.gcu_requests.specs.InterruptionAsked.{abandon_asked}
 use Rattle.gcu_requests.specs.Request as request
 use Rattle.gcu_output.proofs.Elapsing.{elapses_both}
 use Rattle.gcu_engine.proofs.Abandoning.{abandon_found, abandoning, given, may_remove, none_found, settling_fault_found, settling_reads}

@@ -1,8 +1,8 @@
 use Rattle.std.proofs.Common.{Err}
-use Rattle.gcu_requests.specs.FormView.{task_view}
+use Rattle.gcu_inputs.specs.FormView.{task_view}
 use Rattle.gcu_output.specs.Lines.{last_line}
 use Rattle.gcu_requests.specs.WorkAsked.{change_asked}
-use Rattle.gcu_requests.proofs.Finding.{always_refuses}
+use Rattle.gcu_inputs.proofs.Finding.{always_refuses}
 use Rattle.gcu_engine.proofs.Answering.{refused_cause, said_to}
 use Rattle.gcu_engine.proofs.Naming.{answers_wider, complete_wider, early_wider, leaves_wider, misnamed_says}
 use Rattle.gcu_engine.proofs.Readiness.{early_leaves, refused_early}

@@ -1,4 +1,4 @@
-use Rattle.std.proofs.Common.{List, ◌∷◌, [], ◌++◌, ℕ, suc, ◌+◌, ◌≡◌, ap, arith, take, ◌∙◌}
+use Rattle.std.proofs.Common.{◌∷◌, [], ◌++◌, ℕ, suc, ◌+◌, ◌≡◌, ap, arith, take, ◌∙◌}
 use Rattle.std.proofs.lemmas.List.{take_all}
 use Rattle.gcu_engine.specs.ReadyScopes.{works_by}
 use Rattle.gcu_engine.proofs.ScopesReady.{found_at, found_long, ready_there, works_more}

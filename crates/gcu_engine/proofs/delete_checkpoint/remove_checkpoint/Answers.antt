@@ -7,12 +7,12 @@ use Rattle.checkpoints.specs.Changes.{IsDeleted, IsDeletedOrNot}
 use Rattle.checkpoints.specs.Names.{is_good_name}
 use Rattle.checkpoints.specs.Points.{points}
 use Rattle.gcu_output.specs.declared.outcomes.Outcome.TheVariants.{BadName, DiskFault}
+use Rattle.gcu_inputs.specs.IntentAsked.{uninterrupted}
+use Rattle.gcu_inputs.specs.Preparing.{Finds}
 use Rattle.gcu_requests.specs.Asked.{delete_asked}
-use Rattle.gcu_requests.specs.IntentAsked.{uninterrupted}
-use Rattle.gcu_requests.specs.Preparing.{Finds}
 use Rattle.gcu_requests.specs.Request.{delete_checkpoint}
 use Rattle.gcu_output.proofs.Elapsing.{elapses_both}
-use Rattle.gcu_requests.proofs.Finding.{memory_found}
+use Rattle.gcu_inputs.proofs.Finding.{memory_found}
 use Rattle.gcu_engine.proofs.Deletions.{bad_name_found, deleting, interrupted_found, may_delete, settled_found, settling_fault_found, settling_reads}
 use Rattle.gcu_engine.proofs.Elapsing.{asking_begins}
 use Rattle.gcu_engine.proofs.Writing.{FindsUnit, asking_goes_on, asking_settles, of_some, ready_before, ready_settled, ready_written, writes_within}

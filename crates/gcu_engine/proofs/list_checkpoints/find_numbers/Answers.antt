@@ -2,8 +2,8 @@ use Rattle.std.proofs.Common.{map, refl}
 use Rattle.std.proofs.lemmas.Result.{err_from_is_err_and}
 use Rattle.checkpoints.specs.Answers.{numbered_view}
 use Rattle.gcu_output.proofs.Elapsing.{elapses_unchanged}
+use Rattle.gcu_inputs.specs.IntentAsked.{uninterrupted}
 use Rattle.gcu_requests.specs.Asked.{numbers_asked}
-use Rattle.gcu_requests.specs.IntentAsked.{uninterrupted}
 use Rattle.gcu_requests.specs.Request.{list_checkpoints}
 use Rattle.gcu_requests.proofs.IntentFinding.{gate_closed, gate_open}
 use Rattle.gcu_engine.proofs.list_checkpoints.find_numbers.Goals as goal

@@ -1,7 +1,7 @@
 use Rattle.std.proofs.Common.{List, [], map, sym, subst, Ok, Err}
 use Rattle.std.proofs.lemmas.Result.{err_from_is_err_and}
-use Rattle.gcu_requests.specs.Asking.{of_each}
-use Rattle.gcu_requests.specs.Preparing.{AreFound, Found}
+use Rattle.gcu_inputs.specs.Asking.{of_each}
+use Rattle.gcu_inputs.specs.Preparing.{AreFound, Found}
 use Rattle.gcu_requests.specs.ScopesPlannings.{AreReady, scope_planning}
 use Rattle.gcu_requests.specs.declared.scopes_planning.ScopeEnds.{ScopeEnds}
 use Rattle.gcu_requests.proofs.EachFinding.{each_given, more_given, refused_behind}

@@ -1,6 +1,6 @@
 use Rattle.std.proofs.Common.{map, take}
 use Rattle.move_core.specs.Kinds.{AreOfKinds, extender_kinds, generator_kinds, rule_kinds}
-use Rattle.gcu_requests.specs.Preparing.{AreFound}
+use Rattle.gcu_inputs.specs.Preparing.{AreFound}
 use Rattle.gcu_requests.specs.ScopesPlannings.{scope_planning}
 use Rattle.gcu_engine.specs.ScopeTexts.{solved_asked}
 use Rattle.gcu_engine.specs.SolvedScopes.{scope_plan}

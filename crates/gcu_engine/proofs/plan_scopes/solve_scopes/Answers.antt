@@ -1,5 +1,5 @@
 use Rattle.std.proofs.lemmas.Result.{err_from_is_err_and}
-use Rattle.gcu_requests.proofs.Finding.{always_refuses}
+use Rattle.gcu_inputs.proofs.Finding.{always_refuses}
 use Rattle.gcu_engine.proofs.ScopesSolving.{none_solved, solved_in}
 use Rattle.gcu_engine.proofs.plan_scopes.solve_scopes.Goals as goal
 

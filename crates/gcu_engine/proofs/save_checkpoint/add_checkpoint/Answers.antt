@@ -7,13 +7,13 @@ use Rattle.checkpoints.specs.Changes.{IsSaved, IsSavedOrNot}
 use Rattle.checkpoints.specs.Names.{is_good_name}
 use Rattle.conf_doc.specs.declared.configuration.Config.{Config}
 use Rattle.gcu_output.specs.declared.outcomes.Outcome.TheVariants.{BadName, DiskFault}
+use Rattle.gcu_inputs.specs.Preparing.{Finds}
+use Rattle.gcu_inputs.specs.StoredAsked.{stored_asked}
 use Rattle.gcu_requests.specs.Asked.{save_asked}
 use Rattle.gcu_requests.specs.Checking.{check_asked}
-use Rattle.gcu_requests.specs.Preparing.{Finds}
-use Rattle.gcu_requests.specs.StoredAsked.{stored_asked}
 use Rattle.gcu_requests.specs.Request.{check, save_checkpoint}
 use Rattle.gcu_output.proofs.Elapsing.{elapses_both}
-use Rattle.gcu_requests.proofs.Finding.{memory_found}
+use Rattle.gcu_inputs.proofs.Finding.{memory_found}
 use Rattle.gcu_engine.proofs.Savings.{bad_name_found, may_save, not_valid_found, saving, saving_found, settling_fault_found, settling_reads}
 use Rattle.gcu_engine.proofs.Elapsing.{asking_begins}
 use Rattle.gcu_engine.proofs.Writing.{FindsUnit, asking_goes_on, asking_settles, of_some, ready_before, ready_settled, ready_written, writes_within}

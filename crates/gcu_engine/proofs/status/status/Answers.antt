@@ -2,7 +2,7 @@ use Rattle.std.proofs.Common.{◌++◌}
 use Rattle.gcu_output.specs.Lines.{last_line}
 use Rattle.gcu_output.specs.Statuses.{status_text}
 use Rattle.gcu_output.specs.declared.outcomes.Outcome.TheVariants.{Done}
-use Rattle.gcu_requests.specs.IntentAsked.{status_asked}
+use Rattle.gcu_requests.specs.InterruptionAsked.{status_asked}
 use Rattle.gcu_engine.proofs.Answering.{refused_cause, said_to}
 use Rattle.gcu_engine.proofs.Causes.{disk_fell, said_cause}
 use Rattle.gcu_engine.proofs.Completing.{completes}

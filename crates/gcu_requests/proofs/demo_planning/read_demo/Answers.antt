@@ -1,6 +1,6 @@
 use Rattle.std.proofs.lemmas.Result.{err_from_is_err_and}
+use Rattle.gcu_inputs.proofs.Finding.{always_refuses}
 use Rattle.gcu_requests.proofs.DemoFinding.{demo_found, no_demo_ctx}
-use Rattle.gcu_requests.proofs.Finding.{always_refuses}
 use Rattle.gcu_requests.proofs.demo_planning.read_demo.Goals as goal
 
 -- there is nothing to judge by

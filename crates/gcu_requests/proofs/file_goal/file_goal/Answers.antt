@@ -1,5 +1,5 @@
 use Rattle.std.proofs.lemmas.Result.{err_from_is_err_and}
-use Rattle.gcu_requests.proofs.Finding.{always_refuses}
+use Rattle.gcu_inputs.proofs.Finding.{always_refuses}
 use Rattle.gcu_requests.proofs.PlanFinding.{file_found, no_file}
 use Rattle.gcu_requests.proofs.file_goal.file_goal.Goals as goal
 

@@ -1,8 +1,8 @@
-use Rattle.gcu_requests.specs.Asking.{follows_by}
+use Rattle.gcu_inputs.specs.Asking.{follows_by}
+use Rattle.gcu_inputs.specs.Preparing.{refusal}
 use Rattle.gcu_requests.specs.Judging.{answer_of}
 use Rattle.gcu_requests.specs.PlanAsked.{IsValidOr}
-use Rattle.gcu_requests.specs.Preparing.{refusal}
-use Rattle.gcu_requests.proofs.Finding.{refusal_is_right}
+use Rattle.gcu_inputs.proofs.Finding.{refusal_is_right}
 use Rattle.gcu_requests.proofs.judging.judge.Goals as goal
 
 pub returns-in-Err-clause-answer : goal.returns-in-Err-clause-answer

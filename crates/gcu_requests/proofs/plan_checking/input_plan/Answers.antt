@@ -1,5 +1,5 @@
 use Rattle.std.proofs.lemmas.Result.{err_from_is_err_and}
-use Rattle.gcu_requests.proofs.Finding.{always_refuses}
+use Rattle.gcu_inputs.proofs.Finding.{always_refuses}
 use Rattle.gcu_requests.proofs.PlanCheckFinding.{moves_found, no_bytes}
 use Rattle.gcu_requests.proofs.plan_checking.input_plan.Goals as goal
 

@@ -1,8 +1,8 @@
-use Rattle.std.proofs.Common.{refl, ◌∙◌}
+use Rattle.std.proofs.Common.{refl}
 use Rattle.std.proofs.lemmas.Result.{err_from_is_err_and}
 use Rattle.gcu_output.proofs.Elapsing.{elapses_unchanged}
 use Rattle.plan_options.specs.Views.{target_view}
-use Rattle.gcu_requests.specs.IntentAsked.{gate_asked}
+use Rattle.gcu_inputs.specs.IntentAsked.{gate_asked}
 use Rattle.gcu_requests.specs.PlanAsked.{needs_asked}
 use Rattle.gcu_requests.specs.ReadPlannings.{planning_of}
 use Rattle.gcu_requests.proofs.IntentFinding.{gate_closed, gate_open}

@@ -4,7 +4,7 @@ use Rattle.std.specs.List.{AllPass}
 use Rattle.conf_doc.specs.WellFormed.{IsConfig}
 use Rattle.conf_store.specs.Files.{is_step_name}
 use Rattle.conf_store.specs.Folds.{StandsFor}
-use Rattle.gcu_requests.proofs.Finding.{always_refuses}
+use Rattle.gcu_inputs.proofs.Finding.{always_refuses}
 use Rattle.gcu_requests.proofs.PlanFinding.{judged_is, no_start, start_found}
 use Rattle.gcu_requests.proofs.planning.read_start.Goals as goal
 

@@ -1,7 +1,8 @@
 use Rattle.std.proofs.Common.{refl, ◌∙◌}
 use Rattle.std.proofs.lemmas.Result.{err_from_is_err_and}
 use Rattle.gcu_output.proofs.Elapsing.{elapses_unchanged}
-use Rattle.gcu_requests.proofs.Finding.{always_refuses, no_patch, no_stored, target_found}
+use Rattle.gcu_inputs.proofs.Finding.{always_refuses}
+use Rattle.gcu_requests.proofs.TreeFinding.{no_patch, no_stored, target_found}
 use Rattle.gcu_requests.proofs.previewing.patch_stored.Goals as goal
 
 -- the folder stands for no configuration

@@ -1,6 +1,6 @@
 use Rattle.std.proofs.lemmas.Result.{err_from_is_err_and}
 use Rattle.patch_core.specs.Operation.{operations}
-use Rattle.gcu_requests.proofs.Finding.{always_refuses}
+use Rattle.gcu_inputs.proofs.Finding.{always_refuses}
 use Rattle.gcu_requests.proofs.ScopesFinding.{ends_found, ends_ready, ends_stand, no_start}
 use Rattle.gcu_requests.proofs.scopes_planning.read_both.Goals as goal
 

@@ -2,7 +2,7 @@ use Rattle.std.proofs.Common.{◌≡◌, ℕ, map, take, IfSome}
 use Rattle.host_core.specs.Counts.{DiskMayRise}
 use Rattle.scopes.specs.Splitting.{part_of}
 use Rattle.scopes.specs.declared.splitting.Scoped.{Scoped}
-use Rattle.gcu_requests.specs.Preparing.{AreFound}
+use Rattle.gcu_inputs.specs.Preparing.{AreFound}
 use Rattle.gcu_requests.specs.ScopesAsked.{part_asked}
 use Rattle.gcu_requests.specs.ScopesPlannings.{AreReady, IsStill, StandsInEach, scope_planning}
 use Rattle.gcu_requests.specs.declared.scopes_planning.ScopeEnds.{ScopeEnds}

@@ -1,4 +1,4 @@
-use Rattle.std.proofs.Common.{◌≡◌, ap, sym, ◌∙◌}
+use Rattle.std.proofs.Common.{ap, sym, ◌∙◌}
 use Rattle.gcu_requests.proofs.ViewsEnded.{answer_viewed, stands_viewed, still_viewed}
 use Rattle.gcu_requests.proofs.scopes_planning.view_ends.Goals as goal
 

@@ -1,5 +1,5 @@
 use Rattle.std.proofs.lemmas.Result.{err_from_is_err_and}
-use Rattle.gcu_requests.proofs.Finding.{always_refuses}
+use Rattle.gcu_inputs.proofs.Finding.{always_refuses}
 use Rattle.gcu_requests.proofs.SessionFinding.{no_script, script_found}
 use Rattle.gcu_requests.proofs.session_preparing.input_script.Goals as goal
 

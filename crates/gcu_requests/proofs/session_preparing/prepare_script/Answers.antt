@@ -1,7 +1,7 @@
-use Rattle.std.proofs.Common.{refl, ◌∙◌}
+use Rattle.std.proofs.Common.{refl}
 use Rattle.std.proofs.lemmas.Result.{err_from_is_err_and}
 use Rattle.gcu_output.proofs.Elapsing.{elapses_unchanged}
-use Rattle.gcu_requests.specs.IntentAsked.{uninterrupted}
+use Rattle.gcu_inputs.specs.IntentAsked.{uninterrupted}
 use Rattle.gcu_requests.specs.ReadScripts.{operating_of}
 use Rattle.gcu_requests.specs.SessionsAsked.{script_needs_asked}
 use Rattle.gcu_requests.proofs.IntentFinding.{gate_closed, gate_open}

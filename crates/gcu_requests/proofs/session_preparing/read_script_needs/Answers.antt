@@ -1,6 +1,5 @@
-use Rattle.std.proofs.Common.{refl, ◌∙◌}
+use Rattle.std.proofs.Common.{refl}
 use Rattle.std.proofs.lemmas.Result.{err_from_is_err_and}
-use Rattle.gcu_output.proofs.Elapsing.{elapses_unchanged}
 use Rattle.gcu_requests.proofs.SessionFinding.{no_script_ctx, no_script_lines, no_script_patches, no_script_start, script_ready}
 use Rattle.gcu_requests.proofs.session_preparing.read_script_needs.Goals as goal
 
