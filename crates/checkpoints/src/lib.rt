@@ -19,7 +19,7 @@ mod writing;
 
 pub use deleting::delete;
 pub use errors::PointError;
-pub use laws::points_are_in_other_files;
+pub use laws::{points_are_in_other_files, points_are_in_their_files};
 pub use listing::names;
 pub use loading::load;
 pub use migrating::prepare_migration;
