@@ -40,6 +40,7 @@ mod ScopesEnding
 mod ScopesFaults
 mod ScopesInOrder
 mod ScopesOpen
+mod ScopesPoints
 mod ScopesReady
 mod ScopesSolving
 mod Scoping

@@ -6,6 +6,7 @@ use Rattle.host_core.specs.Crashes.{Elapses, Left, LeavesOnly, MayLeaveNow}
 use Rattle.host_core.specs.State.{State, settled, with_pending}
 use Rattle.scopes.specs.Views.{AreOthersSame, IsSeen, seen}
 use Rattle.scopes.specs.declared.scope.Scope.{Scope}
+use Rattle.scope_changes.specs.Works.{KeepsPointsOfScopes}
 use Rattle.gcu_output.specs.declared.outcomes.Outcome.{Outcome}
 use Rattle.gcu_inputs.specs.Asking.{Asking, a_file}
 use Rattle.gcu_inputs.specs.ScopeForm.{IsScoped}
@@ -116,13 +117,18 @@ module _ {H : Type 0} (told : H → Option State) (counts : H → Counts) (momen
   PrintsOrDoes true = PrintsPlans
   PrintsOrDoes false = DoesPlans
 
-  -- what is pending is settled first
+  -- What is pending is settled first. Each scope keeps its checkpoints, also after a crash at any moment from
+  -- there on.
   pub record AppliesSettled (change : ScopesForm) (old new : H) (result : Outcome) : Type 0 where
     pub between : H
     pub settles : told between ≡ option_map (with_pending settled) (told old)
     pub time : Elapses moment left_since old between (MayLeaveNow (told between))
     pub counted : DiskMayRise (counts old) (counts between)
     pub does : PrintsOrDoes change.dry_run change between new result
+    pub points : IfSome (told old) (λ s. IfSome (told new) (λ t.
+        KeepsPointsOfScopes s.files t.files))
+    pub points_left : IfSome (told old) (λ s. (left : Left) → left_since new (moment between) left
+        → KeepsPointsOfScopes s.files left.files)
 
   -- it can't be settled, or the change of several scopes is done
   abbrev pub AppliesScopes : ScopesForm → H → H → Outcome → Type 0

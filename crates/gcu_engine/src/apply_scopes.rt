@@ -16,6 +16,7 @@ use gcu_inputs::ScopesForm;
 use gcu_output::say;
 use host_core::Host;
 use move_core::{Boxes, Kit};
+use scope_changes::scopes_keep_points;
 use std::alloc::Global;
 
 /// Settles what is pending, and does a change of several scopes.
@@ -36,7 +37,10 @@ pub(crate) fn apply_scopes<H: Host>(
     ensures form { result ≡ usage → ⊥ }
 {
     match host.settle() {
-        Ok(()) => apply_settled(alloc, change, kit, host),
+        Ok(()) => {
+            scopes_keep_points();
+            apply_settled(alloc, change, kit, host)
+        }
         Err(_) => say(alloc, Outcome::DiskFault { step: 0 }, host),
     }
 }

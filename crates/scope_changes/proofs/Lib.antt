@@ -5,5 +5,6 @@ pub mod Opening
 pub mod Outside
 pub mod Parting
 pub mod Passing
+pub mod PointFiles
 pub mod Rounds
 pub mod Viewing

@@ -6,10 +6,12 @@ use Rattle.host_core.specs.State.{Files}
 use Rattle.conf_doc.specs.Texts.{line_feed}
 use Rattle.conf_store.specs.Files.{intent_file}
 use Rattle.conf_store.specs.Folds.{IsOther}
+use Rattle.checkpoints.specs.Points.{points}
 use Rattle.change_apply.specs.Acknowledgements.{acks}
 use Rattle.change_apply.specs.Change.{Change, restarted, steps}
 use Rattle.scopes.specs.Files.{plain_name}
 use Rattle.scopes.specs.Scopes.{IsScope, scope_name}
+use Rattle.scopes.specs.Views.{seen_files}
 use Rattle.scopes.specs.declared.scope.Scope.{Scope}
 use Rattle.scopes.specs.declared.scope.Scope.TheVariants.{Localhost, Asic}
 
@@ -83,3 +85,8 @@ abbrev pub KeepsOutside : List ScopeWork → Files → Files → Type 0
 KeepsOutside works before after =
     (name : List ℕ) → AllByRecursion (λ w. 0 < steps w.change → IsOutside w.scope name) works
     → get after name ≡ get before name
+
+-- each scope, named by a change or not, has the checkpoints from before
+abbrev pub KeepsPointsOfScopes : Files → Files → Type 0
+KeepsPointsOfScopes before after =
+    (scope : Scope) → points (seen_files scope after) ≡ points (seen_files scope before)

@@ -5,8 +5,9 @@ ghost use Rattle.change_apply.specs.Crashes.{KeepsOthers};
 ghost use Rattle.scopes.specs.Scopes.{most_asics};
 ghost use Rattle.scopes.specs.Views.{seen_files};
 ghost use Rattle.scopes.specs.declared.scope.Scope.TheVariants.{Asic};
-ghost use Rattle.scope_changes.specs.Works.{AreInOrder, KeepsOutside, ScopeWork};
+ghost use Rattle.scope_changes.specs.Works.{AreInOrder, KeepsOutside, KeepsPointsOfScopes, ScopeWork};
 
+use checkpoints::points_are_in_their_files;
 use scopes::{asics_have_files_of_their_own, localhost_has_files_of_its_own};
 
 /// Where no files are changed but those that the changes of some scopes have to do with, each ASIC, named or
@@ -18,4 +19,13 @@ pub fn asics_keep_other_files()
 {
     asics_have_files_of_their_own();
     localhost_has_files_of_its_own();
+}
+
+/// Where no files are changed but those that the changes of some scopes have to do with, each scope, named or
+/// not, keeps its checkpoints.
+pub fn scopes_keep_points()
+    ensures { (works : List ScopeWork) (before after : Files)
+        → KeepsOutside works before after → KeepsPointsOfScopes before after }
+{
+    points_are_in_their_files();
 }

@@ -9,5 +9,5 @@ mod one;
 mod running;
 
 pub use changes::ScopeChange;
-pub use laws::asics_keep_other_files;
+pub use laws::{asics_keep_other_files, scopes_keep_points};
 pub use running::run_scopes;

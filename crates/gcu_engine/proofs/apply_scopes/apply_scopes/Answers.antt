@@ -3,11 +3,13 @@ use Rattle.host_core.specs.Counts.{Counts, Rose}
 use Rattle.host_core.specs.Crashes.{Elapses, MayLeaveNow}
 use Rattle.gcu_output.specs.Lines.{last_line}
 use Rattle.gcu_output.specs.declared.outcomes.Outcome.TheVariants.{DiskFault}
+use Rattle.gcu_inputs.specs.ScopesForm.{scopes_view}
 use Rattle.gcu_engine.specs.Scoped.{settling}
 use Rattle.gcu_engine.proofs.Answering.{said_to}
 use Rattle.gcu_engine.proofs.Causes.{disk_fell, said_cause}
 use Rattle.gcu_engine.proofs.Changes.{cause_from}
 use Rattle.gcu_engine.proofs.Elapsing.{asking_leaves_behind}
+use Rattle.gcu_engine.proofs.ScopesPoints.{points_kept, points_left}
 use Rattle.gcu_engine.proofs.Scoping.{settled_now, settling_says}
 use Rattle.gcu_engine.proofs.apply_scopes.apply_scopes.Goals as goal
 
@@ -24,6 +26,10 @@ returns-in-Ok-clause-applies g c =
       time = c.settle.ensures.time;
       counted = c.settle.ensures.counts;
       does = c.apply_settled.ensures.does;
+      points = points_kept g.H.Host.told g.H.Host.counts g.H.Host.moment g.H.Host.left_since c.scopes_keep_points.ensures (scopes_view c.args.change)
+          c.args.host.now c.settle.new.self c.apply_settled.new.host c.apply_settled.result c.in-Ok.ensures.ok c.apply_settled.ensures.does;
+      points_left = points_left g.H.Host.told g.H.Host.counts g.H.Host.moment g.H.Host.left_since c.scopes_keep_points.ensures (scopes_view c.args.change)
+          c.args.host.now c.settle.new.self c.apply_settled.new.host c.apply_settled.result c.in-Ok.ensures.ok c.apply_settled.ensures.does;
     })
 
 pub returns-in-Ok-clause-cause : goal.returns-in-Ok-clause-cause
