@@ -1,6 +1,7 @@
 -- Entries that are gone through, and how many of them are counted.
-use Rattle.std.proofs.Common.{◌≡◌, ◌<◌, ◌≤◌, ◌+◌, ◌-◌, ℕ, zero, suc, Bool, true, false, cond, ◌&&◌, IsTrue, List, [], ◌∷◌, ◌++◌, map, take, drop, length, insert, Option, Some, None, is_some, slice_get, min, refl, sym, ap, ◌∙◌, subst, inl, inr, add-one, length-append, arith}
+use Rattle.std.proofs.Common.{◌≡◌, ◌<◌, ◌≤◌, ◌+◌, ◌-◌, ℕ, zero, suc, Bool, true, false, cond, ◌&&◌, IsTrue, List, [], ◌∷◌, ◌++◌, map, take, drop, length, insert, Option, Some, None, Result, IfOk, is_some, slice_get, min, refl, sym, ap, ◌∙◌, subst, inl, inr, add-one, length-append, arith}
 use Rattle.std.proofs.lemmas.List.{take-append-drop}
+use Rattle.std.proofs.lemmas.Result.{IfOk-weaker}
 use Rattle.std.specs.Prelude.{if◌then◌else◌}
 use Rattle.std.specs.Bool.{OnFalse, OnTrue}
 use Rattle.std.specs.Str.{bytes_eq}
@@ -10,8 +11,9 @@ use Rattle.conf_doc.specs.declared.configuration.Table.{Table}
 use Rattle.move_core.specs.Moves.{place}
 use Rattle.move_core.specs.declared.moves.Move.{Move}
 use Rattle.yang_model.specs.ModelSets.{ModelSet, table_named}
-use Rattle.recheck.specs.Counts.{AreChecked, AreLeft, IsCount, IsOneLooked, IsRaised, number_of}
+use Rattle.recheck.specs.Counts.{AreChecked, AreCounted, AreLeft, IsCount, IsOneCounted, IsOneLooked, IsRaised, number_of}
 use Rattle.recheck.specs.Entries.{AreWithin, entries_in, entries_of, entries_with_model, greatest, is_of, raised}
+use Rattle.recheck.specs.SoleEntries.{IsSoleEntry}
 use Rattle.recheck.specs.Rechecks.{AreWalked, IsNext, IsNotedAt}
 use Rattle.recheck.specs.Verdicts.{is_on}
 use Rattle.recheck.specs.declared.kept.Kept.{Kept}
@@ -318,9 +320,9 @@ module _ (models : ModelSet) (config : Config) (left u v : List Verdict) (a b c 
       (walked.past [] (subst (λ l. AreWithin l []) (sym (ap (λ n. take n u) start)) refl))
 
   -- and as many entries were counted as had none
-  pub checked_after : (old : Option Kept) (kept : Kept) → AreLeft models old config left → kept.verdicts.items ≡ v
+  checked_after : (old : Option Kept) (kept : Kept) → AreLeft models old config left → kept.verdicts.items ≡ v → kept.valid ≡ valid
       → IsRaised c c' (λ count. AreChecked models old config kept count valid)
-  checked_after old kept are holds =
+  checked_after old kept are holds known =
       let ahead : drop a u ≡ left = ap (λ n. drop n u) start ∙ is in
       let none : take a u ≡ [] = ap (λ n. take n u) start in
       let l1 = ap length ahead in
@@ -338,9 +340,23 @@ module _ (models : ModelSet) (config : Config) (left u v : List Verdict) (a b c 
                 | inl all ↦ inl (omega (arith, all, l3, l4, l5))
                 | inr full ↦ inr (omega (arith, full, l5))
               ];
+          known = known;
         },
         walked.raises,
       )
+
+  pub counted_after : (old : Option Kept) (kept : Kept) → AreLeft models old config left → kept.verdicts.items ≡ v → kept.valid ≡ valid → (mv : Move)
+      → IsRaised c c' (λ count. AreCounted models old config mv kept count valid)
+  counted_after old kept are holds known mv = let is = checked_after old kept are holds known in (is.0, inr is.1, is.2)
+
+-- ---- what is counted, in a call that may be refused
+
+module _ (models : ModelSet) (next : Config) (mv : Move) {E : Type 0} (c d : ℕ) (r : Result (Bool × Kept) E) where
+  pub entry_counted : (kept : Kept) (table key : List ℕ) → IsTrue kept.valid → IsSoleEntry models kept.index.config next mv table key
+      → IfOk r (λ p. IsRaised c d (λ n. IsOneCounted kept next table key p.1 n p.0)) → IfOk r (λ p. IsRaised c d (λ n. AreCounted models (Some kept) next mv p.1 n p.0))
+  entry_counted kept table key valid sole =
+      IfOk-weaker r (λ p. IsRaised c d (λ n. IsOneCounted kept next table key p.1 n p.0)) (λ p. IsRaised c d (λ n. AreCounted models (Some kept) next mv p.1 n p.0))
+      (λ p is. (is.0, inl (record { before = kept; was = refl; table = table; key = key; whole = valid; entry = sole; counted = is.1 }), is.2))
 
 -- ---- the counts of a call of the rule
 
@@ -351,7 +367,7 @@ module _ (models : ModelSet) (old new : Option Kept) (next : Config) (mv : Move)
 
   -- the others were counted
   pub rechecked_counts : (kept : Kept) (valid : Bool) (c d e : ℕ) → new ≡ Some kept → IsRaised c d (IsOneLooked mv)
-      → IsRaised d e (λ count. AreChecked models old next kept count valid) → IsRaised c e (IsCount models old new next mv valid)
+      → IsRaised d e (λ count. AreCounted models old next mv kept count valid) → IsRaised c e (IsCount models old new next mv valid)
   rechecked_counts kept valid c d e same first more =
       let f = first.2 in
       let t = more.2 in (

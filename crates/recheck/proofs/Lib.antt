@@ -13,3 +13,4 @@ pub mod Rows
 pub mod Survival
 pub mod VerdictWalks
 pub mod ParallelWalks
+pub mod SoleEntries

@@ -1,7 +1,8 @@
 -- Which verdicts are true in the next configuration.
-use Rattle.std.proofs.Common.{◌≡◌, ℕ, List, Some, None, cond, is_some, IsTrue, get_or, slice_get, Contains, refl, sym, ap, ◌∙◌, subst, inl, inr}
+use Rattle.std.proofs.Common.{◌≡◌, ◌⊎◌, ℕ, List, Some, None, cond, is_some, IsTrue, get_or, slice_get, Contains, refl, sym, ap, ◌∙◌, subst, inl, inr}
 use Rattle.std.specs.List.{All}
 use Rattle.std.proofs.lemmas.List.Elements.{All-contains, Contains-get_or}
+use Rattle.conf_doc.specs.Pairs.{find}
 use Rattle.conf_doc.specs.WellFormed.{IsConfig}
 use Rattle.conf_doc.specs.declared.configuration.Config.{Config}
 use Rattle.std.specs.Prelude.{IsSomeAnd}
@@ -23,18 +24,12 @@ use Rattle.recheck.proofs.Pairs.{contains_at, some_same}
 use Rattle.recheck.proofs.Rows.{at_entry, row_only, row_there}
 use Rattle.recheck.proofs.Survival.{AreFalseBack, AreMet, breaks_back, text_satisfied}
 
-module _ (models : ModelSet) (a b : Config) (formed_a : IsConfig a) (formed_b : IsConfig b) (verdicts : List Verdict)
-    (handled : (table key : List ℕ) (t k : ℕ) → IsEntryAt a table key t k → IsHandled models a b verdicts table key)
-    (tables : (name : List ℕ) → IsTableHandled models a b verdicts name) (truth : HasOneTruth models) where
-  -- an entry that a verdict is on or wants is the same in both
-  module _ (v : Verdict) (has : Contains verdicts v) (t k : ℕ) (at : IsEntryAt a v.table v.key t k) where
-    same : IsSame a b v.table v.key
-    same =
-        elim (handled v.table v.key t k at) [
-          | inl is ↦ is
-          | inr none ↦ absurd (All-contains (λ x. ¬ IsTouched models a v.table v.key x) verdicts v none has (inl (refl, refl)))
-        ]
-
+module _ (models : ModelSet) (a b : Config) (formed_a : IsConfig a) (formed_b : IsConfig b) (truth : HasOneTruth models) (v : Verdict)
+    (same : IsSame a b v.table v.key)
+    (keys : (table key : List ℕ) (t k : ℕ) → IsEntryAt a table key t k → IsTrue (is_some (entry_of table key b)) ⊎ (¬ IsTouched models a table key v))
+    (tables : (name : List ℕ) → (find name a ≡ find name b) ⊎ (¬ Reads models name v)) where
+  -- where the verdict's entry is the same in both
+  module _ (t k : ℕ) (at : IsEntryAt a v.table v.key t k) where
     abbrev row : Row
     row = row_of v.table v.key at.fields
 
@@ -42,11 +37,12 @@ module _ (models : ModelSet) (a b : Config) (formed_a : IsConfig a) (formed_b : 
     met shape shaped field i w wanted =
         let sat = text_satisfied models a (typed_text shape row field i) w wanted in
         let place = key_placed a w.target.table sat.key sat.there in
-        elim (handled w.target.table sat.key place.0 place.1 place.2) [
-          | inl is ↦
-              let found : entry_of w.target.table sat.key b ≡ Some place.2.fields = is ∙ entry_found a w.target.table sat.key place.0 place.1 formed_a place.2 in
-              record { key = sat.key; there = found_key b w.target.table sat.key place.2.fields found; belongs = sat.belongs; part = sat.part }
-          | inr none ↦ absurd (All-contains (λ x. ¬ IsTouched models a w.target.table sat.key x) verdicts v none has (inr (record {
+        elim (keys w.target.table sat.key place.0 place.1 place.2) [
+          | inl stays ↦
+              let e = entry_there b w.target.table sat.key stays in
+              let found : entry_of w.target.table sat.key b ≡ Some e.2.fields = entry_found b w.target.table sat.key e.0 e.1 formed_b e.2 in
+              record { key = sat.key; there = found_key b w.target.table sat.key e.2.fields found; belongs = sat.belongs; part = sat.part }
+          | inr none ↦ absurd (none (inr (record {
             place = record { table = t; key = k; field = field; item = i };
             want = w;
             at = at;
@@ -60,8 +56,7 @@ module _ (models : ModelSet) (a b : Config) (formed_a : IsConfig a) (formed_b : 
     agree shape shaped must of name reads =
         elim (tables name) [
           | inl is ↦ is
-          | inr none ↦
-              absurd (All-contains (λ x. ¬ Reads models name x) verdicts v none has (record { shape = shape; shaped = shaped; must = must; of_shape = of; reads = reads }))
+          | inr none ↦ absurd (none (record { shape = shape; shaped = shaped; must = must; of_shape = of; reads = reads }))
         ]
 
     module _ (sound : IsSound models a v) (br : Breach) (is : IsBreachAt models b v.table v.key br) where
@@ -124,14 +119,40 @@ module _ (models : ModelSet) (a b : Config) (formed_a : IsConfig a) (formed_b : 
           belongings_known models b (λ q.
           sound.valid (record { table = t; key = k; rule = br.rule; field = br.field }) (record { entry = at; broken = broken p q })))
 
-  -- a verdict that is left and true in the first is true in the second
-  pub sound_on : (v : Verdict) → Contains verdicts v → IsSound models a v → IsSound models b v
-  sound_on v has sound =
+  -- a verdict that is true in the first is true in the second
+  pub sound_one : IsSound models a v → IsSound models b v
+  sound_one sound =
       let at = entry_there a v.table v.key sound.there in
       record {
-        there = subst (λ o. IsTrue (is_some o)) (sym (same v has at.0 at.1 at.2)) sound.there;
-        valid = λ br is. none_broken v has at.0 at.1 at.2 sound br is;
+        there = subst (λ o. IsTrue (is_some o)) (sym same) sound.there;
+        valid = λ br is. none_broken at.0 at.1 at.2 sound br is;
       }
+
+module _ (models : ModelSet) (a b : Config) (formed_a : IsConfig a) (formed_b : IsConfig b) (verdicts : List Verdict)
+    (handled : (table key : List ℕ) (t k : ℕ) → IsEntryAt a table key t k → IsHandled models a b verdicts table key)
+    (tables : (name : List ℕ) → IsTableHandled models a b verdicts name) (truth : HasOneTruth models) where
+  module _ (v : Verdict) (has : Contains verdicts v) where
+    untouched : (table key : List ℕ) (t k : ℕ) → IsEntryAt a table key t k → IsSame a b table key ⊎ (¬ IsTouched models a table key v)
+    untouched table key t k at =
+        elim (handled table key t k at) [
+          | inl is ↦ inl is
+          | inr none ↦ inr (All-contains (λ x. ¬ IsTouched models a table key x) verdicts v none has)
+        ]
+
+    -- a verdict that is left and true in the first is true in the second
+    sound_on : IsSound models a v → IsSound models b v
+    sound_on sound =
+        let at = entry_there a v.table v.key sound.there in
+        let same : IsSame a b v.table v.key =
+        elim (untouched v.table v.key at.0 at.1 at.2) [ inl is ↦ is | inr none ↦ absurd (none (inl (refl, refl))) ] in
+        sound_one models a b formed_a formed_b truth v same
+        (λ table key t k is.
+        elim (untouched table key t k is) [
+          | inl e ↦ inl (ap is_some (e ∙ entry_found a table key t k formed_a is))
+          | inr none ↦ inr none
+        ])
+        (λ name. elim (tables name) [ inl e ↦ inl e | inr none ↦ inr (All-contains (λ x. ¬ Reads models name x) verdicts v none has) ])
+        sound
 
   -- so are all of them
   pub all_sound : All (IsSound models a) verdicts → All (IsSound models b) verdicts

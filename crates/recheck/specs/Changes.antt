@@ -119,3 +119,22 @@ abbrev pub MayWantPart :
 MayWantPart models config table shape key part v =
     (text : List ℕ) × (slice_get (key_parts key) part ≡ Some text)
     × MayWant models config table shape part text v
+
+-- ---- whether a change turns no other entry
+
+-- no shape of the tables before a position has a must that reads that table
+abbrev pub AreUnreadBefore : ModelSet → Config → List ℕ → ℕ → Type 0
+AreUnreadBefore models config table n =
+    (t : ℕ) (name : List ℕ) → t < n → slice_get (map (λ p. p.0) config) t ≡ Some name
+    → (m : ℕ) → AreNoReaders models name table m
+
+-- nothing wants a text as a part of a key of a shape of a table
+abbrev pub IsTextUnwanted : ModelSet → Config → List ℕ → ℕ → ℕ → List ℕ → Type 0
+IsTextUnwanted models config table shape part text =
+    (p : Place) → ¬ HasWant models config (want_for table shape part text) p
+
+-- nor what a key has as that part
+abbrev pub IsPartUnwanted : ModelSet → Config → List ℕ → ℕ → List ℕ → ℕ → Type 0
+IsPartUnwanted models config table shape key part =
+    (text : List ℕ) → slice_get (key_parts key) part ≡ Some text
+    → IsTextUnwanted models config table shape part text

@@ -1,10 +1,13 @@
 -- How many entries a call of the rule counts.
-use Rattle.std.specs.Prelude.{◌≡◌, ◌⊎◌, ◌≤◌, ◌+◌, ℕ, List, [], ◌∷◌, Option, Some, None, Bool, false, IsTrue, length}
+use Rattle.std.specs.Prelude.{◌≡◌, ◌⊎◌, ◌≤◌, ◌+◌, ℕ, List, [], ◌∷◌, Option, Some, None, Bool, false, if◌then◌else◌, is_some, IsTrue, length}
+use Rattle.std.specs.Bool.{OnFalse, OnTrue}
 use Rattle.conf_doc.specs.declared.configuration.Config.{Config}
 use Rattle.move_core.specs.Moves.{place}
 use Rattle.move_core.specs.declared.moves.Move.{Move}
 use Rattle.yang_model.specs.ModelSets.{ModelSet}
+use Rattle.ref_index.specs.Agreements.{entry_of}
 use Rattle.recheck.specs.Turned.{IsTurned}
+use Rattle.recheck.specs.SoleEntries.{IsSoleEntry}
 use Rattle.recheck.specs.Entries.{entries_of, most_verdicts, raised}
 use Rattle.recheck.specs.Within.{IsLeft}
 use Rattle.recheck.specs.declared.kept.Kept.{Kept}
@@ -22,7 +25,7 @@ AreLeft models (Some kept) next left =
     IsLeft (IsTurned models kept.index.config next) kept.verdicts.items left
 
 -- so many entries have no verdict that is left; where none has a violation, each has one then, or there are
--- as many as are kept
+-- as many as are kept, and the configuration is known to be valid
 pub record AreChecked (models : ModelSet) (old : Option Kept) (next : Config) (kept : Kept)
     (count : ℕ) (valid : Bool) : Type 0 where
   pub left : List Verdict
@@ -31,6 +34,33 @@ pub record AreChecked (models : ModelSet) (old : Option Kept) (next : Config) (k
   pub noted : IsTrue valid
       → (length kept.verdicts.items ≡ length (entries_of models next))
       ⊎ (most_verdicts ≤ length kept.verdicts.items)
+  pub known : kept.valid ≡ valid
+
+-- an entry is counted, where it is there; if it has a violation all is kept as it was, else the next
+-- configuration is known to be valid
+pub record IsOneCounted (before : Kept) (next : Config) (table key : List ℕ) (kept : Kept)
+    (count : ℕ) (valid : Bool) : Type 0 where
+  pub counts : count ≡ (if is_some (entry_of table key next) then 1 else 0)
+  pub stays : OnFalse valid (kept ≡ before)
+  pub known : OnTrue valid (IsTrue kept.valid)
+
+-- so is the entry of a move, where what is kept is of a valid configuration, and its change turns no other
+pub record IsOneChecked (models : ModelSet) (old : Option Kept) (next : Config) (mv : Move)
+    (kept : Kept) (count : ℕ) (valid : Bool) : Type 0 where
+  pub before : Kept
+  pub was : old ≡ Some before
+  pub table : List ℕ
+  pub key : List ℕ
+  pub whole : IsTrue before.valid
+  pub entry : IsSoleEntry models before.index.config next mv table key
+  pub counted : IsOneCounted before next table key kept count valid
+
+-- the entry of the move was counted, or those without a verdict that is left, each once
+abbrev pub AreCounted :
+    ModelSet → Option Kept → Config → Move → Kept → ℕ → Bool → Type 0
+AreCounted models old next mv kept count valid =
+    IsOneChecked models old next mv kept count valid
+    ⊎ AreChecked models old next kept count valid
 
 -- an entry is looked at before anything else, which a move at a field never asks
 abbrev pub IsOneLooked : Move → ℕ → Type 0
@@ -44,7 +74,7 @@ pub record IsToldFirst (old new : Option Kept) (mv : Move) (count : ℕ) (valid 
   pub one : count ≡ 1
   pub at : length (place mv) ≤ 2
 
--- the entries without a verdict that is left were counted, each once, and the one looked at before
+-- they were counted, and the one looked at before
 pub record IsRechecked (models : ModelSet) (old new : Option Kept) (next : Config) (mv : Move)
     (count : ℕ) (valid : Bool) : Type 0 where
   pub first : ℕ
@@ -53,7 +83,7 @@ pub record IsRechecked (models : ModelSet) (old new : Option Kept) (next : Confi
   pub is : count ≡ first + rest
   pub kept : Kept
   pub keeps : new ≡ Some kept
-  pub checked : AreChecked models old next kept rest valid
+  pub checked : AreCounted models old next mv kept rest valid
 
 -- a growth was refused: nothing is kept, and all entries were counted, and maybe some before
 pub record IsRefused (new : Option Kept) (next : Config) (count : ℕ) : Type 0 where

@@ -3,6 +3,7 @@ pub mod Verdicts
 pub mod Within
 pub mod Entries
 pub mod Turned
+pub mod SoleEntries
 pub mod Counts
 -- What only private ones do.
 pub mod Agreements

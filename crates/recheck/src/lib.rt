@@ -2,6 +2,7 @@
 #![tactic(auto)]
 
 mod agreements;
+mod alone;
 mod changes;
 mod kept;
 mod losses;

@@ -44,7 +44,7 @@ fn has_reader(shape: &Shape, table: &str) -> bool
 }
 
 /// Whether a shape of a table of that name has a must that reads another table. It looks at no key.
-fn may_read(models: &Models, name: &str, table: &str) -> bool
+pub(crate) fn may_read(models: &Models, name: &str, table: &str) -> bool
     ensures { OnFalse result ((n : ℕ) → AreNoReaders models.now name.now table.now n) }
 {
     for place in 0..u32::MAX {

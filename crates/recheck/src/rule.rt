@@ -1,12 +1,15 @@
 //! The rule that each step leads to a valid configuration, with what it keeps between calls.
-ghost use Rattle.std.specs.Prelude.{◌≡◌, ◌↔◌, ◌≤◌, ◌+◌, ℕ, IfOk, IfSome, IsTrue, length, min};
+ghost use Rattle.std.specs.Prelude.{◌≡◌, ◌↔◌, ◌≤◌, ◌+◌, ℕ, if◌then◌else◌, IfOk, IfSome, IsTrue, Some, is_some, length, min};
 ghost use Rattle.conf_check.specs.Validity.{IsValid};
 ghost use Rattle.move_core.specs.Contexts.{rulebook};
 ghost use Rattle.move_core.specs.Moves.{place};
 ghost use Rattle.move_core.specs.Rules.{Passes};
-ghost use Rattle.recheck.specs.Counts.{AreChecked, AreLeft, IsCount, IsOneLooked, IsRaised, number_of};
+ghost use Rattle.recheck.specs.Counts.{AreCounted, AreLeft, IsCount, IsOneCounted, IsOneLooked, IsRaised, number_of};
 ghost use Rattle.recheck.specs.Entries.{greatest, raised};
+ghost use Rattle.recheck.specs.SoleEntries.{IsSole};
+ghost use Rattle.ref_index.specs.Agreements.{entry_of};
 
+use crate::alone::has_entry;
 use crate::kept::Kept;
 use crate::losses::first_loser;
 use crate::rechecks::{check_rest, is_valid_at};
@@ -69,7 +72,99 @@ fn keep(
     }
 }
 
+/// Whether the configuration after a move is valid, by what is kept of another one, and what is kept then. The entries
+/// without a verdict that is left are checked.
+fn recheck_rest(
+    alloc: Global,
+    checked: &mut u64,
+    kept: Option<Kept>,
+    models: &Models,
+    config: &Config,
+    mv: &Move,
+) -> Result<(bool, Kept), Memory>
+    requires { IfSome kept (λ k. k.index.models ≡ models.now) }
+    ensures valid { IfOk result (λ r. IsTrue r.0 ↔ IsValid models.now config.now) }
+    ensures models { IfOk result (λ r. r.1.index.models ≡ models.now) }
+    ensures rises { checked.old ≤ checked.new }
+    ensures counts { IfOk result (λ r. IsRaised checked.old checked.new
+        (λ count. AreCounted models.now kept config.now mv.now r.1 count r.0)) }
+{
+    let Kept {
+        index,
+        verdicts,
+        valid: _,
+    } = keep(alloc, kept, models, config, mv)?;
+    let mut walk = Walk::new(alloc, verdicts);
+    let valid = check_rest(&mut walk, checked, models, config)?;
+    let verdicts = walk.into_verdicts();
+    Ok((
+        valid,
+        Kept {
+            index,
+            verdicts,
+            valid,
+        },
+    ))
+}
+
+/// 1 where a configuration has an entry, else 0.
+fn count_of(config: &Config, table: &str, key: &str) -> u64
+    ensures { result ≡ (if is_some (entry_of table.now key.now config.now) then 1 else 0) }
+{
+    if has_entry(config, table, key) { 1 } else { 0 }
+}
+
+/// The same where it rests on one entry, which alone is checked, where it is there. If it breaks a rule, all that was
+/// kept is kept.
+fn recheck_entry(
+    alloc: Global,
+    checked: &mut u64,
+    kept: Kept,
+    models: &Models,
+    config: &Config,
+    table: &str,
+    key: &str,
+) -> Result<(bool, Kept), Memory>
+    requires models { kept.index.models ≡ models.now }
+    requires valid { IsTrue kept.valid }
+    requires sole { IsSole models.now kept.index.config config.now table.now key.now }
+    ensures valid { IfOk result (λ r. IsTrue r.0 ↔ IsValid models.now config.now) }
+    ensures models { IfOk result (λ r. r.1.index.models ≡ models.now) }
+    ensures rises { checked.old ≤ checked.new }
+    ensures counts { IfOk result (λ r. IsRaised checked.old checked.new
+        (λ count. IsOneCounted kept config.now table.now key.now r.1 count r.0)) }
+{
+    *checked = checked.saturating_add(count_of(config, table, key));
+    if !kept.allows(models, config, table, key) {
+        return Ok((false, kept));
+    }
+    let kept = kept.move_beside(alloc, models, config, table, key)?;
+    Ok((true, kept))
+}
+
 /// Whether the configuration after a move is valid, by what is kept of another one, and what is kept then.
+fn recheck_kept(
+    alloc: Global,
+    checked: &mut u64,
+    kept: Kept,
+    models: &Models,
+    config: &Config,
+    mv: &Move,
+) -> Result<(bool, Kept), Memory>
+    requires { kept.index.models ≡ models.now }
+    ensures valid { IfOk result (λ r. IsTrue r.0 ↔ IsValid models.now config.now) }
+    ensures models { IfOk result (λ r. r.1.index.models ≡ models.now) }
+    ensures rises { checked.old ≤ checked.new }
+    ensures counts { IfOk result (λ r. IsRaised checked.old checked.new
+        (λ count. AreCounted models.now (Some kept) config.now mv.now r.1 count r.0)) }
+{
+    match kept.sole_entry(models, config, mv) {
+        Some((table, key)) => recheck_entry(alloc, checked, kept, models, config, table, key),
+        None => recheck_rest(alloc, checked, Some(kept), models, config, mv),
+    }
+}
+
+/// The same where nothing may be kept.
 fn recheck(
     alloc: Global,
     checked: &mut u64,
@@ -83,13 +178,12 @@ fn recheck(
     ensures models { IfOk result (λ r. r.1.index.models ≡ models.now) }
     ensures rises { checked.old ≤ checked.new }
     ensures counts { IfOk result (λ r. IsRaised checked.old checked.new
-        (λ count. AreChecked models.now kept config.now r.1 count r.0)) }
+        (λ count. AreCounted models.now kept config.now mv.now r.1 count r.0)) }
 {
-    let Kept { index, verdicts } = keep(alloc, kept, models, config, mv)?;
-    let mut walk = Walk::new(alloc, verdicts);
-    let valid = check_rest(&mut walk, checked, models, config)?;
-    let verdicts = walk.into_verdicts();
-    Ok((valid, Kept { index, verdicts }))
+    match kept {
+        Some(kept) => recheck_kept(alloc, checked, kept, models, config, mv),
+        None => recheck_rest(alloc, checked, None, models, config, mv),
+    }
 }
 
 /// Whether an entry that a move took what it wants from tells that the configuration after it is invalid. The

@@ -19,4 +19,5 @@ invariant_of-result c =
       ordered = subst Q (sym c.in_ok-move_by.ensures.ok)
           (subst (λ (m : ModelSet). AreWithin new (entries_of m c.args.next.now)) (sym c.requires.models) (c.drop_entry.ensures.ordered before ordered));
       few = omega (arith, c.args.self.few, c.drop_entry.ensures.among.shorter);
+      whole = λ yes. absurd cc;
     }

@@ -19,4 +19,5 @@ invariant_of-result c =
       ordered = subst Q (sym c.in_ok-move_to.ensures.ok)
           (subst (λ (m : ModelSet). AreWithin new (entries_of m c.args.next.now)) (sym c.requires) (c.drop_changed.ensures.ordered before ordered));
       few = omega (arith, c.args.self.few, c.drop_changed.ensures.among.shorter);
+      whole = λ yes. absurd cc;
     }

@@ -1,7 +1,7 @@
 use Rattle.std.proofs.Common.{◌≡◌, Option, IfSome, refl, sym, subst, arith}
 use Rattle.recheck.specs.declared.kept.Kept.{Kept}
 use Rattle.recheck.proofs.EntryValidity.{first_rule}
-use Rattle.recheck.specs.Counts.{AreChecked, IsRaised}
+use Rattle.recheck.specs.Counts.{AreCounted, IsRaised}
 use Rattle.recheck.proofs.EntryCounts.{rechecked_counts, refused_counts}
 use Rattle.recheck.proofs.rule.RecheckRuleMoveRule.allows.Goals as goal
 
@@ -21,7 +21,7 @@ returns-in-Ok-clause-counts c =
     let models = c.args.ctx.now.models in
     let next = c.args.next.now in
     let P : Option Kept → Type 0 =
-    λ o. IsRaised c.is_told_invalid.new.checked c.recheck.new.checked (λ count. AreChecked models o next c.in-Ok.kept count c.in-Ok.valid) in
+    λ o. IsRaised c.is_told_invalid.new.checked c.recheck.new.checked (λ count. AreCounted models o next c.args.mv.now c.in-Ok.kept count c.in-Ok.valid) in
     rechecked_counts models c.args.self.now.kept _ next c.args.mv.now c.in-Ok.kept c.in-Ok.valid c.args.self.now.checked c.is_told_invalid.new.checked
     c.recheck.new.checked refl c.is_told_invalid.ensures.counts (subst P c.take-kept.ensures.value c.in-Ok.ensures.counts)
 
