@@ -86,7 +86,8 @@ fn put_move(action: &str, path: Path, part: Part) -> Result<Move, Fail> {
     }
 }
 
-fn path_of(alloc: Global, place: &[Value]) -> Result<Path, Fail> {
+/// A place by its one to three names.
+pub fn path_of(alloc: Global, place: &[Value]) -> Result<Path, Fail> {
     match place {
         [table] => Ok(Path::new(alloc, &[name_of(table)?])?),
         [table, key] => Ok(Path::new(alloc, &[name_of(table)?, name_of(key)?])?),

@@ -1,6 +1,7 @@
 //! How many entries the first rule checks, where it looks again only at what changed.
 ghost use Rattle.move_core.specs.Contexts.{IsNamed};
 
+use crate::orders::path_of;
 use crate::situations::{config_at, ctx_at};
 use conf_doc::{Config, Path};
 use example_rows::{Fail, Table, items_at, number_at};
@@ -11,8 +12,8 @@ use std::alloc::Global;
 
 /// A row names its `models`, has its `rules` where they aren't those of the inputs, and the configurations
 /// that a rule is `asked` for, one after another. Each is the `config`, whether the rule says yes, which is
-/// `valid`, and how many entries it has `checked` until then. Where it `begins` there, the rule begins anew
-/// before.
+/// `valid`, and how many entries it has `checked` until then. The move that led there is `at` a place, or where
+/// none is named at the table of ports. Where it `begins` there, the rule begins anew before.
 #[derive(Drop)]
 pub struct Rechecks<'a> {
     /// The models and the rules of the rows.
@@ -46,8 +47,8 @@ fn answers_all(
     }
 }
 
-/// Whether the rule answers of a configuration what is said. It is told of a move, and of configurations
-/// beside it, which it doesn't look at.
+/// Whether the rule answers of a configuration what is said. It is told of configurations beside it, which it
+/// doesn't look at.
 fn answers(alloc: Global, ctx: &Ctx, rule: &mut RecheckRule, asked: &Value) -> Result<bool, Fail>
     requires named { IsNamed ctx.now }
     requires fits { ⟦<RecheckRule as MoveRule>⟧.fits rule.old ctx.now.models }
@@ -59,16 +60,25 @@ fn answers(alloc: Global, ctx: &Ctx, rule: &mut RecheckRule, asked: &Value) -> R
         rule.begin(ctx);
     }
     let config = config_at(alloc, asked, "config")?;
-    let valid = allows(alloc, ctx, rule, &config)?;
+    let place = moved_place(alloc, asked)?;
+    let valid = allows(alloc, ctx, rule, &config, place);
     Ok(said == Some(valid) && rule.checked() == count)
 }
 
-/// What the rule answers of a configuration.
-fn allows(alloc: Global, ctx: &Ctx, rule: &mut RecheckRule, config: &Config) -> Result<bool, Fail>
+/// The place of the move that led to a configuration.
+fn moved_place(alloc: Global, asked: &Value) -> Result<Path, Fail> {
+    match asked.get("at") {
+        Some(_) => path_of(alloc, items_at(asked, "at")?),
+        None => Ok(Path::new(alloc, &["PORT"])?),
+    }
+}
+
+/// What the rule answers of a configuration, where a move at a place led to it.
+fn allows(alloc: Global, ctx: &Ctx, rule: &mut RecheckRule, config: &Config, place: Path) -> bool
     requires named { IsNamed ctx.now }
     requires fits { ⟦<RecheckRule as MoveRule>⟧.fits rule.old ctx.now.models }
     ensures fits { ⟦<RecheckRule as MoveRule>⟧.fits rule.new ctx.now.models }
 {
-    let mv = Move::Remove(Path::new(alloc, &["PORT"])?);
-    Ok(rule.allows(ctx, config, config, config, &mv))
+    let mv = Move::Remove(place);
+    rule.allows(ctx, config, config, config, &mv)
 }
