@@ -9,6 +9,7 @@ mod indexes;
 mod laws;
 mod parts;
 mod paths;
+mod places;
 mod pointers;
 mod reading;
 mod sameness;
