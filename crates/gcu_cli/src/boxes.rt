@@ -5,9 +5,9 @@ ghost use Rattle.host_core.specs.Names.{longest_scoped_name};
 ghost use Rattle.move_core.specs.Kinds.{AreOfKinds, extender_kinds, generator_kinds};
 ghost use Rattle.gcu_cli.specs.Obeying.{IsOutcomeOf};
 
-use gcu_engine::{Outcome, kit_extenders, kit_generators, kit_rules, run};
+use gcu_engine::{Outcome, run};
 use host_core::{Host, Memory, Txt};
-use move_core::{Boxes, Kit, MoveExt, MoveGen};
+use move_core::{Boxes, Kit, MoveExt, MoveGen, kit_extenders, kit_generators, kit_rules};
 use move_extend::{DeleteExt, ReferrersExt, RequiredExt, UpperExt};
 use move_gen::{FieldGen, ItemGen, KeyGen, SeedGen, TableGen};
 use move_rules::{CreateOnlyRule, NoDependencyRule, NoEmptyRule, RequiredRule};

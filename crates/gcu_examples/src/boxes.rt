@@ -3,9 +3,9 @@
 ghost use Rattle.std.specs.Prelude.{◌≡◌};
 ghost use Rattle.move_core.specs.Kinds.{AreOfKinds, extender_kinds, generator_kinds};
 
-use gcu_engine::{Outcome, kit_extenders, kit_generators, kit_rules, run};
+use gcu_engine::{Outcome, run};
 use host_core::{MemHost, Memory, Txt};
-use move_core::{Kit, MoveExt, MoveGen};
+use move_core::{Kit, MoveExt, MoveGen, kit_extenders, kit_generators, kit_rules};
 use move_extend::{DeleteExt, ReferrersExt, RequiredExt, UpperExt};
 use move_gen::{FieldGen, ItemGen, KeyGen, SeedGen, TableGen};
 use move_rules::{CreateOnlyRule, FullRule, NoDependencyRule, NoEmptyRule, RequiredRule};

@@ -4,9 +4,8 @@ ghost use Rattle.std.specs.Prelude.{◌≡◌};
 ghost use Rattle.move_core.specs.Kinds.{AreOfKinds, extender_kinds, generator_kinds};
 
 use command_runs::{Ran, Stop, run_stops};
-use gcu_engine::{kit_extenders, kit_generators, kit_rules};
 use host_core::{MemHost, Memory};
-use move_core::{Kit, MoveExt, MoveGen};
+use move_core::{Kit, MoveExt, MoveGen, kit_extenders, kit_generators, kit_rules};
 use move_extend::{DeleteExt, ReferrersExt, RequiredExt, UpperExt};
 use move_gen::{FieldGen, ItemGen, KeyGen, SeedGen, TableGen};
 use move_rules::{CreateOnlyRule, FullRule, NoDependencyRule, NoEmptyRule, RequiredRule};

@@ -6,6 +6,7 @@ mod contexts;
 mod errors;
 mod items;
 mod json_parts;
+mod kit_lists;
 mod kits;
 mod laws;
 mod listed_order;
@@ -20,6 +21,7 @@ mod steps;
 pub use boxes::{MoveExt, MoveGen, MoveRule};
 pub use contexts::Ctx;
 pub use errors::{RulesError, RulesWhy};
+pub use kit_lists::{kit_extenders, kit_generators, kit_rules};
 pub use kits::{Boxes, Kit};
 pub use laws::{
     listed_moves_are_defined, listed_moves_have_models, listed_order_is_total,

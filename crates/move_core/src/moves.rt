@@ -2,6 +2,7 @@
 ghost use Rattle.std.specs.Prelude.{◌≡◌, ◌↔◌, IfOk, IsTrue};
 ghost use Rattle.std.specs.Option.{option_copied};
 ghost use Rattle.move_core.specs.Moves.{index, new_part, new_text, place};
+ghost use Rattle.move_core.specs.Services.{table_of};
 
 use conf_doc::{Part, Path};
 use host_core::{Memory, Sequence, Txt};
@@ -54,6 +55,15 @@ impl Move {
             Move::AddItem(path, _, _) => path,
             Move::RemoveItem(path, _) => path,
         }
+    }
+
+    /// The name of the table that changes.
+    pub fn table(&self) -> &str
+        ensures { result.now ≡ table_of (place self.now) }
+    {
+        let place = self.place();
+        let _names = place.len();
+        place.name_at(0)
     }
 
     /// The index of the item, of an item's move.

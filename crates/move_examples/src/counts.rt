@@ -2,13 +2,16 @@
 ghost use Rattle.move_core.specs.Kinds.{AreOfKinds, generator_kinds, rule_kinds};
 ghost use Rattle.move_examples.specs.Situations.{IsReady};
 
-use crate::kits::{KitTable, kit_extenders, kit_generators, kit_rules};
+use crate::kits::KitTable;
 use crate::plans::{AMPLE, find_plan};
 use crate::situations::{Situation, situation_at};
 use conf_doc::Config;
 use example_rows::{Fail, Table, items_at, number_at};
 use host_core::Memory;
-use move_core::{Boxes, Ctx, Generated, Kit, Move, MoveExt, MoveGen, MoveRule};
+use move_core::{
+    Boxes, Ctx, Generated, Kit, Move, MoveExt, MoveGen, MoveRule, kit_extenders, kit_generators,
+    kit_rules,
+};
 use move_extend::{DeleteExt, ReferrersExt, RequiredExt, UpperExt};
 use move_gen::{FieldGen, ItemGen, KeyGen, SeedGen, TableGen};
 use move_rules::{CreateOnlyRule, FullRule, NoDependencyRule, NoEmptyRule, RequiredRule};

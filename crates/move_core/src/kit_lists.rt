@@ -3,8 +3,8 @@
 ghost use Rattle.std.specs.Prelude.{◌≡◌, IfOk};
 ghost use Rattle.move_core.specs.Kinds.{AreOfKinds, extender_kinds, generator_kinds, rule_kinds};
 
+use crate::{MoveExt, MoveGen, MoveRule};
 use host_core::Memory;
-use move_core::{MoveExt, MoveGen, MoveRule};
 use std::alloc::Global;
 
 /// The generators of a kit.
