@@ -5,6 +5,7 @@ pub mod Equalities
 pub mod Escapes
 pub mod Lists
 pub mod Names
+pub mod NestedValues
 pub mod JsonValues
 pub mod PartOrders
 pub mod TextReadings

@@ -1,5 +1,8 @@
 //! JSON texts as trees.
-ghost use Rattle.std.specs.Prelude.{◌≡◌, decimal};
+ghost use Rattle.std.specs.Prelude.{◌≡◌, IfOk, decimal};
+ghost use Rattle.std.specs.List.Sorted.{IsStrictlySortedBy};
+ghost use Rattle.std.specs.Map.{keys_of};
+ghost use Rattle.std.specs.String.{string_cmp};
 ghost use Rattle.host_core.specs.Answers.{Gives};
 ghost use Rattle.serde_json.specs.View.{view, items_view, members_view};
 ghost use Rattle.conf_doc.specs.Document.{items_of, members_of};
@@ -9,7 +12,7 @@ ghost use Rattle.conf_doc.specs.Stops.{located, stop_place};
 
 use crate::stops::Stop;
 use crate::{Items, Members, ReadError, Tree};
-use host_core::Txt;
+use host_core::{Memory, Txt};
 use serde_json::{Map, Value};
 use std::alloc::Global;
 
@@ -60,7 +63,7 @@ fn read_value(alloc: Global, value: Value) -> Result<Tree, Stop>
             Ok(items) => Ok(Tree::List(items)),
             Err(stop) => Err(stop),
         },
-        Value::Object(values) => match read_members(alloc, values) {
+        Value::Object(values) => match read_map(alloc, values) {
             Ok(members) => Ok(Tree::Map(members)),
             Err(stop) => Err(stop),
         },
@@ -94,10 +97,36 @@ fn read_item(alloc: Global, i: usize, value: Value) -> Result<Tree, Stop>
     }
 }
 
+/// The members of a map as a list. A walk over a map takes much of the stack, and none is open while the
+/// values are read, which may be nested 127 deep.
+#[inline(never)]
+fn listed(alloc: Global, map: Map<String, Value>) -> Result<Vec<(String, Value)>, Memory>
+    ensures members { IfOk result (λ v. v.items ≡ map.entries) }
+    ensures rising { IfOk result (λ v. IsStrictlySortedBy string_cmp (keys_of v.items)) }
+{
+    let mut members = Vec::with_capacity(alloc, map.len())?;
+    for member in map {
+        members.push(member)?;
+    }
+    Ok(members)
+}
+
 #[cycle(reading)]
-fn read_members(alloc: Global, values: Map<String, Value>) -> Result<Members, Stop>
+fn read_map(alloc: Global, values: Map<String, Value>) -> Result<Members, Stop>
     ensures { Gives members_of stop_place result
         (located (members_from (members_view values.entries))) }
+{
+    match listed(alloc, values) {
+        Ok(values) => read_members(alloc, values),
+        Err(Memory) => Err(Stop::Memory),
+    }
+}
+
+#[cycle(reading)]
+fn read_members(alloc: Global, values: Vec<(String, Value)>) -> Result<Members, Stop>
+    requires { IsStrictlySortedBy string_cmp (keys_of values.items) }
+    ensures { Gives members_of stop_place result
+        (located (members_from (members_view values.items))) }
 {
     let mut members = Vec::with_capacity(alloc, values.len())?;
     for (name, value) in values {
