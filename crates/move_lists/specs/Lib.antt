@@ -4,7 +4,6 @@ pub mod Firsts
 pub mod Parts
 -- what only private clauses cite
 pub mod MoveKeys
-pub mod Places
 pub mod Questions
 pub mod Ranking
 pub mod Reaches

@@ -7,7 +7,7 @@ use Rattle.std.specs.Ordering.{eq_by_cmp}
 use Rattle.std.specs.Cmp.Lexicographic.{nat_list_cmp_total}
 use Rattle.std.proofs.lemmas.Cmp.{tied_itself}
 use Rattle.host_core.specs.Names.{name_cmp}
-use Rattle.conf_doc.specs.Changes.{part_at, with_part, HasPlace}
+use Rattle.conf_doc.specs.Changes.{entry_at, part_at, with_part, HasPlace}
 use Rattle.conf_doc.specs.Pairs.{change_part, find, put, without}
 use Rattle.conf_doc.specs.declared.configuration.Config.{Config}
 use Rattle.conf_doc.specs.declared.configuration.Entry.{Entry}
@@ -191,23 +191,16 @@ fields_after c t k f e has =
 
 -- the fields of an entry that is there
 pub fields_before : (c : Config) (t k f : List ℕ) (e : Entry)
-    → Some (part.Entry e) ≡ part_at c (t ∷ k ∷ []) → part_at c (t ∷ k ∷ f ∷ []) ≡ option_map part.Value (find f e)
-fields_before c t k f e is = at (find t c) is
+    → Some e ≡ entry_at c t k → part_at c (t ∷ k ∷ f ∷ []) ≡ option_map part.Value (find f e)
+fields_before c t k f e is = at (find t c) ∙ ap (option_and_then of_entry) (sym is)
   where
     of_entry : Entry → Option Part
     of_entry d = option_map part.Value (find f d)
 
-    in_it : (o : Option Entry) → Some (part.Entry e) ≡ option_map part.Entry o → option_and_then of_entry o ≡ option_map part.Value (find f e)
-    in_it None h = absurd cc
-    in_it (Some d) h = ap of_entry (same_entry d h)
-      where
-        same_entry : (d : Entry) → Some (part.Entry e) ≡ Some (part.Entry d) → d ≡ e
-        same_entry d h = cc
-
-    at : (o : Option Table) → Some (part.Entry e) ≡ option_and_then (λ table. option_map part.Entry (find k table)) o
-        → option_and_then (λ table. option_and_then of_entry (find k table)) o ≡ option_map part.Value (find f e)
-    at None h = absurd cc
-    at (Some table) h = in_it (find k table) h
+    at : (o : Option Table) → option_and_then (λ table. option_and_then of_entry (find k table)) o
+        ≡ option_and_then of_entry (option_and_then (find k) o)
+    at None = refl
+    at (Some table) = refl
 
 -- each entry stays where one is given
 pub entry_stays_beside : (c : Config) (t k : List ℕ) (e : Entry) (u j : List ℕ)

@@ -3,7 +3,7 @@ use Rattle.std.proofs.Common.{◌≡◌, ◌≢◌, inl, inr, ℕ, List, [], ◌
 use Rattle.std.specs.List.{insert, remove as removed_at}
 use Rattle.std.proofs.lemmas.List.Edits.{length-insert, length-remove}
 use Rattle.std.specs.Option.{option_to_list}
-use Rattle.conf_doc.specs.Changes.{part_at, with_part, Fits, HasParent, HasPlace}
+use Rattle.conf_doc.specs.Changes.{entry_at, part_at, with_part, Fits, HasParent, HasPlace}
 use Rattle.conf_doc.specs.Pairs.{find}
 use Rattle.conf_doc.specs.declared.configuration.Config.{Config}
 use Rattle.conf_doc.specs.declared.configuration.Entry.{Entry}
@@ -19,6 +19,7 @@ use Rattle.move_core.specs.declared.settings.Settings.{Settings}
 use Rattle.move_core.proofs.DefinedMoves.{list_place}
 use Rattle.move_core.proofs.OperationResults.{list_there}
 use Rattle.plan_search.specs.Refusals.{ChangesPlace, FieldTest, GivesFields, HasRefused, IsField, IsOtherField, KeepsSettings}
+use Rattle.plan_search.proofs.NamedPlaces.{entry_there as found_entry}
 use Rattle.plan_search.proofs.FieldMoves.{entry_stays, entry_stays_beside, field_after, field_in_entry, fields_after, fields_before}
 
 -- a move that keeps the entries and changes fields of one which the settings refuse isn't allowed
@@ -160,7 +161,7 @@ module _ (cur : Config) (t k f : List ℕ) where
 
 module _ (cur : Config) (t k : List ℕ) (m : Move) (old new : Entry)
     (gives : GivesFields m new) (at : place m ≡ t ∷ k ∷ [])
-    (there : Some (part.Entry old) ≡ part_at cur (t ∷ k ∷ [])) where
+    (there : Some old ≡ entry_at cur t k) where
   abbrev after : Config
   after = with_part cur (t ∷ k ∷ []) (Some (part.Entry new))
 
@@ -170,7 +171,7 @@ module _ (cur : Config) (t k : List ℕ) (m : Move) (old new : Entry)
       ∙ ap (λ x. with_part cur (t ∷ k ∷ []) (part_after cur x)) gives.is
 
   has_entry : HasPlace cur (t ∷ k ∷ [])
-  has_entry = subst IsSome there refl
+  has_entry = (found_entry cur t k (Some old) there refl).1
 
   stays_beside : (u j : List ℕ) → HasPlace cur (u ∷ j ∷ []) → HasPlace (step cur m) (u ∷ j ∷ [])
   stays_beside u j has =

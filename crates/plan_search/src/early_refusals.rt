@@ -1,7 +1,6 @@
 //! What the settings refuse of a move of a field or of an entry's fields, told before the move's result is made.
-ghost use Rattle.std.specs.Prelude.{◌≡◌, ◌≢◌, ◌↔◌, [], ◌∷◌, IfSome, IsTrue, option_map};
+ghost use Rattle.std.specs.Prelude.{◌≡◌, ◌↔◌, [], ◌∷◌, IfSome, IsTrue};
 ghost use Rattle.conf_doc.specs.Changes.{part_at};
-ghost use Rattle.conf_doc.specs.declared.parts.Part.TheVariants as part;
 ghost use Rattle.move_core.specs.Extensions.{HasRequired};
 ghost use Rattle.move_core.specs.Moves.{IsDefined, place};
 ghost use Rattle.conf_doc.specs.Pairs.{find};
@@ -11,47 +10,11 @@ use conf_doc::{Config, Entry, Part, Value};
 use key_split::KeyView;
 use move_core::{Move, Required, Requiring, Settings};
 
-/// The entry of a table at a key.
-fn entry_at<'c>(config: &'c Config, table: &str, key: &str) -> Option<&'c Entry>
-    ensures { let at = table.now ∷ key.now ∷ [] in
-        option_map (λ e. part.Entry e.now) result ≡ part_at config.now at }
-{
-    match config.table(table) {
-        Some(table) => table.entry(key),
-        None => None,
-    }
-}
-
-/// The value of a field there.
-fn value_at<'c>(config: &'c Config, table: &str, key: &str, field: &str) -> Option<&'c Value>
-    ensures { let at = table.now ∷ key.now ∷ field.now ∷ [] in
-        option_map (λ v. part.Value v.now) result ≡ part_at config.now at }
-{
-    match config.table(table) {
-        Some(table) => match table.entry(key) {
-            Some(entry) => entry.field(field),
-            None => None,
-        },
-        None => None,
-    }
-}
-
-/// Whether two configurations differ at an entry.
-pub(crate) fn changes_entry(a: &Config, b: &Config, table: &str, key: &str) -> bool
-    ensures { IsTrue result → a.now ≢ b.now }
-{
-    match (entry_at(a, table, key), entry_at(b, table, key)) {
-        (Some(a), Some(b)) => !a.same(b),
-        (None, None) => false,
-        _ => true,
-    }
-}
-
 /// Whether a rule's field has the required value at a key. Absent it counts as having the default.
 fn has_required(rule: &Required, key: &str, config: &Config) -> bool
     ensures { IsTrue result ↔ HasRequired rule.now key.now config.now }
 {
-    match value_at(config, rule.table.as_str(), key, rule.field.as_str()) {
+    match config.value(rule.table.as_str(), key, rule.field.as_str()) {
         Some(Value::Text(text)) => text.as_str() == rule.value.as_str(),
         Some(Value::List(_)) => false,
         None => rule.default.as_str() == rule.value.as_str(),
@@ -62,7 +25,7 @@ fn has_required(rule: &Required, key: &str, config: &Config) -> bool
 fn lacks_required(rule: &Required, key: &str, config: &Config) -> bool
     ensures { IsTrue result → LacksRequired rule.now key.now config.now }
 {
-    entry_at(config, rule.table.as_str(), key).is_some() && !has_required(rule, key, config)
+    config.has_entry(rule.table.as_str(), key) && !has_required(rule, key, config)
 }
 
 /// Whether two values of a field are the same, or it is absent in both entries.
@@ -196,7 +159,7 @@ fn is_other_value(cur: &Config, part: &Part, table: &str, key: &str, field: &str
     ensures { let at = table.now ∷ key.now ∷ field.now ∷ [] in
         IsTrue result → ¬ (part_at cur.now at ≡ Some part.now) }
 {
-    match (value_at(cur, table, key, field), part) {
+    match (cur.value(table, key, field), part) {
         (Some(value), Part::Value(new)) => !value.same(new),
         _ => true,
     }
@@ -253,7 +216,7 @@ fn is_entry_refused(settings: &Settings, cur: &Config, mv: &Move, table: &str, k
     let Some(new) = new_fields(mv) else {
         return false;
     };
-    match entry_at(cur, table, key) {
+    match cur.entry(table, key) {
         Some(old) => has_refused(settings, cur, key, &OtherFields { table, old, new }),
         None => false,
     }

@@ -6,7 +6,7 @@ ghost use Rattle.move_lists.specs.Firsts.{AreFirstsOf};
 ghost use Rattle.plan_search.specs.Kits.{move_problem, moves_lawful};
 ghost use Rattle.plan_search.specs.Searches.{IsSearchAnswer};
 
-use crate::early_refusals::{changes_entry, is_refused};
+use crate::early_refusals::is_refused;
 use crate::expanding::Expanding;
 use crate::goals::goal_of_start;
 use crate::hashed::Hashed;
@@ -116,7 +116,7 @@ fn is_same(cur: &Config, next: &Config, mv: &Move) -> bool
     ensures { IsTrue result ↔ (next.now ≡ cur.now) }
 {
     let place = mv.place();
-    if place.len() > 1 && changes_entry(cur, next, place.name_at(0), place.name_at(1)) {
+    if place.len() > 1 && !cur.agrees_at_entry(next, place.name_at(0), place.name_at(1)) {
         return false;
     }
     next.same(cur)

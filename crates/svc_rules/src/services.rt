@@ -1,7 +1,6 @@
 //! The services that the rules file ties to the table of a move.
 ghost use Rattle.std.specs.Prelude.{◌≡◌, IfOk};
-ghost use Rattle.move_core.specs.Services.{is_tied, services_of, table_of, tied_from};
-ghost use Rattle.move_core.specs.Moves.{place};
+ghost use Rattle.move_core.specs.Services.{is_tied, services_of, tied_from};
 
 use host_core::{Memory, Sequence};
 use move_core::{Move, ServiceTie, Settings};
@@ -14,16 +13,7 @@ pub type Services = Sequence<usize>;
 pub fn services_of(alloc: Global, settings: &Settings, mv: &Move) -> Result<Services, Memory>
     ensures { IfOk result (λ s. s ≡ services_of settings.now mv.now) }
 {
-    tied_services(alloc, settings.services.items(), table_of(mv))
-}
-
-/// The table that a move changes.
-fn table_of(mv: &Move) -> &str
-    ensures { result.now ≡ table_of (place mv.now) }
-{
-    let place = mv.place();
-    let _names = place.len();
-    place.name_at(0)
+    tied_services(alloc, settings.services.items(), mv.table())
 }
 
 /// Whether the service is tied to the table.
