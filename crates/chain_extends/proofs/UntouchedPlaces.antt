@@ -6,7 +6,7 @@ use Rattle.std.specs.Ordering.{eq_by_cmp}
 use Rattle.std.specs.Cmp.Lexicographic.{nat_list_cmp_total}
 use Rattle.std.proofs.lemmas.Cmp.{tied_itself}
 use Rattle.host_core.specs.Names.{name_cmp}
-use Rattle.conf_doc.specs.Changes.{with_part}
+use Rattle.conf_doc.specs.Changes.{entry_at, value_at, with_part}
 use Rattle.conf_doc.specs.Pairs.{change_part, find, put, without}
 use Rattle.conf_doc.specs.declared.configuration.Config.{Config}
 use Rattle.conf_doc.specs.declared.configuration.Entry.{Entry}
@@ -16,7 +16,6 @@ use Rattle.conf_doc.specs.declared.parts.Part.TheVariants as part
 use Rattle.conf_doc.proofs.Edits.{same_name}
 use Rattle.move_core.specs.Moves.{Place}
 use Rattle.move_core.specs.Services.{table_of}
-use Rattle.chain_extends.specs.Entries.{entry_of, value_of}
 
 -- ---- names
 
@@ -91,10 +90,10 @@ in_table : (j : List ℕ) (f : Table → Table) → ((table : Table) → find j 
 in_table j f leaves None = refl
 in_table j f leaves (Some table) = leaves table
 
-changed_table : (c : Config) (t j : List ℕ) (f : Table → Table) → ((table : Table) → find j (f table) ≡ find j table) → entry_of (change_part t f c) t j ≡ entry_of c t j
+changed_table : (c : Config) (t j : List ℕ) (f : Table → Table) → ((table : Table) → find j (f table) ≡ find j table) → entry_at (change_part t f c) t j ≡ entry_at c t j
 changed_table c t j f leaves = ap (option_and_then (find j)) (changed_there t f c (find t c) refl) ∙ in_table j f leaves (find t c)
 
-pub other_key : (c : Config) (t k : List ℕ) (rest : Place) (x : Option Part) (j : List ℕ) → j ≢ k → entry_of (with_part c (t ∷ k ∷ rest) x) t j ≡ entry_of c t j
+pub other_key : (c : Config) (t k : List ℕ) (rest : Place) (x : Option Part) (j : List ℕ) → j ≢ k → entry_at (with_part c (t ∷ k ∷ rest) x) t j ≡ entry_at c t j
 other_key c t k [] None j other = changed_table c t j (without k) (find-without j k other)
 other_key c t k [] (Some (part.Table table)) j other = refl
 other_key c t k [] (Some (part.Entry e)) j other = changed_table c t j (put k e) (find-put_other j k other e)
@@ -107,7 +106,7 @@ other_key c t k (f ∷ n ∷ ns) x j other = refl
 
 -- ---- the move's own key
 
-changed_entry : (c : Config) (t k : List ℕ) (g : Entry → Entry) → entry_of (change_part t (change_part k g) c) t k ≡ option_map g (entry_of c t k)
+changed_entry : (c : Config) (t k : List ℕ) (g : Entry → Entry) → entry_at (change_part t (change_part k g) c) t k ≡ option_map g (entry_at c t k)
 changed_entry c t k g = ap (option_and_then (find k)) (changed_there t (change_part k g) c (find t c) refl) ∙ inside (find t c)
   where
     inside : (o : Option Table) → option_and_then (find k) (option_map (change_part k g) o) ≡ option_map g (option_and_then (find k) o)
@@ -118,10 +117,10 @@ mapped : {A B : Type 0} (g : A → B) (o : Option A) → IsSome o → IsSome (op
 mapped g None has = has
 mapped g (Some a) has = refl
 
-changed_stays : (c : Config) (t k : List ℕ) (g : Entry → Entry) → IsSome (entry_of c t k) → IsSome (entry_of (change_part t (change_part k g) c) t k)
-changed_stays c t k g has = subst IsSome (sym (changed_entry c t k g)) (mapped g (entry_of c t k) has)
+changed_stays : (c : Config) (t k : List ℕ) (g : Entry → Entry) → IsSome (entry_at c t k) → IsSome (entry_at (change_part t (change_part k g) c) t k)
+changed_stays c t k g has = subst IsSome (sym (changed_entry c t k g)) (mapped g (entry_at c t k) has)
 
-put_stays : (c : Config) (t k : List ℕ) (e : Entry) → IsSome (entry_of c t k) → IsSome (entry_of (change_part t (put k e) c) t k)
+put_stays : (c : Config) (t k : List ℕ) (e : Entry) → IsSome (entry_at c t k) → IsSome (entry_at (change_part t (put k e) c) t k)
 put_stays c t k e has = subst IsSome (sym (ap (option_and_then (find k)) (changed_there t (put k e) c (find t c) refl))) (inside (find t c) has)
   where
     inside : (o : Option Table) → IsSome (option_and_then (find k) o) → IsSome (option_and_then (find k) (option_map (put k e) o))
@@ -129,8 +128,8 @@ put_stays c t k e has = subst IsSome (sym (ap (option_and_then (find k)) (change
     inside (Some table) there = subst IsSome (sym (found_put k e table)) refl
 
 -- an entry stays where a field of it is changed, or it is put
-pub own_key : (c : Config) (t k : List ℕ) (rest : Place) (x : Option Part) → (length rest ≡ 0 → IsSome x) → IsSome (entry_of c t k)
-    → IsSome (entry_of (with_part c (t ∷ k ∷ rest) x) t k)
+pub own_key : (c : Config) (t k : List ℕ) (rest : Place) (x : Option Part) → (length rest ≡ 0 → IsSome x) → IsSome (entry_at c t k)
+    → IsSome (entry_at (with_part c (t ∷ k ∷ rest) x) t k)
 own_key c t k [] None some has = let none = some refl in absurd cc
 own_key c t k [] (Some (part.Table table)) some has = has
 own_key c t k [] (Some (part.Entry e)) some has = put_stays c t k e has
@@ -143,14 +142,14 @@ own_key c t k (f ∷ n ∷ ns) x some has = has
 
 -- ---- other fields
 
-changed_field : (c : Config) (t k g : List ℕ) (h : Entry → Entry) → ((e : Entry) → find g (h e) ≡ find g e) → value_of (change_part t (change_part k h) c) t k g ≡ value_of c t k g
-changed_field c t k g h leaves = ap (option_and_then (find g)) (changed_entry c t k h) ∙ inside (entry_of c t k)
+changed_field : (c : Config) (t k g : List ℕ) (h : Entry → Entry) → ((e : Entry) → find g (h e) ≡ find g e) → value_at (change_part t (change_part k h) c) t k g ≡ value_at c t k g
+changed_field c t k g h leaves = ap (option_and_then (find g)) (changed_entry c t k h) ∙ inside (entry_at c t k)
   where
     inside : (o : Option Entry) → option_and_then (find g) (option_map h o) ≡ option_and_then (find g) o
     inside None = refl
     inside (Some e) = leaves e
 
-pub other_field : (c : Config) (t k f : List ℕ) (ns : Place) (x : Option Part) (g : List ℕ) → g ≢ f → value_of (with_part c (t ∷ k ∷ f ∷ ns) x) t k g ≡ value_of c t k g
+pub other_field : (c : Config) (t k f : List ℕ) (ns : Place) (x : Option Part) (g : List ℕ) → g ≢ f → value_at (with_part c (t ∷ k ∷ f ∷ ns) x) t k g ≡ value_at c t k g
 other_field c t k f [] None g other = changed_field c t k g (without f) (find-without g f other)
 other_field c t k f [] (Some (part.Table table)) g other = refl
 other_field c t k f [] (Some (part.Entry e)) g other = refl

@@ -5,7 +5,6 @@ ghost use Rattle.move_core.specs.Moves.{place};
 ghost use Rattle.move_core.specs.Services.{table_of};
 ghost use Rattle.chain_extends.specs.KeptKeys.{HasKeys, KeepsAlways, KeepsKey, KeepsKeys};
 
-use crate::entries::{has_entry, table_of};
 use conf_doc::{Config, Table};
 use move_core::Move;
 
@@ -23,7 +22,7 @@ pub(crate) fn keeps_always(mv: &Move) -> bool
 fn keeps_key(cur: &Config, next: &Config, table: &str, key: &str) -> bool
     ensures { IsTrue result ↔ KeepsKey cur.now next.now table.now key.now }
 {
-    !has_entry(cur, table, key) || has_entry(next, table, key)
+    !cur.has_entry(table, key) || next.has_entry(table, key)
 }
 
 /// Whether next has each key of a table.
@@ -31,7 +30,7 @@ fn has_keys(next: &Config, table: &str, entries: &Table) -> bool
     ensures { IsTrue result → HasKeys next.now table.now (map (λ e. e.0) entries.now) }
 {
     for i in 0..entries.len() {
-        if !has_entry(next, table, entries.name_at(i)) {
+        if !next.has_entry(table, entries.name_at(i)) {
             return false;
         }
     }
@@ -55,8 +54,8 @@ pub(crate) fn keeps_keys(cur: &Config, next: &Config, mv: &Move) -> bool
 {
     let place = mv.place();
     if place.len() > 1 {
-        keeps_key(cur, next, table_of(mv), place.name_at(1))
+        keeps_key(cur, next, mv.table(), place.name_at(1))
     } else {
-        keeps_table(cur, next, table_of(mv))
+        keeps_table(cur, next, mv.table())
     }
 }

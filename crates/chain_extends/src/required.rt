@@ -11,7 +11,6 @@ ghost use Rattle.chain_extends.specs.Found.{Finds, GivenByOne};
 ghost use Rattle.chain_extends.specs.Requireds.{GivesAt, GivesIn, GivesValue, RuleGives, RulesGive, TableGives, is_field_at, may_change, may_change_one};
 
 use crate::changes::Change;
-use crate::entries::table_of;
 use crate::found::add_move;
 use crate::required_values::{differs, lacks_value, put_value};
 use conf_doc::{Config, Path, Table};
@@ -184,7 +183,7 @@ fn add_values(
 {
     let rules = ctx.settings.required.items();
     let place = mv.place();
-    let table = table_of(mv);
+    let table = mv.table();
     if place.len() > 1 {
         add_rules(alloc, change, rules, table, place.name_at(1), found)
     } else {

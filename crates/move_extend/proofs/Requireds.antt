@@ -7,7 +7,7 @@ use Rattle.std.specs.Ordering.{eq_by_cmp}
 use Rattle.std.specs.Str.{bytes_eq}
 use Rattle.std.proofs.lemmas.List.Folds.{list_any-from_Any}
 use Rattle.host_core.specs.Names.{name_cmp}
-use Rattle.conf_doc.specs.Changes.{part_at, with_part, HasPlace}
+use Rattle.conf_doc.specs.Changes.{entry_at, part_at, with_part, HasPlace}
 use Rattle.conf_doc.specs.Pairs.{find}
 use Rattle.conf_doc.specs.declared.configuration.Config.{Config}
 use Rattle.conf_doc.specs.declared.configuration.Table.{Table}
@@ -22,7 +22,7 @@ use Rattle.move_core.specs.declared.contexts.Ctx.{Ctx}
 use Rattle.move_core.specs.declared.moves.Move.{Move}
 use Rattle.move_core.specs.declared.settings.Required.{Required}
 use Rattle.move_core.specs.declared.settings.Requiring.{Requiring}
-use Rattle.move_extend.specs.Entries.{entry_of, requiring_place}
+use Rattle.move_extend.specs.Entries.{requiring_place}
 use Rattle.move_extend.specs.Found.{Finds}
 use Rattle.move_extend.specs.Requireds.{Differs, GivesAt, GivesValue, LacksValue, RulesGive, TableGives, is_field_at, may_change, may_change_one}
 use Rattle.move_extend.specs.declared.changes.Change.{Change}
@@ -30,7 +30,7 @@ use Rattle.move_extend.proofs.AtKeys.{by_key, by_table, found_key, same_entry, s
 use Rattle.move_extend.proofs.DistinctLists.{finds_as}
 use Rattle.move_extend.proofs.UntouchedPlaces.{apart_by, other_field, other_key, same_by}
 
-same_place : (a b : Config) (t key : List ℕ) (field : Option (List ℕ)) → entry_of a t key ≡ entry_of b t key
+same_place : (a b : Config) (t key : List ℕ) (field : Option (List ℕ)) → entry_at a t key ≡ entry_at b t key
     → part_at a (t ∷ key ∷ option_to_list field) ≡ part_at b (t ∷ key ∷ option_to_list field)
 same_place a b t key None e = same_entry a b t key e
 same_place a b t key (Some f) e = same_field a b t key f e
@@ -147,14 +147,14 @@ module _ (ctx : Ctx) (c : Change) (m x : Move) (t : List ℕ) (models : c.models
         subst (λ n. part_at c.cur.now (requiring_place q key) ≢ part_at n (requiring_place q key)) (sym is)
         (subst (λ p. part_at c.cur.now p ≢ part_at (step c.cur.now m) p) required.changes.requires.is required.changes.differs)
 
-    changed : entry_of c.cur.now q.table key ≢ entry_of c.next.now q.table key
+    changed : entry_at c.cur.now q.table key ≢ entry_at c.next.now q.table key
     changed same = differs (same_place c.cur.now c.next.now q.table key q.field same)
 
     in_table : q.table ≡ t
     in_table = elim (by_table c.cur.now c.next.now m t is at q.table key) [ inl same ↦ absurd (changed same) | inr table ↦ table ]
 
-    changed_there : entry_of c.cur.now t key ≢ entry_of c.next.now t key
-    changed_there = subst (λ u. entry_of c.cur.now u key ≢ entry_of c.next.now u key) in_table changed
+    changed_there : entry_at c.cur.now t key ≢ entry_at c.next.now t key
+    changed_there = subst (λ u. entry_at c.cur.now u key ≢ entry_at c.next.now u key) in_table changed
 
     given_there : RulesGive c ctx.settings.required t key x
     given_there = record {
@@ -189,14 +189,14 @@ module _ (ctx : Ctx) (c : Change) (m x : Move) (t : List ℕ) (models : c.models
       | inr same ↦ subst (λ n. RulesGive c ctx.settings.required t n x) same given_there
     ]
 
-    either : (a b : Bool) → is_some (entry_of c.cur.now t key) ≡ a → is_some (entry_of c.next.now t key) ≡ b
+    either : (a b : Bool) → is_some (entry_at c.cur.now t key) ≡ a → is_some (entry_at c.next.now t key) ≡ b
         → TableGives c ctx.settings.required t (find t c.cur.now) x ⊎ TableGives c ctx.settings.required t (find t c.next.now) x
     either true b first second = inl (at_key c ctx.settings.required t key x (find t c.cur.now) first given_there)
     either false true first second = inr (at_key c ctx.settings.required t key x (find t c.next.now) second given_there)
     either false false first second = absurd (changed_there (none_is _ first ∙ sym (none_is _ second)))
 
     given_in : TableGives c ctx.settings.required t (find t c.cur.now) x ⊎ TableGives c ctx.settings.required t (find t c.next.now) x
-    given_in = either (is_some (entry_of c.cur.now t key)) (is_some (entry_of c.next.now t key)) refl refl
+    given_in = either (is_some (entry_at c.cur.now t key)) (is_some (entry_at c.next.now t key)) refl refl
 
   -- where the place names a key, all is given there
   pub required_at : (k : List ℕ) → slice_get (place m) 1 ≡ Some k → RulesGive c ctx.settings.required t k x ↔ IsRequired (rulebook ctx) c.cur.now m x

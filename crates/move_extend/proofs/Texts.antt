@@ -1,6 +1,7 @@
 -- The text of a want is one of its entry's texts.
 use Rattle.std.proofs.Common.{◌≡◌, inl, inr, ℕ, zero, suc, List, [], ◌∷◌, Bool, true, false, cond, map, slice_get, Contains, Option, Some, None, option_map, option_and_then, is_some, refl, sym, ap, ◌∙◌, subst}
 use Rattle.std.proofs.lemmas.Option.{slice_get-map}
+use Rattle.conf_doc.specs.Changes.{entry_at}
 use Rattle.conf_doc.specs.Pairs.{IsRising, find}
 use Rattle.conf_doc.specs.WellFormed.{IsConfig, IsTable}
 use Rattle.conf_doc.specs.declared.configuration.Config.{Config}
@@ -18,7 +19,6 @@ use Rattle.yang_model.specs.declared.shapes.KeyLeaf.{KeyLeaf}
 use Rattle.yang_model.specs.declared.shapes.Shape.{Shape}
 use Rattle.yang_types.specs.DataType.{DataType}
 use Rattle.yang_types.specs.DataTypes.{data_type}
-use Rattle.move_extend.specs.Entries.{entry_of}
 use Rattle.move_extend.specs.Mentions.{BreaksOnly, GivesOfEntry, HasFieldText, HasText, Mentions, texts_of_value}
 use Rattle.move_extend.specs.declared.changes.Change.{Change}
 use Rattle.move_core.specs.declared.moves.Move.{Move}
@@ -42,7 +42,7 @@ finds_part ps i p rising at =
     ∙ slice_get-map (λ q. q.1) ps i ∙ ap (option_map (λ q. q.1)) at
 
 -- the entry at positions is found by its names
-pub entry_stands : (c : Config) (i j : ℕ) (t : List ℕ × Table) (e : List ℕ × Entry) → IsConfig c → slice_get c i ≡ Some t → slice_get t.1 j ≡ Some e → entry_of c t.0 e.0 ≡ Some e.1
+pub entry_stands : (c : Config) (i j : ℕ) (t : List ℕ × Table) (e : List ℕ × Entry) → IsConfig c → slice_get c i ≡ Some t → slice_get t.1 j ≡ Some e → entry_at c t.0 e.0 ≡ Some e.1
 entry_stands c i j t e well at at_key =
     let formed : IsTable t.1 = part_at IsTable c i t well.parts at in
     ap (option_and_then (find e.0)) (finds_part c i t well.shaped.rising at) ∙ finds_part t.1 j e formed.shaped.rising at_key
@@ -126,7 +126,7 @@ module _ (models : ModelSet) (c : Config) (w : Want) where
   wanted_text shape row (Some j) i wanted = inr (field_text row.fields j i shape (slice_get row.fields j) refl wanted)
 
 -- an entry of which a broken want is has one of the texts
-pub mentioned : (c : Change) (t u k : List ℕ) (fields : Entry) (parts : List (List ℕ)) (x : Move) → IsConfig c.cur.now → entry_of c.cur.now u k ≡ Some fields → BreaksOnly c t parts
+pub mentioned : (c : Change) (t u k : List ℕ) (fields : Entry) (parts : List (List ℕ)) (x : Move) → IsConfig c.cur.now → entry_at c.cur.now u k ≡ Some fields → BreaksOnly c t parts
     → GivesOfEntry c t u k x → Mentions parts k fields
 mentioned c t u k fields parts x well there only gives =
     let given = gives.given in
@@ -137,7 +137,7 @@ mentioned c t u k fields parts x well there only gives =
     let at_key : slice_get at.entries given.at.key ≡ Some (row.key, row.fields) =
     subst (λ (p : List ℕ × Table). slice_get p.1 given.at.key ≡ Some (row.key, row.fields)) (sym tables) stands.at_key in
     let entries : (row.key, row.fields) ≡ (k, at.fields) = same_Some (row.key, row.fields) (k, at.fields) (sym at_key ∙ at.at_key) in
-    let found : entry_of c.cur.now u k ≡ Some at.fields = entry_stands c.cur.now given.at.table given.at.key (u, at.entries) (k, at.fields) well at.at at.at_key in
+    let found : entry_at c.cur.now u k ≡ Some at.fields = entry_stands c.cur.now given.at.table given.at.key (u, at.entries) (k, at.fields) well at.at at.at_key in
     let same : at.fields ≡ fields = same_Some at.fields fields (sym found ∙ there) in
     let has : HasText row.key row.fields given.want.text = wanted_text c.models.now c.cur.now given.want given.wanted.shape row given.at.field given.at.item given.wanted.wanted in
     record {

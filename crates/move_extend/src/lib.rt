@@ -3,7 +3,6 @@
 
 mod changes;
 mod delete;
-mod entries;
 mod found;
 mod kept_keys;
 mod mentions;

@@ -1,6 +1,7 @@
 //! The extender of referrers.
 ghost use Rattle.std.specs.Prelude.{◌≡◌, ◌↔◌, [], map, Some, IfOk, IsSome, IsTrue, OnOk};
 ghost use Rattle.conf_check.specs.Wants.{want_of};
+ghost use Rattle.conf_doc.specs.Changes.{entry_at};
 ghost use Rattle.conf_doc.specs.Pairs.{find};
 ghost use Rattle.conf_doc.specs.Paths.{IsPath};
 ghost use Rattle.move_core.specs.Appends.{Appends};
@@ -8,13 +9,11 @@ ghost use Rattle.move_core.specs.Contexts.{rulebook};
 ghost use Rattle.move_core.specs.Extensions.{IsReferrer};
 ghost use Rattle.move_core.specs.Moves.{IsDefined, list_at};
 ghost use Rattle.key_split.specs.Key.{key_parts};
-ghost use Rattle.move_extend.specs.Entries.{entry_of};
 ghost use Rattle.move_extend.specs.Found.{Finds};
 ghost use Rattle.move_extend.specs.Mentions.{BreaksOnly, GivesOfChange, GivesOfEntry, GivesOfTable, IsRemovalOf, texts_of};
 ghost use Rattle.move_extend.specs.Referrers.{AddsRemoval, GivesRemovals, IsBroken, place_of, removal_of};
 
 use crate::changes::Change;
-use crate::entries::table_of;
 use crate::found::{add_move, add_unless_last, append_moves};
 use crate::kept_keys::{keeps_always, keeps_keys};
 use crate::mentions::{Gone, mentions_one, parts_of};
@@ -196,7 +195,7 @@ fn find_in_mentioning(
     fields: &Entry,
     found: &mut Moves,
 ) -> Result<(), Memory>
-    requires entry { entry_of change.now.cur.now table.now key.now ≡ Some fields.now }
+    requires entry { entry_at change.now.cur.now table.now key.now ≡ Some fields.now }
     requires only { BreaksOnly change.now gone.now.table.now (texts_of gone.now) }
     ensures { let Gives = GivesOfEntry change.now gone.now.table.now table.now key.now in
         OnOk result (Finds Gives found.old found.new) }
@@ -284,7 +283,7 @@ fn removals_of(alloc: Global, ctx: &Ctx, cur: &Config, mv: &Move) -> Result<Move
         return Ok(Moves::new(alloc));
     }
     let models = &ctx.models;
-    let table = table_of(mv);
+    let table = mv.table();
     if !is_referred(models, cur, table) {
         return Ok(Moves::new(alloc));
     }

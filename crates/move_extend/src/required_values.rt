@@ -6,7 +6,6 @@ ghost use Rattle.move_core.specs.Named.{HasRequiredNames};
 ghost use Rattle.move_extend.specs.Requireds.{Differs, LacksValue};
 
 use crate::changes::Change;
-use crate::entries::{agrees_at_entry, agrees_at_field, has_entry, value_at};
 use conf_doc::{Config, Part, Path, Value};
 use host_core::Memory;
 use move_core::{Move, Required, Requiring};
@@ -16,7 +15,7 @@ use std::alloc::Global;
 fn has_required(rule: &Required, key: &str, config: &Config) -> bool
     ensures { IsTrue result ↔ HasRequired rule.now key.now config.now }
 {
-    match value_at(config, rule.table.as_str(), key, rule.field.as_str()) {
+    match config.value(rule.table.as_str(), key, rule.field.as_str()) {
         Some(Value::Text(text)) => text.as_str() == rule.value.as_str(),
         Some(Value::List(_)) => false,
         None => rule.default.as_str() == rule.value.as_str(),
@@ -29,8 +28,10 @@ pub(crate) fn differs(change: &Change, requiring: &Requiring, key: &str) -> bool
 {
     let table = requiring.table.as_str();
     match &requiring.field {
-        Some(field) => !agrees_at_field(change.cur, change.next, table, key, field.as_str()),
-        None => !agrees_at_entry(change.cur, change.next, table, key),
+        Some(field) => !change
+            .cur
+            .agrees_at_field(change.next, table, key, field.as_str()),
+        None => !change.cur.agrees_at_entry(change.next, table, key),
     }
 }
 
@@ -40,8 +41,8 @@ pub(crate) fn lacks_value(change: &Change, rule: &Required, key: &str) -> bool
 {
     let table = rule.table.as_str();
     change.models.modelled(table)
-        && has_entry(change.cur, table, key)
-        && has_entry(change.next, table, key)
+        && change.cur.has_entry(table, key)
+        && change.next.has_entry(table, key)
         && !has_required(rule, key, change.cur)
 }
 
@@ -62,7 +63,7 @@ pub(crate) fn put_value(
     let field = rule.field.as_str();
     let path = Path::new(alloc, &[table, key, field])?;
     let part = Part::Value(Value::Text(rule.value.copy(alloc)?));
-    if value_at(cur, table, key, field).is_some() {
+    if cur.value(table, key, field).is_some() {
         Ok(Move::Replace(path, part))
     } else {
         Ok(Move::Add(path, part))

@@ -1,11 +1,9 @@
 //! The extender of the place above.
 ghost use Rattle.std.specs.Prelude.{◌≡◌, option_map, IfOk};
-ghost use Rattle.conf_doc.specs.Changes.{part_at};
 ghost use Rattle.move_core.specs.Extensions.{as_in_goal, upper, upper_place};
 
-use crate::entries::{copy_entry, copy_table, copy_value, entry_at, value_at};
 use crate::found::append_move;
-use conf_doc::{Config, Part, Path};
+use conf_doc::{Config, Path};
 use host_core::Memory;
 use move_core::{Ctx, Move, MoveExt};
 use std::alloc::Global;
@@ -68,25 +66,11 @@ fn upper_place(alloc: Global, mv: &Move) -> Result<Option<Path>, Memory>
     }
 }
 
-/// A copy of what stands at a place.
-fn copy_at(alloc: Global, config: &Config, place: &Path) -> Result<Option<Part>, Memory>
-    ensures { IfOk result (λ p. p ≡ part_at config.now place.now) }
-{
-    match place.len() {
-        1 => copy_table(alloc, config.table(place.name_at(0))),
-        2 => copy_entry(alloc, entry_at(config, place.name_at(0), place.name_at(1))),
-        _ => copy_value(
-            alloc,
-            value_at(config, place.name_at(0), place.name_at(1), place.name_at(2)),
-        ),
-    }
-}
-
 /// The place becomes as in goal: its part there, or nothing where goal lacks it.
 fn as_in_goal(alloc: Global, goal: &Config, place: Path) -> Result<Move, Memory>
     ensures { IfOk result (λ m. m ≡ as_in_goal goal.now place) }
 {
-    match copy_at(alloc, goal, &place)? {
+    match goal.copy_at(alloc, &place)? {
         Some(part) => Ok(Move::Replace(place, part)),
         None => Ok(Move::Remove(place)),
     }

@@ -2,7 +2,7 @@
 use Rattle.std.proofs.Common.{◌≡◌, ℕ, zero, suc, List, [], ◌∷◌, true, false, cond, map, slice_get, Contains, Option, Some, None, option_map, option_and_then, IsSome, ◌⊎◌, inl, inr, refl, sym, ap, ◌∙◌, subst, arith}
 use Rattle.std.specs.Ordering.{eq_by_cmp}
 use Rattle.host_core.specs.Names.{name_cmp}
-use Rattle.conf_doc.specs.Changes.{part_at, with_part, HasPlace}
+use Rattle.conf_doc.specs.Changes.{entry_at, part_at, with_part, HasPlace}
 use Rattle.conf_doc.specs.Pairs.{find}
 use Rattle.conf_doc.specs.declared.configuration.Config.{Config}
 use Rattle.conf_doc.specs.declared.configuration.Entry.{Entry}
@@ -11,7 +11,7 @@ use Rattle.conf_doc.specs.declared.parts.Part.TheVariants as part
 use Rattle.move_core.specs.Moves.{Place, part_after, place, step}
 use Rattle.move_core.specs.Services.{table_of}
 use Rattle.move_core.specs.declared.moves.Move.{Move}
-use Rattle.move_rules.specs.Entries.{AreAll, AreKeys, entry_of}
+use Rattle.move_rules.specs.Entries.{AreAll, AreKeys}
 use Rattle.move_rules.proofs.UntouchedPlaces.{apart_by, other_key, other_table, same_by}
 
 -- ---- items
@@ -60,10 +60,10 @@ field_part : (k f : List ℕ) (o : Option Table)
 field_part k f None = refl
 field_part k f (Some table) = refl
 
-pub same_entry : (a b : Config) (t k : List ℕ) → entry_of a t k ≡ entry_of b t k → part_at a (t ∷ k ∷ []) ≡ part_at b (t ∷ k ∷ [])
+pub same_entry : (a b : Config) (t k : List ℕ) → entry_at a t k ≡ entry_at b t k → part_at a (t ∷ k ∷ []) ≡ part_at b (t ∷ k ∷ [])
 same_entry a b t k e = entry_part k (find t a) ∙ ap (option_map part.Entry) e ∙ sym (entry_part k (find t b))
 
-pub same_field : (a b : Config) (t k f : List ℕ) → entry_of a t k ≡ entry_of b t k → part_at a (t ∷ k ∷ f ∷ []) ≡ part_at b (t ∷ k ∷ f ∷ [])
+pub same_field : (a b : Config) (t k f : List ℕ) → entry_at a t k ≡ entry_at b t k → part_at a (t ∷ k ∷ f ∷ []) ≡ part_at b (t ∷ k ∷ f ∷ [])
 same_field a b t k f e =
     field_part k f (find t a) ∙ ap (option_and_then (λ entry. option_map part.Value (find f entry))) e ∙ sym (field_part k f (find t b))
 
@@ -71,15 +71,15 @@ mapped_some : (o : Option Entry) → IsSome (option_map part.Entry o) → IsSome
 mapped_some None h = h
 mapped_some (Some e) h = refl
 
-pub there : (c : Config) (t k : List ℕ) → HasPlace c (t ∷ k ∷ []) → IsSome (entry_of c t k)
-there c t k has = mapped_some (entry_of c t k) (subst IsSome (entry_part k (find t c)) has)
+pub there : (c : Config) (t k : List ℕ) → HasPlace c (t ∷ k ∷ []) → IsSome (entry_at c t k)
+there c t k has = mapped_some (entry_at c t k) (subst IsSome (entry_part k (find t c)) has)
 
 -- ---- what a move leaves
 
 -- an entry is as it was, or it lies in the move's table
-pub by_table : (cur next : Config) (m : Move) (t : List ℕ) → next ≡ step cur m → t ≡ table_of (place m) → (u k : List ℕ) → (entry_of cur u k ≡ entry_of next u k) ⊎ (u ≡ t)
+pub by_table : (cur next : Config) (m : Move) (t : List ℕ) → next ≡ step cur m → t ≡ table_of (place m) → (u k : List ℕ) → (entry_at cur u k ≡ entry_at next u k) ⊎ (u ≡ t)
 by_table cur next m t is at u k =
-    elim (eq_by_cmp name_cmp u t) as (λ b. eq_by_cmp name_cmp u t ≡ b → (entry_of cur u k ≡ entry_of next u k) ⊎ (u ≡ t)) [
+    elim (eq_by_cmp name_cmp u t) as (λ b. eq_by_cmp name_cmp u t ≡ b → (entry_at cur u k ≡ entry_at next u k) ⊎ (u ≡ t)) [
       | true ↦ λ e. inr (same_by u t e)
       | false ↦ λ e.
           inl (sym (ap (option_and_then (find k))
@@ -92,16 +92,16 @@ HasKeyName p k = (t : List ℕ) × (rest : Place) × (p ≡ t ∷ k ∷ rest)
 
 -- where the place names a key, an entry of the move's table is as it was, or it is that key's
 pub by_key : (cur next : Config) (m : Move) (t k : List ℕ) → next ≡ step cur m → t ≡ table_of (place m) → HasKeyName (place m) k → (key : List ℕ)
-    → (entry_of cur t key ≡ entry_of next t key) ⊎ (key ≡ k)
+    → (entry_at cur t key ≡ entry_at next t key) ⊎ (key ≡ k)
 by_key cur next m t k is at named key =
-    elim (eq_by_cmp name_cmp key k) as (λ b. eq_by_cmp name_cmp key k ≡ b → (entry_of cur t key ≡ entry_of next t key) ⊎ (key ≡ k)) [
+    elim (eq_by_cmp name_cmp key k) as (λ b. eq_by_cmp name_cmp key k ≡ b → (entry_at cur t key ≡ entry_at next t key) ⊎ (key ≡ k)) [
       | true ↦ λ e. inr (same_by key k e)
       | false ↦ λ e.
           let first : t ≡ named.0 = at ∙ ap table_of named.2 in
-          let left : entry_of (step cur m) named.0 key ≡ entry_of cur named.0 key =
-          subst (λ p. entry_of (with_part cur p (part_after cur m)) named.0 key ≡ entry_of cur named.0 key) (sym named.2)
+          let left : entry_at (step cur m) named.0 key ≡ entry_at cur named.0 key =
+          subst (λ p. entry_at (with_part cur p (part_after cur m)) named.0 key ≡ entry_at cur named.0 key) (sym named.2)
           (other_key cur named.0 k named.1 (part_after cur m) key (apart_by key k e)) in
-          inl (subst (λ u. entry_of cur u key ≡ entry_of next u key) (sym first) (sym (ap (λ c. entry_of c named.0 key) is ∙ left)))
+          inl (subst (λ u. entry_at cur u key ≡ entry_at next u key) (sym first) (sym (ap (λ c. entry_at c named.0 key) is ∙ left)))
     ] refl
 
 -- the name at index 1

@@ -6,7 +6,7 @@ use Rattle.std.specs.Ordering.{eq_by_cmp}
 use Rattle.std.specs.Cmp.Lexicographic.{nat_list_cmp_total}
 use Rattle.std.proofs.lemmas.Cmp.{tied_itself}
 use Rattle.host_core.specs.Names.{name_cmp}
-use Rattle.conf_doc.specs.Changes.{with_part}
+use Rattle.conf_doc.specs.Changes.{entry_at, with_part}
 use Rattle.conf_doc.specs.Pairs.{change_part, find, put, without}
 use Rattle.conf_doc.specs.declared.configuration.Config.{Config}
 use Rattle.conf_doc.specs.declared.configuration.Table.{Table}
@@ -15,7 +15,6 @@ use Rattle.conf_doc.specs.declared.parts.Part.TheVariants as part
 use Rattle.conf_doc.proofs.Edits.{same_name}
 use Rattle.move_core.specs.Moves.{Place}
 use Rattle.move_core.specs.Services.{table_of}
-use Rattle.move_rules.specs.Entries.{entry_of}
 
 -- ---- names
 
@@ -90,10 +89,10 @@ in_table : (j : List ℕ) (f : Table → Table) → ((table : Table) → find j 
 in_table j f leaves None = refl
 in_table j f leaves (Some table) = leaves table
 
-changed_table : (c : Config) (t j : List ℕ) (f : Table → Table) → ((table : Table) → find j (f table) ≡ find j table) → entry_of (change_part t f c) t j ≡ entry_of c t j
+changed_table : (c : Config) (t j : List ℕ) (f : Table → Table) → ((table : Table) → find j (f table) ≡ find j table) → entry_at (change_part t f c) t j ≡ entry_at c t j
 changed_table c t j f leaves = ap (option_and_then (find j)) (changed_there t f c (find t c) refl) ∙ in_table j f leaves (find t c)
 
-pub other_key : (c : Config) (t k : List ℕ) (rest : Place) (x : Option Part) (j : List ℕ) → j ≢ k → entry_of (with_part c (t ∷ k ∷ rest) x) t j ≡ entry_of c t j
+pub other_key : (c : Config) (t k : List ℕ) (rest : Place) (x : Option Part) (j : List ℕ) → j ≢ k → entry_at (with_part c (t ∷ k ∷ rest) x) t j ≡ entry_at c t j
 other_key c t k [] None j other = changed_table c t j (without k) (find-without j k other)
 other_key c t k [] (Some (part.Table table)) j other = refl
 other_key c t k [] (Some (part.Entry e)) j other = changed_table c t j (put k e) (find-put_other j k other e)

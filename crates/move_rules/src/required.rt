@@ -7,7 +7,6 @@ ghost use Rattle.move_core.specs.Extensions.{HasRequired};
 ghost use Rattle.move_core.specs.Rules.{KeepsRequired};
 ghost use Rattle.move_rules.specs.Entries.{AreAll, AreKeys, HasRequiredInBoth, KeepsAllPlaces, KeepsPlace, KeepsPlaceIn, KeepsPlaces, requiring_place};
 
-use crate::entries::{agrees_at_entry, agrees_at_field, has_entry, table_of, value_at};
 use conf_doc::{Config, Table, Value};
 use key_split::KeyView;
 use move_core::{Ctx, Move, MoveRule, Required, Requiring, Settings};
@@ -53,7 +52,7 @@ impl MoveRule for RequiredRule {
 fn has_required(rule: &Required, key: &str, config: &Config) -> bool
     ensures { IsTrue result ↔ HasRequired rule.now key.now config.now }
 {
-    match value_at(config, rule.table.as_str(), key, rule.field.as_str()) {
+    match config.value(rule.table.as_str(), key, rule.field.as_str()) {
         Some(Value::Text(text)) => text.as_str() == rule.value.as_str(),
         Some(Value::List(_)) => false,
         None => rule.default.as_str() == rule.value.as_str(),
@@ -64,8 +63,8 @@ fn has_required(rule: &Required, key: &str, config: &Config) -> bool
 fn has_required_in_both(rule: &Required, key: &str, cur: &Config, next: &Config) -> bool
     ensures { IsTrue result ↔ HasRequiredInBoth rule.now key.now cur.now next.now }
 {
-    !has_entry(cur, rule.table.as_str(), key)
-        || !has_entry(next, rule.table.as_str(), key)
+    !cur.has_entry(rule.table.as_str(), key)
+        || !next.has_entry(rule.table.as_str(), key)
         || (has_required(rule, key, cur) && has_required(rule, key, next))
 }
 
@@ -76,8 +75,8 @@ fn changes(requiring: &Requiring, key: &str, cur: &Config, next: &Config) -> boo
 {
     let table = requiring.table.as_str();
     match &requiring.field {
-        Some(field) => !agrees_at_field(cur, next, table, key, field.as_str()),
-        None => !agrees_at_entry(cur, next, table, key),
+        Some(field) => !cur.agrees_at_field(next, table, key, field.as_str()),
+        None => !cur.agrees_at_entry(next, table, key),
     }
 }
 
@@ -186,7 +185,7 @@ fn keeps_required(settings: &Settings, cur: &Config, next: &Config, mv: &Move) -
 {
     let rules = settings.required.items();
     let place = mv.place();
-    let table = table_of(mv);
+    let table = mv.table();
     if place.len() > 1 {
         keeps_rules(rules, table, place.name_at(1), cur, next)
     } else {

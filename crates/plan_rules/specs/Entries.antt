@@ -1,26 +1,15 @@
--- The entries and the values of a configuration by their names, and what the rules say of one entry.
-use Rattle.std.specs.Prelude.{◌≡◌, ◌≢◌, ℕ, List, [], ◌∷◌, Option, Some, None, option_and_then, slice_get, map}
+-- What the rules say of one entry.
+use Rattle.std.specs.Prelude.{◌≡◌, ◌≢◌, ℕ, List, [], ◌∷◌, Option, Some, None, slice_get, map}
 use Rattle.std.specs.Option.{option_to_list}
 use Rattle.conf_doc.specs.Changes.{part_at, HasPlace}
-use Rattle.conf_doc.specs.Pairs.{find}
 use Rattle.conf_doc.specs.declared.configuration.Config.{Config}
-use Rattle.conf_doc.specs.declared.configuration.Entry.{Entry}
 use Rattle.conf_doc.specs.declared.configuration.Table.{Table}
-use Rattle.conf_doc.specs.declared.configuration.Value.{Value}
 use Rattle.key_split.specs.Key.{key_parts}
 use Rattle.move_core.specs.Extensions.{HasRequired, rule_entry}
 use Rattle.move_core.specs.Moves.{Agree, Place}
 use Rattle.move_core.specs.declared.settings.CreateOnly.{CreateOnly}
 use Rattle.move_core.specs.declared.settings.Required.{Required}
 use Rattle.move_core.specs.declared.settings.Requiring.{Requiring}
-
--- the entry of a table at a key
-abbrev pub entry_of : Config → List ℕ → List ℕ → Option Entry
-entry_of c t k = option_and_then (find k) (find t c)
-
--- the value of a field there
-abbrev pub value_of : Config → List ℕ → List ℕ → List ℕ → Option Value
-value_of c t k f = option_and_then (find f) (entry_of c t k)
 
 -- each item is as P says
 abbrev pub AreAll : {A : Type 0} → (A → Type 0) → List A → Type 0

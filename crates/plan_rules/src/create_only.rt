@@ -5,7 +5,6 @@ ghost use Rattle.move_core.specs.Contexts.{IsResult};
 ghost use Rattle.move_core.specs.Rules.{KeepsCreateOnly};
 ghost use Rattle.plan_rules.specs.Entries.{AreAll, AreKeys, KeepsField, KeepsFields, KeepsRuleField};
 
-use crate::entries::{agrees_at_field, has_entry, table_of};
 use conf_doc::{Config, Table};
 use move_core::{CreateOnly, Ctx, Move, Settings};
 
@@ -13,9 +12,9 @@ use move_core::{CreateOnly, Ctx, Move, Settings};
 fn keeps_field(cur: &Config, next: &Config, table: &str, key: &str, field: &str) -> bool
     ensures { IsTrue result ↔ KeepsField cur.now next.now table.now key.now field.now }
 {
-    !has_entry(cur, table, key)
-        || !has_entry(next, table, key)
-        || agrees_at_field(cur, next, table, key, field)
+    !cur.has_entry(table, key)
+        || !next.has_entry(table, key)
+        || cur.agrees_at_field(next, table, key, field)
 }
 
 /// Whether the field of a rule is so, where the rule is for the table.
@@ -76,8 +75,8 @@ pub fn keeps_create_only(settings: &Settings, cur: &Config, next: &Config, mv: &
     let rules = settings.create_only.items();
     let place = mv.place();
     if place.len() > 1 {
-        keeps_fields(rules, cur, next, table_of(mv), place.name_at(1))
+        keeps_fields(rules, cur, next, mv.table(), place.name_at(1))
     } else {
-        keeps_table(rules, cur, next, table_of(mv))
+        keeps_table(rules, cur, next, mv.table())
     }
 }

@@ -2,7 +2,6 @@
 #![tactic(auto)]
 
 mod create_only;
-mod entries;
 mod full;
 mod no_dependency;
 mod no_empty;

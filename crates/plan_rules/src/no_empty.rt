@@ -4,7 +4,6 @@ ghost use Rattle.conf_doc.specs.Pairs.{find};
 ghost use Rattle.move_core.specs.Contexts.{IsResult};
 ghost use Rattle.move_core.specs.Rules.{EmptiesNoTable};
 
-use crate::entries::table_of;
 use conf_doc::Config;
 use move_core::{Ctx, Move};
 
@@ -24,6 +23,6 @@ pub fn empties_none(cur: &Config, next: &Config, mv: &Move) -> bool
     requires { IsResult cur.now mv.now next.now }
     ensures { IsTrue result ↔ EmptiesNoTable cur.now next.now }
 {
-    let table = table_of(mv);
+    let table = mv.table();
     !is_empty_table(next, table) || is_empty_table(cur, table)
 }

@@ -7,7 +7,6 @@ ghost use Rattle.move_core.specs.Extensions.{HasRequired};
 ghost use Rattle.move_core.specs.Rules.{KeepsRequired};
 ghost use Rattle.plan_rules.specs.Entries.{AreAll, AreKeys, HasRequiredInBoth, KeepsAllPlaces, KeepsPlace, KeepsPlaceIn, KeepsPlaces, requiring_place};
 
-use crate::entries::{agrees_at_entry, agrees_at_field, has_entry, table_of, value_at};
 use conf_doc::{Config, Table, Value};
 use key_split::KeyView;
 use move_core::{Ctx, Move, Required, Requiring, Settings};
@@ -16,7 +15,7 @@ use move_core::{Ctx, Move, Required, Requiring, Settings};
 fn has_required(rule: &Required, key: &str, config: &Config) -> bool
     ensures { IsTrue result ↔ HasRequired rule.now key.now config.now }
 {
-    match value_at(config, rule.table.as_str(), key, rule.field.as_str()) {
+    match config.value(rule.table.as_str(), key, rule.field.as_str()) {
         Some(Value::Text(text)) => text.as_str() == rule.value.as_str(),
         Some(Value::List(_)) => false,
         None => rule.default.as_str() == rule.value.as_str(),
@@ -27,8 +26,8 @@ fn has_required(rule: &Required, key: &str, config: &Config) -> bool
 fn has_required_in_both(rule: &Required, key: &str, cur: &Config, next: &Config) -> bool
     ensures { IsTrue result ↔ HasRequiredInBoth rule.now key.now cur.now next.now }
 {
-    !has_entry(cur, rule.table.as_str(), key)
-        || !has_entry(next, rule.table.as_str(), key)
+    !cur.has_entry(rule.table.as_str(), key)
+        || !next.has_entry(rule.table.as_str(), key)
         || (has_required(rule, key, cur) && has_required(rule, key, next))
 }
 
@@ -39,8 +38,8 @@ fn changes(requiring: &Requiring, key: &str, cur: &Config, next: &Config) -> boo
 {
     let table = requiring.table.as_str();
     match &requiring.field {
-        Some(field) => !agrees_at_field(cur, next, table, key, field.as_str()),
-        None => !agrees_at_entry(cur, next, table, key),
+        Some(field) => !cur.agrees_at_field(next, table, key, field.as_str()),
+        None => !cur.agrees_at_entry(next, table, key),
     }
 }
 
@@ -149,7 +148,7 @@ pub fn keeps_required(settings: &Settings, cur: &Config, next: &Config, mv: &Mov
 {
     let rules = settings.required.items();
     let place = mv.place();
-    let table = table_of(mv);
+    let table = mv.table();
     if place.len() > 1 {
         keeps_rules(rules, table, place.name_at(1), cur, next)
     } else {

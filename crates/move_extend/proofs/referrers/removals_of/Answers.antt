@@ -21,7 +21,7 @@ returns-then-keeps_always c =
 
 pub returns-then-not-is_referred : goal.returns-then-not-is_referred
 returns-then-not-is_referred c =
-    let t = c.table_of-table.result.now in
+    let t = c.table-table.result.now in
     let cur = c.args.cur.now in
     let next = step cur c.args.mv.now in
     let Is = IsReferrer (rulebook c.args.ctx.now) cur c.args.mv.now in
@@ -29,7 +29,7 @@ returns-then-not-is_referred c =
     (finds_none Is [] c.new-then-not-is_referred.result c.new-then-not-is_referred.ensures
     (λ x referrer.
     unreferred c.args.ctx.now.models cur next t (λ u there may. true≢false (sym (c.is_referred.ensures u there may) ∙ c.if-not-is_referred.true)) x
-    ((referrers c.args.ctx.now cur next c.args.mv.now x t refl c.table_of-table.ensures).1 referrer)))
+    ((referrers c.args.ctx.now cur next c.args.mv.now x t refl c.table-table.ensures).1 referrer)))
 
 pub returns-then-keeps_keys : goal.returns-then-keeps_keys
 returns-then-keeps_keys c =
@@ -38,27 +38,27 @@ returns-then-keeps_keys c =
 
 pub removals_of_key-requires : goal.removals_of_key-requires
 removals_of_key-requires c = λ at w wanted broken.
-    breaks_parts c.args.ctx.now.models c.args.cur.now c.in_ok-next.next c.args.mv.now c.table_of-table.result.now c.name_at.result.now c.in_ok-next.ensures.step
-    c.table_of-table.ensures (ap (λ p. slice_get p 1) (sym c.place-place.ensures) ∙ c.name_at.ensures.name) at w wanted broken
+    breaks_parts c.args.ctx.now.models c.args.cur.now c.in_ok-next.next c.args.mv.now c.table-table.result.now c.name_at.result.now c.in_ok-next.ensures.step
+    c.table-table.ensures (ap (λ p. slice_get p 1) (sym c.place-place.ensures) ∙ c.name_at.ensures.name) at w wanted broken
 
 pub returns-then-len-gt1 : goal.returns-then-len-gt1
 returns-then-len-gt1 c =
-    let t = c.table_of-table.result.now in
+    let t = c.table-table.result.now in
     let next = c.in_ok-next.next in
     let Gives = GivesRemovals c.args.ctx.now.models c.args.cur.now next t in
     let Is = IsReferrer (rulebook c.args.ctx.now) c.args.cur.now c.args.mv.now in
     IfOk-weaker c.removals_of_key.result (Appends Gives []) (Appends Is [])
     (λ found gives. appends_as Gives Is [] found
-    (λ x. referrers c.args.ctx.now c.args.cur.now next c.args.mv.now x t c.in_ok-next.ensures.step c.table_of-table.ensures) gives)
+    (λ x. referrers c.args.ctx.now c.args.cur.now next c.args.mv.now x t c.in_ok-next.ensures.step c.table-table.ensures) gives)
     c.removals_of_key.ensures
 
 pub returns : goal.returns
 returns c =
-    let t = c.table_of-table.result.now in
+    let t = c.table-table.result.now in
     let next = c.in_ok-next.next in
     let Gives = GivesRemovals c.args.ctx.now.models c.args.cur.now next t in
     let Is = IsReferrer (rulebook c.args.ctx.now) c.args.cur.now c.args.mv.now in
     IfOk-weaker c.broken_wants.result (Appends Gives []) (Appends Is [])
     (λ found gives. appends_as Gives Is [] found
-    (λ x. referrers c.args.ctx.now c.args.cur.now next c.args.mv.now x t c.in_ok-next.ensures.step c.table_of-table.ensures) gives)
+    (λ x. referrers c.args.ctx.now c.args.cur.now next c.args.mv.now x t c.in_ok-next.ensures.step c.table-table.ensures) gives)
     c.broken_wants.ensures
