@@ -3,29 +3,16 @@
 ghost use Rattle.std.specs.Prelude.{◌≤◌, length, IfSome};
 ghost use Rattle.move_core.specs.Moves.{place};
 
-use conf_doc::{Config, Table};
+use conf_doc::Config;
 use key_split::KeyView;
 use move_core::Move;
 use ref_index::{Place, RefIndex};
 use yang_model::Models;
 
-/// Whether there is a table and it has that key.
-fn has_key(table: Option<&Table>, key: &str) -> bool {
-    match table {
-        Some(table) => table.entry(key).is_some(),
-        None => false,
-    }
-}
-
-/// Whether a configuration has the entry of a place.
-fn has_entry(config: &Config, place: &Place) -> bool {
-    has_key(config.table(place.table.as_str()), place.key.as_str())
-}
-
 /// The first of some places whose entry another configuration has.
 fn first_there<'a>(places: &'a [Place], next: &Config) -> Option<&'a Place> {
     for place in places {
-        if has_entry(next, place) {
+        if next.has_entry(place.table.as_str(), place.key.as_str()) {
             return Some(place);
         }
     }
@@ -73,10 +60,9 @@ fn referrer_of_gone_key<'a>(
     name: &str,
 ) -> Option<&'a Place> {
     let table = index.config().table(name)?;
-    let others = next.table(name);
     for i in 0..table.len() {
         let key = table.name_at(i);
-        if !has_key(others, key) {
+        if !next.has_entry(name, key) {
             let found = referrer_of_key(index, models, next, name, key);
             if found.is_some() {
                 return found;
@@ -94,7 +80,7 @@ fn referrer_of_key_if_gone<'a>(
     table: &str,
     key: &str,
 ) -> Option<&'a Place> {
-    if has_key(next.table(table), key) {
+    if next.has_entry(table, key) {
         return None;
     }
     referrer_of_key(index, models, next, table, key)

@@ -9,7 +9,7 @@ use Rattle.std.proofs.lemmas.Bool.Decides.{Decides-and, Decides-eqb, Decides-lik
 use Rattle.std.proofs.lemmas.Slice.Eq.{bytes_eq-Decides}
 use Rattle.yang_types.specs.declared.types.Target.{Target}
 use Rattle.ref_index.specs.PlaceMaps.{ChangesAt, is_for, places_in}
-use Rattle.ref_index.specs.declared.groups.Group.{Group}
+use Rattle.ref_index.specs.declared.leaf_group.Group.{Group}
 use Rattle.ref_index.specs.declared.places.Place.{Place}
 use Rattle.ref_index.proofs.Firsts.{IsFirstAt, find_at, find_beside, find_changed, find_elsewhere, find_pushed, first_at, none_passes}
 

@@ -1,5 +1,5 @@
 -- What the types of a shape's texts may refer to.
-use Rattle.std.proofs.Common.{◌≡◌, inl, inr, ℕ, zero, suc, List, [], ◌∷◌, Bool, true, false, cond, slice_get, Option, Some, None, option_map, option_and_then, refl, sym, ap, ◌∙◌, subst, ◌||◌, ◌<◌, ◌≤◌, length, true≢false, arith}
+use Rattle.std.proofs.Common.{◌≡◌, ℕ, zero, suc, List, [], ◌∷◌, Bool, true, false, cond, slice_get, Option, Some, None, option_map, option_and_then, refl, sym, ap, ◌∙◌, subst, ◌||◌, ◌<◌, ◌≤◌, length, true≢false, arith}
 use Rattle.std.specs.List.{find, list_any}
 use Rattle.std.specs.Option.{option_map_or}
 use Rattle.std.specs.Str.{bytes_eq}

@@ -1,4 +1,5 @@
 pub mod Agreements
+mod Bounds
 mod Collecting
 mod EntryTexts
 mod Firsts

@@ -8,7 +8,7 @@ use Rattle.std.proofs.lemmas.Slice.Eq.{bytes_eq-Decides}
 use Rattle.std.proofs.lemmas.List.Elements.{All-contains, All-contains_itself, All-filter, Contains-append_left, Contains-get_or, Contains-push, Contains-push_cases, filter_passes}
 use Rattle.std.proofs.lemmas.List.Kept.{AllPairs-filter}
 use Rattle.std.proofs.lemmas.List.Quantifiers.{all_pairs_push}
-use Rattle.ref_index.specs.PlaceMaps.{is_name, is_place, with_place, without_place}
+use Rattle.ref_index.specs.Places.{is_name, is_place, with_place, without_place}
 use Rattle.ref_index.specs.declared.places.Place.{Place}
 
 names_decide : (a b : Option (List ℕ)) → Decides (is_name a b) (a ≡ b)

@@ -8,7 +8,7 @@ use Rattle.std.proofs.lemmas.Slice.Eq.{bytes_eq-Decides}
 use Rattle.conf_check.specs.Wants.{Want}
 use Rattle.yang_types.specs.declared.types.Target.{Target}
 use Rattle.ref_index.specs.PlaceMaps.{ChangesAt, places_in}
-use Rattle.ref_index.specs.declared.groups.Group.{Group}
+use Rattle.ref_index.specs.declared.leaf_group.Group.{Group}
 use Rattle.ref_index.specs.declared.places.Place.{Place}
 use Rattle.ref_index.proofs.LeafGroups.{is_target, targets_decide}
 

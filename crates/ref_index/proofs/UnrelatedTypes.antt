@@ -1,6 +1,6 @@
 -- A text whose type doesn't refer to a table has the same wants in two configurations that satisfy the same of
 -- other tables.
-use Rattle.std.proofs.Common.{◌≡◌, ◌≢◌, inl, inr, ℕ, Bool, true, false, List, Option, Some, None, refl, sym, ap, ◌∙◌, subst, ◌||◌, true≢false}
+use Rattle.std.proofs.Common.{◌≡◌, ◌≢◌, inl, inr, ℕ, Bool, true, false, List, Option, Some, None, refl, sym, ◌∙◌, subst, ◌||◌, true≢false}
 use Rattle.std.specs.List.{list_any}
 use Rattle.std.specs.Str.{bytes_eq}
 use Rattle.std.proofs.lemmas.Slice.Eq.{bytes_eq-Decides}
@@ -8,7 +8,7 @@ use Rattle.conf_doc.specs.declared.configuration.Config.{Config}
 use Rattle.yang_model.specs.ModelSets.{ModelSet}
 use Rattle.yang_types.specs.DataType.{DataType, text, number, length_within, value_within, matching, one_of, truth, builtin, leafref, union, DataTypes, no_types, type_and, plain_types}
 use Rattle.yang_types.specs.declared.types.Target.{Target}
-use Rattle.conf_check.specs.Acceptance.{AcceptsAnyIn, AcceptsIn, IsFirstWanted, IsSatisfied, IsWanted}
+use Rattle.conf_check.specs.Acceptance.{AcceptsIn, IsFirstWanted, IsSatisfied, IsWanted}
 use Rattle.conf_check.specs.Wants.{Want, IsWantedText}
 use Rattle.ref_index.specs.Referring.{member_refers, type_refers}
 

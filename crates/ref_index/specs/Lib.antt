@@ -5,5 +5,6 @@ pub mod Referrers
 pub mod Codes
 pub mod EntryNames
 pub mod PlaceMaps
+pub mod Places
 pub mod Referring
 pub mod Texts

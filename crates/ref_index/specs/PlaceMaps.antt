@@ -1,6 +1,6 @@
 -- Maps from wants to lists of places.
-use Rattle.std.specs.Prelude.{◌≡◌, ◌≢◌, ◌⊎◌, ℕ, Bool, true, false, not, ◌&&◌, if◌then◌else◌, nat_eq, List, [], ◌∷◌, ◌++◌, Option, Some, None, filter}
-use Rattle.std.specs.List.{AllPairs, Contains, find, list_any}
+use Rattle.std.specs.Prelude.{◌≡◌, ◌≢◌, ◌⊎◌, Bool, ◌&&◌, nat_eq, List, []}
+use Rattle.std.specs.List.{AllPairs, Contains, find}
 use Rattle.std.specs.Option.{option_map_or}
 use Rattle.std.specs.Str.{bytes_eq}
 use Rattle.indexmap.specs.IndexMap.{get_by_text}
@@ -9,8 +9,9 @@ use Rattle.yang_types.specs.declared.types.Target.{Target}
 use Rattle.conf_doc.specs.declared.configuration.Config.{Config}
 use Rattle.conf_check.specs.Wants.{Want, want_of}
 use Rattle.conf_check.specs.declared.want_iter.WantAt.{WantAt}
+use Rattle.ref_index.specs.Places.{with_place, without_place}
 use Rattle.ref_index.specs.Referrers.{AreReferrers, HasWant, place_of}
-use Rattle.ref_index.specs.declared.groups.Group.{Group}
+use Rattle.ref_index.specs.declared.leaf_group.Group.{Group}
 use Rattle.ref_index.specs.declared.place_maps.PlaceMap.{PlaceMap}
 use Rattle.ref_index.specs.declared.places.Place.{Place}
 
@@ -26,27 +27,6 @@ places_in groups t = option_map_or (λ g. g.places.items) (find (is_for t) group
 -- the places that have a want
 abbrev pub places_at : PlaceMap → Want → List Place
 places_at m w = option_map_or (λ gs. places_in gs.items w.target) (get_by_text m.by_text w.text) []
-
--- the field has that name, or there is none where no name is given
-abbrev pub is_name : Option (List ℕ) → Option (List ℕ) → Bool
-is_name None None = true
-is_name None (Some b) = false
-is_name (Some a) None = false
-is_name (Some a) (Some b) = bytes_eq a b
-
--- the places are the same
-abbrev pub is_place : Place → Place → Bool
-is_place a b =
-    nat_eq a.item b.item && is_name a.field b.field && bytes_eq a.key b.key
-    && bytes_eq a.table b.table
-
--- with the place at the end, unless it is there
-abbrev pub with_place : Place → List Place → List Place
-with_place p ps = if list_any (λ q. is_place q p) ps then ps else ps ++ p ∷ []
-
--- without the place
-abbrev pub without_place : Place → List Place → List Place
-without_place p ps = filter (λ q. not (is_place q p)) ps
 
 -- the list of one argument is what f makes of it, those of others stay
 pub record ChangesAt {A : Type 0} (f : List Place → List Place) (a : A)

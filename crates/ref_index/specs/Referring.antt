@@ -1,5 +1,5 @@
 -- Which tables may refer to a table: those with a leafref to it.
-use Rattle.std.specs.Prelude.{◌≡◌, ℕ, Bool, true, false, List, ◌||◌}
+use Rattle.std.specs.Prelude.{ℕ, Bool, true, false, List, ◌||◌}
 use Rattle.std.specs.List.{list_any}
 use Rattle.std.specs.Str.{bytes_eq}
 use Rattle.yang_model.specs.ModelSets.{ModelSet, shapes_of}

@@ -1,9 +1,9 @@
 //! Names of entries: the keys that one of two configurations has and the other hasn't, and the entries that
 //! differ or have a text that is a part of such a key.
-ghost use Rattle.std.specs.Prelude.{ℕ, List, ◌≡◌, ◌↔◌, ◌<◌, ◌+◌, ◌^◌, [], length, map, slice_get, MatchOption, Some, IfOk, IfSome, IsTrue, OnOk, is_some};
+ghost use Rattle.std.specs.Prelude.{ℕ, List, ◌≡◌, ◌↔◌, ◌<◌, ◌+◌, ◌^◌, [], length, map, slice_get, MatchOption, Some, IfOk, IfSome, IsTrue, OnOk};
 ghost use Rattle.std.specs.List.{Contains};
 ghost use Rattle.key_split.specs.Key.{key_parts};
-ghost use Rattle.ref_index.specs.Agreements.{AgreeBut, entry_of};
+ghost use Rattle.ref_index.specs.Agreements.{AgreeBut};
 ghost use Rattle.ref_index.specs.Texts.{Has};
 ghost use Rattle.ref_index.specs.declared.entry_names.EntryName.{EntryName};
 ghost use Rattle.conf_doc.specs.WellFormed.{IsConfig, IsTable};
@@ -214,17 +214,6 @@ pub(crate) fn differences<'a>(
     Ok(found)
 }
 
-/// Whether a configuration has an entry.
-fn has_entry(config: &Config, table: &str, key: &str) -> bool
-    ensures there { result ≡ is_some (entry_of table.now key.now config.now) }
-    ensures formed { IsConfig config.now }
-{
-    match config.table(table) {
-        Some(entries) => entries.entry(key).is_some(),
-        None => false,
-    }
-}
-
 /// The name of one entry, alone.
 fn one_name<'a>(alloc: Global, table: &'a str, key: &'a str) -> Result<Vec<EntryName<'a>>, Memory>
     ensures { IfOk result (λ found. IsNamed found.items table.now key.now) }
@@ -293,7 +282,7 @@ pub(crate) fn differences_but<'a>(
         AreDifferences models.now first.now second.now found.items) }
 {
     let mut found = one_name(alloc, table, key)?;
-    if has_entry(first, table, key) == has_entry(second, table, key) {
+    if first.entry(table, key).is_some() == second.entry(table, key).is_some() {
         return Ok(found);
     }
     let parts = parts_of(alloc, found.as_slice())?;

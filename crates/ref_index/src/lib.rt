@@ -5,6 +5,7 @@ mod differences;
 mod entry_names;
 mod groups;
 mod indexes;
+mod leaf_group;
 mod place_maps;
 mod places;
 mod referring;

@@ -4,7 +4,8 @@ ghost use Rattle.indexmap.specs.IndexMap.{get_by_text};
 ghost use Rattle.conf_check.specs.Wants.{Want as WantOf, want_of};
 ghost use Rattle.ref_index.specs.PlaceMaps.{HasSame, Puts, Takes, places_at};
 
-use crate::groups::{Group, places_of, put_in, take_from};
+use crate::groups::{places_of, put_in, take_from};
+use crate::leaf_group::Group;
 use crate::places::Place;
 use conf_check::{Want, WantAt};
 use host_core::Memory;

@@ -3,7 +3,7 @@ use Rattle.std.proofs.lemmas.Map.Text.{hash_map_updates_text}
 use Rattle.std.proofs.lemmas.Result.{on_err_weaker, on_ok_weaker}
 use Rattle.indexmap.specs.IndexMap.{get_by_text}
 use Rattle.conf_check.specs.Wants.{want_of}
-use Rattle.ref_index.specs.PlaceMaps.{with_place}
+use Rattle.ref_index.specs.Places.{with_place}
 use Rattle.ref_index.specs.Referrers.{place_of}
 use Rattle.ref_index.proofs.TextMaps.{change_text, places_of, same_text}
 use Rattle.ref_index.proofs.place_maps.PlaceMap.put.Goals as goal

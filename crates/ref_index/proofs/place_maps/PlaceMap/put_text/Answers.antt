@@ -3,7 +3,8 @@ use Rattle.std.specs.Str.{bytes_eq}
 use Rattle.std.proofs.lemmas.Map.Text.{hash_map_updates_text}
 use Rattle.indexmap.specs.IndexMap.{get_by_text}
 use Rattle.conf_check.specs.Wants.{want_of}
-use Rattle.ref_index.specs.PlaceMaps.{places_in, with_place}
+use Rattle.ref_index.specs.PlaceMaps.{places_in}
+use Rattle.ref_index.specs.Places.{with_place}
 use Rattle.ref_index.specs.Referrers.{place_of}
 use Rattle.ref_index.proofs.TextMaps.{change_text, places_of}
 use Rattle.ref_index.proofs.place_maps.PlaceMap.put_text.Goals as goal

@@ -2,7 +2,7 @@ use Rattle.std.proofs.Common.{Some, ap, rules, sym}
 use Rattle.std.proofs.lemmas.Map.Text.{hash_map_updates_text}
 use Rattle.indexmap.specs.IndexMap.{get_by_text}
 use Rattle.conf_check.specs.Wants.{want_of}
-use Rattle.ref_index.specs.PlaceMaps.{without_place}
+use Rattle.ref_index.specs.Places.{without_place}
 use Rattle.ref_index.specs.Referrers.{place_of}
 use Rattle.ref_index.proofs.TextMaps.{change_text, places_of}
 use Rattle.ref_index.proofs.place_maps.PlaceMap.take.Goals as goal
