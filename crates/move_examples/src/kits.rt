@@ -4,8 +4,7 @@ ghost use Rattle.move_examples.specs.Situations.{IsReady};
 
 use crate::situations::Situation;
 use example_rows::Fail;
-use host_core::Memory;
-use move_core::{Boxes, Kit, MoveExt, MoveGen, MoveRule, kit_extenders, kit_generators, kit_rules};
+use move_core::{Boxes, Kit, MoveGen, MoveRule, kit_extenders, kit_generators, kit_rules};
 use move_extend::{DeleteExt, ReferrersExt, RequiredExt, UpperExt};
 use move_gen::{FieldGen, ItemGen, KeyGen, SeedGen, TableGen};
 use move_rules::{CreateOnlyRule, FullRule, NoDependencyRule, NoEmptyRule, RequiredRule};
