@@ -1,5 +1,4 @@
 //! One command on a host with faults.
-ghost use Rattle.std.specs.Prelude.{◌≡◌};
 ghost use Rattle.host_core.specs.MemoryHost.{GoesOn, faulty_by};
 ghost use Rattle.command_runs.specs.Runs.{IsPromised, IsPromisedInScope};
 
