@@ -8,9 +8,19 @@ pub fn text_at<'a>(row: &'a Value, name: &str) -> Result<&'a str, Fail> {
     row.get(name).and_then(Value::as_str).ok_or(Fail::Row)
 }
 
+/// Whether that is the text under a name.
+pub fn says(row: &Value, name: &str, text: &str) -> bool {
+    row.get(name).and_then(Value::as_str) == Some(text)
+}
+
 /// The list under a name.
 pub fn items_at<'a>(row: &'a Value, name: &str) -> Result<&'a [Value], Fail> {
-    match row.get(name).and_then(Value::as_array) {
+    items_of(row.get(name))
+}
+
+/// The items of a list.
+pub fn items_of(list: Option<&Value>) -> Result<&[Value], Fail> {
+    match list.and_then(Value::as_array) {
         Some(items) => Ok(items.as_slice()),
         None => Err(Fail::Row),
     }
@@ -21,14 +31,23 @@ pub fn number_at(row: &Value, name: &str) -> Result<u64, Fail> {
     row.get(name).and_then(Value::as_u64).ok_or(Fail::Row)
 }
 
-/// The bytes of a JSON text: the text under a name itself, or else the compact text of what stands
-/// there.
+/// The bytes of the JSON text under a name.
 pub fn text_bytes(alloc: Global, row: &Value, name: &str) -> Result<Vec<u8>, Fail> {
-    match row.get(name) {
-        Some(Value::String(text)) => Ok(text.as_bytes().to_vec(alloc)?),
-        Some(value) => Ok(value.to_vec(alloc)?),
-        None => Err(Fail::Row),
+    value_bytes(alloc, row.get(name).ok_or(Fail::Row)?)
+}
+
+/// The bytes of a JSON text: a text itself, and of all else its compact text.
+pub fn value_bytes(alloc: Global, value: &Value) -> Result<Vec<u8>, Fail> {
+    match value {
+        Value::String(text) => Ok(text.as_bytes().to_vec(alloc)?),
+        other => Ok(other.to_vec(alloc)?),
     }
+}
+
+/// Whether those are the bytes of the JSON text under a name.
+pub fn is_text(alloc: Global, row: &Value, name: &str, bytes: &[u8]) -> Result<bool, Fail> {
+    let said = text_bytes(alloc, row, name)?;
+    Ok(said.as_slice() == bytes)
 }
 
 /// The bytes under a name: those of a text, or those that a list has as numbers.
@@ -56,6 +75,12 @@ pub fn written_at(alloc: Global, row: &Value, name: &str) -> Result<Vec<u8>, Fai
         Some(Value::Array(lines)) => lines_of(alloc, lines.as_slice()),
         _ => Err(Fail::Row),
     }
+}
+
+/// Whether those bytes are what is written under a name.
+pub fn is_written(alloc: Global, row: &Value, name: &str, bytes: &[u8]) -> Result<bool, Fail> {
+    let said = written_at(alloc, row, name)?;
+    Ok(said.as_slice() == bytes)
 }
 
 fn lines_of(alloc: Global, lines: &[Value]) -> Result<Vec<u8>, Fail> {

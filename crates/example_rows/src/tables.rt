@@ -54,6 +54,12 @@ pub fn read_rows<R: Files + AllocGlobal>(rt: &R, file: &str) -> Result<Vec<Value
     }
 }
 
+/// The inputs that the rows of tables share: the last row of a file.
+pub fn read_inputs<R: Files + AllocGlobal>(rt: &R, file: &str) -> Result<Value, Fail> {
+    let mut rows = read_rows(rt, file)?;
+    rows.pop().ok_or(Fail::Row)
+}
+
 fn why_unread(error: &serde_json::Error) -> Fail {
     if error.is_memory() {
         Fail::Memory

@@ -1,16 +1,18 @@
 //! Writing calls cut short by a fault, and what is loaded after a crash.
-ghost use Rattle.std.specs.Prelude.{◌≡◌, IfOk};
+ghost use Rattle.std.specs.Prelude.{◌≡◌};
 ghost use Rattle.std.specs.List.{AllPass};
 ghost use Rattle.host_core.specs.State.{settled};
 ghost use Rattle.conf_store.specs.Files.{is_step_name};
 ghost use Rattle.conf_store.specs.Folds.{StandsFor};
 
+use crate::acts::{Act, does_as_said};
+use crate::folders::is_tree;
 use crate::hosts::{
-    LONGEST_NAME, PICKS, are_names, fail_of, faults_from, host_at, is_tree, names_of, pick_of,
+    LONGEST_NAME, answer_text, calm_host, fail_of, faults_from, host_at, name_at, names_in,
 };
 use conf_doc::file_bytes;
 use conf_store::{Stored, fold, load, load_tree, put_file};
-use example_rows::{Fail, Table, items_at, text_at, text_bytes};
+use example_rows::{Fail, Table, are_names, items_at, says, text_at, text_bytes};
 use host_core::{Failed, Faults, MemHost};
 use serde_json::Value;
 use std::alloc::Global;
@@ -24,53 +26,34 @@ pub struct Crashes;
 
 impl Table for Crashes {
     fn is_as_said(&self, alloc: Global, row: &Value) -> Result<bool, Fail> {
-        let mut as_said = answers(alloc, row)?;
-        for pick in PICKS {
-            as_said = as_said && leaves(alloc, row, pick)?;
-        }
-        Ok(as_said)
+        does_as_said(alloc, self, row)
     }
 }
 
-/// Whether the call answers as said.
-fn answers(alloc: Global, row: &Value) -> Result<bool, Fail> {
-    let mut host = host_before(alloc, row)?;
-    is_answer(alloc, row, &mut host)
-}
+impl Act for Crashes {
+    fn host_before(&self, alloc: Global, row: &Value) -> Result<MemHost, Fail> {
+        let faults = faults_behind_load(alloc, row)?;
+        host_at(alloc, row, faults)
+    }
 
-/// Whether a crash with that pick after the call leaves what the row says.
-fn leaves(alloc: Global, row: &Value, pick: &str) -> Result<bool, Fail> {
-    let mut host = host_after(alloc, row, pick)?;
-    is_left(alloc, row, pick, &mut host)
-}
+    fn does(&self, alloc: Global, row: &Value, host: &mut MemHost) -> Result<bool, Fail> {
+        let answer = answer_of(alloc, row, host)?;
+        Ok(says(row, "answer", answer))
+    }
 
-/// The host of a row after its call and a crash with that pick.
-fn host_after(alloc: Global, row: &Value, pick: &str) -> Result<MemHost, Fail> {
-    let pick = pick_of(alloc, row, pick)?;
-    let host = host_done(alloc, row)?;
-    Ok(host.crash(alloc, &pick)?)
-}
-
-/// The host of a row after its call.
-fn host_done(alloc: Global, row: &Value) -> Result<MemHost, Fail> {
-    let mut host = host_before(alloc, row)?;
-    let _ = is_answer(alloc, row, &mut host)?;
-    Ok(host)
-}
-
-/// The host of a row, with the faults of its call.
-fn host_before(alloc: Global, row: &Value) -> Result<MemHost, Fail>
-    ensures { IfOk result (λ m. m.state.pending ≡ settled) }
-{
-    let faults = faults_behind_load(alloc, row)?;
-    host_at(alloc, row, faults)
-}
-
-/// Makes the call, and tells whether it answers as said.
-fn is_answer(alloc: Global, row: &Value, host: &mut MemHost) -> Result<bool, Fail>
-    requires { host.old.state.pending ≡ settled }
-{
-    Ok(answer_of(alloc, row, host)? == text_at(row, "answer")?)
+    fn is_left(
+        &self,
+        alloc: Global,
+        row: &Value,
+        pick: &str,
+        host: &mut MemHost,
+    ) -> Result<bool, Fail> {
+        let [which, said @ ..] = items_at(row, pick)? else {
+            return Err(Fail::Row);
+        };
+        let which = which.as_str().ok_or(Fail::Row)?;
+        Ok(has_names(alloc, said, host)? && is_config_left(alloc, row, which, host)?)
+    }
 }
 
 /// Loads what is stored, makes the call of the row, and tells what it answers.
@@ -105,10 +88,7 @@ fn act(
 fn put(alloc: Global, row: &Value, host: &mut MemHost) -> Result<&'static str, Fail>
     requires { host.old.state.pending ≡ settled }
 {
-    let name = text_at(row, "name")?;
-    if name.len() > LONGEST_NAME {
-        return Err(Fail::Row);
-    }
+    let name = name_at(row, "name", LONGEST_NAME)?;
     let bytes = text_bytes(alloc, row, "bytes")?;
     Ok(answer_text(put_file(host, name, &bytes)))
 }
@@ -128,25 +108,9 @@ fn fold_stored(
     Ok(fold(host, &bytes, stored))
 }
 
-fn answer_text(answer: Result<(), Failed>) -> &'static str {
-    match answer {
-        Ok(()) => "Ok",
-        Err(Failed) => "Failed",
-    }
-}
-
-/// Whether a host after a crash has the files and the configuration of a pick.
-fn is_left(alloc: Global, row: &Value, pick: &str, host: &mut MemHost) -> Result<bool, Fail> {
-    let [which, said @ ..] = items_at(row, pick)? else {
-        return Err(Fail::Row);
-    };
-    let which = which.as_str().ok_or(Fail::Row)?;
-    Ok(has_names(alloc, said, host)? && is_config_left(alloc, row, which, host)?)
-}
-
 /// Whether a host has the files of those names and no others.
 fn has_names(alloc: Global, said: &[Value], host: &mut MemHost) -> Result<bool, Fail> {
-    let names = names_of(alloc, host)?;
+    let names = names_in(alloc, host)?;
     Ok(are_names(said, &names))
 }
 
@@ -165,19 +129,16 @@ fn is_config_left(
 
 /// Faults from the call of the row on, counted behind those of `load`.
 fn faults_behind_load(alloc: Global, row: &Value) -> Result<Faults, Fail> {
-    match row.get("from").and_then(Value::as_u64) {
-        Some(from) => {
-            let calls = load_calls(alloc, row)?;
-            Ok(faults_from(alloc, Some(calls.saturating_add(from))))
-        }
-        None => Ok(faults_from(alloc, None)),
-    }
+    let from = match row.get("from").and_then(Value::as_u64) {
+        Some(from) => Some(load_calls(alloc, row)?.saturating_add(from)),
+        None => None,
+    };
+    Ok(faults_from(alloc, from))
 }
 
 /// How many calls `load` makes.
 fn load_calls(alloc: Global, row: &Value) -> Result<u64, Fail> {
-    let faults = faults_from(alloc, None);
-    let mut host = host_at(alloc, row, faults)?;
+    let mut host = calm_host(alloc, row)?;
     calls_behind_load(alloc, &mut host)
 }
 

@@ -1,5 +1,5 @@
 use Rattle.std.proofs.Common.{length}
-use Rattle.yang_examples.proofs.small_trees.+children.Given as goal
+use Rattle.base_examples.proofs.small_trees.+children.Given as goal
 
 abbrev pub decreases-children : goal.decreases-children
 decreases-children l = length l.families.now

@@ -3,8 +3,8 @@ use Rattle.std.specs.Prelude.{ℕ, ◌==◌, ◌&&◌, Bool, List, [], ◌∷◌
 use Rattle.std.specs.Str.{bytes_eq}
 use Rattle.xpath_part.specs.Nodes.{NodeTree}
 use Rattle.xpath_part.specs.declared.nodes.Node.{Node}
-use Rattle.yang_examples.specs.declared.small_trees.Family.{Family}
-use Rattle.yang_examples.specs.declared.small_trees.SmallTree.{SmallTree}
+use Rattle.base_examples.specs.declared.small_trees.Family.{Family}
+use Rattle.base_examples.specs.declared.small_trees.SmallTree.{SmallTree}
 
 -- the node of the number 0
 abbrev pub root_node : Node

@@ -1,5 +1,5 @@
 //! Types, and the texts that they accept by themselves.
-use example_rows::{Fail, Table, items_at, text_at};
+use example_rows::{Fail, Table, items_at, names_of, text_at};
 use host_core::{Sequence, Txt};
 use serde_json::Value;
 use std::alloc::Global;
@@ -71,7 +71,7 @@ fn base_of(alloc: Global, part: &Value) -> Result<Ty, Fail> {
         return Ok(Ty::Number(bounds_of(bounds)?));
     }
     if part.get("one_of").is_some() {
-        return Ok(Ty::OneOf(names_at(alloc, part)?));
+        return Ok(Ty::OneOf(names_of(alloc, items_at(part, "one_of")?)?));
     }
     match part.as_str() {
         Some("string") => Ok(Ty::Text),
@@ -117,14 +117,6 @@ fn target_at(alloc: Global, part: &Value) -> Result<Target, Fail> {
         shape: 0,
         part: 0,
     })
-}
-
-fn names_at(alloc: Global, part: &Value) -> Result<Sequence<Txt>, Fail> {
-    let mut names = Sequence::new(alloc);
-    for name in items_at(part, "one_of")? {
-        names.push(Txt::new(alloc, name.as_str().ok_or(Fail::Row)?)?)?;
-    }
-    Ok(names)
 }
 
 /// The parts of a range or a length.

@@ -1,9 +1,8 @@
 //! Folders loaded, or refused.
-use crate::hosts::{are_names, faults_from, host_at, is_tree};
-use conf_doc::{Tree, tree_of};
-use conf_store::{LoadError, Stored, StoredWhy, load, load_tree};
-use example_rows::{Fail, Table, items_at};
-use host_core::MemHost;
+use crate::hosts::calm_host;
+use conf_doc::{Tree, tree_bytes, tree_of};
+use conf_store::{LoadError, Stored, load, load_tree};
+use example_rows::{Fail, Table, are_names, is_text, items_at, says};
 use serde_json::Value;
 use std::alloc::Global;
 
@@ -15,12 +14,6 @@ impl Table for Folders {
     fn is_as_said(&self, alloc: Global, row: &Value) -> Result<bool, Fail> {
         Ok(is_loaded_as_said(alloc, row)? && is_tree_as_said(alloc, row)?)
     }
-}
-
-/// The host of a row, of which no call fails.
-fn calm_host(alloc: Global, row: &Value) -> Result<MemHost, Fail> {
-    let faults = faults_from(alloc, None);
-    host_at(alloc, row, faults)
 }
 
 /// Whether the configuration is loaded as the row says.
@@ -55,13 +48,17 @@ fn is_stored(alloc: Global, row: &Value, stored: &Stored) -> Result<bool, Fail> 
 
 fn is_refused(alloc: Global, row: &Value, error: LoadError) -> Result<bool, Fail> {
     match error {
-        LoadError::Bad(why) => is_why(alloc, row, why),
+        LoadError::Bad(why) => {
+            let text = format!(in alloc; "{why:?}")?;
+            Ok(says(row, "why", text.as_str()))
+        }
         LoadError::Disk => Ok(false),
         LoadError::Memory => Err(Fail::Memory),
     }
 }
 
-fn is_why(alloc: Global, row: &Value, why: StoredWhy) -> Result<bool, Fail> {
-    let text = format!(in alloc; "{why:?}")?;
-    Ok(row.get("why").and_then(Value::as_str) == Some(text.as_str()))
+/// Whether the compact text of a tree is the JSON text under a name.
+pub fn is_tree(alloc: Global, row: &Value, name: &str, tree: &Tree) -> Result<bool, Fail> {
+    let bytes = tree_bytes(alloc, tree)?;
+    is_text(alloc, row, name, &bytes)
 }

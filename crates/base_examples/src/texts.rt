@@ -1,11 +1,11 @@
 //! YANG texts: their statements, or their first fault.
-use example_rows::{Fail, Table, bytes_at, items_at};
+use crate::model_readers::model_why;
+use crate::pairs::open_all;
+use crate::readers::MOST_BYTES;
+use example_rows::{Fail, Table, bytes_at, items_at, items_of};
 use serde_json::Value;
 use std::alloc::Global;
 use yang_text::{ModelWhy, Statement, TextError, parse};
-
-/// How long a text may be.
-const MOST_BYTES: usize = 1_048_576;
 
 /// A row has a `text` and its `statements`, each as its keyword, argument, line, first byte, end and
 /// block, or the line and the name of the `fault`.
@@ -27,73 +27,31 @@ impl Table for Texts {
 
 fn is_fault(said: &[Value], line: u32, why: ModelWhy) -> Result<bool, Fail> {
     match said {
-        [at, name] => Ok(at.as_u64() == Some(u64::from(line)) && name.as_str() == name_of(why)),
+        [at, name] => Ok(
+            at.as_u64() == Some(u64::from(line)) && name.as_str() == Some(model_why(why)),
+        ),
         _ => Err(Fail::Row),
     }
-}
-
-fn name_of(why: ModelWhy) -> Option<&'static str> {
-    match why {
-        ModelWhy::NotUtf8 => Some("NotUtf8"),
-        ModelWhy::BadToken => Some("BadToken"),
-        ModelWhy::Unbalanced => Some("Unbalanced"),
-        ModelWhy::TooDeep => Some("TooDeep"),
-        _ => None,
-    }
-}
-
-/// A statement, and what is said of it.
-#[derive(Clone, Copy, Drop)]
-struct Pair<'a> {
-    statement: &'a Statement,
-    said: &'a Value,
 }
 
 /// Whether statements are those of the row, with all in their blocks.
 fn are_said(alloc: Global, statements: &[Statement], said: &[Value]) -> Result<bool, Fail> {
     let mut open = Vec::new(alloc);
-    if !open_block(&mut open, statements, said)? {
-        return Ok(false);
-    }
+    let mut same = open_all(&mut open, statements, said)?;
     for _ in 0..u64::MAX {
-        let Some(pair) = open.pop() else {
-            return Ok(true);
+        let Some((statement, said)) = open.pop() else {
+            return Ok(same);
         };
-        if !is_head(&pair)
-            || !open_block(
-                &mut open,
-                pair.statement.block.items(),
-                block_of(pair.said)?,
-            )?
-        {
-            return Ok(false);
-        }
+        let block = items_of(said.get(5))?;
+        same = same
+            && is_head(statement, said)
+            && open_all(&mut open, statement.block.items(), block)?;
     }
     Ok(false)
 }
 
-/// Puts the statements of a block beside those of the row. False where there are more or fewer.
-fn open_block<'a>(
-    open: &mut Vec<Pair<'a>>,
-    statements: &'a [Statement],
-    said: &'a [Value],
-) -> Result<bool, Fail> {
-    for (statement, said) in statements.iter().zip(said) {
-        open.push(Pair { statement, said })?;
-    }
-    Ok(statements.len() == said.len())
-}
-
-fn block_of(said: &Value) -> Result<&[Value], Fail> {
-    match said.get(5).and_then(Value::as_array) {
-        Some(block) => Ok(block.as_slice()),
-        None => Err(Fail::Row),
-    }
-}
-
 /// Whether keyword, argument, line and span are as said.
-fn is_head(pair: &Pair<'_>) -> bool {
-    let Pair { statement, said } = pair;
+fn is_head(statement: &Statement, said: &Value) -> bool {
     let keyword = said.get(0).and_then(Value::as_str) == Some(statement.keyword.as_str());
     let argument = match &statement.argument {
         Some(text) => said.get(1).and_then(Value::as_str) == Some(text.as_str()),

@@ -1,6 +1,6 @@
 //! A small tree of nodes, made of a list of them.
 ghost use Rattle.std.specs.Prelude.{◌≡◌};
-ghost use Rattle.yang_examples.specs.SmallTrees.{children_of, is_family};
+ghost use Rattle.base_examples.specs.SmallTrees.{children_of, is_family};
 
 use example_rows::{Fail, number_at, text_at};
 use host_core::{Sequence, Txt};
@@ -155,7 +155,7 @@ impl SmallTree {
 }
 
 impl Nodes for SmallTree {
-    ghost use Rattle.yang_examples.specs.SmallTrees.{tree_of};
+    ghost use Rattle.base_examples.specs.SmallTrees.{tree_of};
 
     ghost tree = { tree_of };
 

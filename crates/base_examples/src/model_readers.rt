@@ -60,7 +60,8 @@ fn compile_one(alloc: Global, statements: Statements) -> Result<&'static str, Fa
     }
 }
 
-fn model_why(why: ModelWhy) -> &'static str {
+/// The name of a fault of a model.
+pub fn model_why(why: ModelWhy) -> &'static str {
     match why {
         ModelWhy::NotUtf8 => "NotUtf8",
         ModelWhy::BadToken => "BadToken",

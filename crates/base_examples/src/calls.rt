@@ -1,10 +1,14 @@
 //! Calls of the host in memory, done or failing, and what a crash leaves after them.
-ghost use Rattle.std.specs.Prelude.{◌≡◌, ◌≤◌, length, IfOk};
+ghost use Rattle.std.specs.Prelude.{◌≡◌, ◌≤◌, length};
 ghost use Rattle.host_core.specs.Names.{longest_file_name};
 ghost use Rattle.host_core.specs.State.{settled};
 
-use crate::hosts::{LONGEST_NAME, PICKS, are_names, faults_at, has_files, host_at, pick_of};
-use example_rows::{Fail, Table, items_at, number_at, text_at, text_bytes};
+use crate::acts::{Act, does_as_said};
+use crate::hosts::{LONGEST_NAME, answer_text, host_at, name_at, names_in};
+use crate::views::act_in_scope;
+use example_rows::{
+    Fail, Table, are_names, faults_at, is_text, items_at, number_at, says, text_at, text_bytes,
+};
 use host_core::{Failed, Host, HostError, Input, MemHost, Names};
 use serde_json::Value;
 use std::alloc::Global;
@@ -13,89 +17,79 @@ use std::alloc::Global;
 /// `bytes`, a name `to` go to or a `limit`; the calls whose numbers are in `fails` fail, and the last one
 /// gives the `answer`. Then the files are those under `reads`, and after a crash those under each pick,
 /// of which `Bytes` are the `torn` ones. What was printed is the `output`, and the `restarts` are those
-/// that were requested.
+/// that were requested. Where there is a `scope`, the call is one of the host that it shows, with a plain
+/// `name`.
 pub struct Calls;
 
 impl Table for Calls {
     fn is_as_said(&self, alloc: Global, row: &Value) -> Result<bool, Fail> {
-        let mut as_said = answers(alloc, row)?;
-        for pick in PICKS {
-            as_said = as_said && leaves(alloc, row, pick)?;
-        }
-        Ok(as_said)
+        does_as_said(alloc, self, row)
     }
 }
 
-/// The host of a row, of which those calls fail that the row tells.
-pub(crate) fn failing_host(alloc: Global, row: &Value) -> Result<MemHost, Fail>
-    ensures { IfOk result (λ m. m.state.pending ≡ settled) }
-{
-    let faults = faults_at(alloc, row)?;
-    host_at(alloc, row, faults)
-}
+impl Act for Calls {
+    fn host_before(&self, alloc: Global, row: &Value) -> Result<MemHost, Fail> {
+        let faults = faults_at(alloc, row)?;
+        host_at(alloc, row, faults)
+    }
 
-/// Whether the calls answer as the row says, and have done what it says.
-fn answers(alloc: Global, row: &Value) -> Result<bool, Fail> {
-    let mut host = failing_host(alloc, row)?;
-    does_as_said(alloc, row, &mut host)
-}
+    fn does(&self, alloc: Global, row: &Value, host: &mut MemHost) -> Result<bool, Fail> {
+        let answered = is_answer(alloc, row, host)?;
+        Ok(answered && has_come_out(alloc, row, "reads", host)?)
+    }
 
-fn does_as_said(alloc: Global, row: &Value, host: &mut MemHost) -> Result<bool, Fail>
-    requires { host.old.state.pending ≡ settled }
-{
-    Ok(is_answer(alloc, row, host)? && has_come_out(alloc, row, "reads", host)?)
+    fn is_left(
+        &self,
+        alloc: Global,
+        row: &Value,
+        pick: &str,
+        host: &mut MemHost,
+    ) -> Result<bool, Fail> {
+        has_come_out(alloc, row, pick, host)
+    }
 }
 
 /// Makes the calls, and tells whether the last one answered as the row says.
 fn is_answer(alloc: Global, row: &Value, host: &mut MemHost) -> Result<bool, Fail>
     requires { host.old.state.pending ≡ settled }
 {
-    let said = text_at(row, "answer")?;
-    let answer = act(alloc, row, host)?;
-    Ok(answer.as_str() == said)
+    let answer = if row.get("scope").is_some() {
+        act_in_scope(alloc, row, host)?
+    } else {
+        act(alloc, row, host)?
+    };
+    Ok(says(row, "answer", answer.as_str()))
 }
 
-/// Whether what came out of the host, and the files under a name, are those of the row.
+/// Whether the output, the restarts and the files under a name are those of the row.
 fn has_come_out(alloc: Global, row: &Value, name: &str, host: &mut MemHost) -> Result<bool, Fail> {
-    Ok(came_out(alloc, row, host)? && has_files(alloc, row, name, host)?)
+    let same_restarts = are_names(items_at(row, "restarts")?, host.restarts());
+    let same_output = is_text(alloc, row, "output", host.output())?;
+    Ok(same_restarts && same_output && has_files(alloc, row, name, host)?)
 }
 
-/// Whether a crash with that pick leaves what the row says, and what came out of the host.
-fn leaves(alloc: Global, row: &Value, pick: &str) -> Result<bool, Fail> {
-    let mut after = host_after(alloc, row, pick)?;
-    has_come_out(alloc, row, pick, &mut after)
-}
-
-/// The host of a row after its calls and a crash with that pick.
-fn host_after(alloc: Global, row: &Value, pick: &str) -> Result<MemHost, Fail> {
-    let pick = pick_of(alloc, row, pick)?;
-    let host = host_done(alloc, row)?;
-    Ok(host.crash(alloc, &pick)?)
-}
-
-/// The host of a row after its calls.
-fn host_done(alloc: Global, row: &Value) -> Result<MemHost, Fail> {
-    let mut host = failing_host(alloc, row)?;
-    let _ = is_answer(alloc, row, &mut host)?;
-    Ok(host)
-}
-
-/// Whether the output and the restarts are those of the row.
-pub(crate) fn came_out(alloc: Global, row: &Value, host: &MemHost) -> Result<bool, Fail> {
-    let printed = text_bytes(alloc, row, "output")?;
-    Ok(host.output() == printed.as_slice() && are_restarts(row, host)?)
-}
-
-fn are_restarts(row: &Value, host: &MemHost) -> Result<bool, Fail> {
-    let said = items_at(row, "restarts")?;
-    Ok(are_names(said, host.restarts()))
+/// Whether a host has the files under a name, and no others.
+fn has_files(alloc: Global, row: &Value, name: &str, host: &mut MemHost) -> Result<bool, Fail> {
+    let said = row.get(name).ok_or(Fail::Row)?;
+    let mut count = 0usize;
+    for (name, _) in said.as_object().ok_or(Fail::Row)? {
+        let same = match host.file(name.as_str()) {
+            Some(bytes) => is_text(alloc, said, name.as_str(), bytes)?,
+            None => false,
+        };
+        if !same {
+            return Ok(false);
+        }
+        count = count.saturating_add(1);
+    }
+    Ok(names_in(alloc, host)?.len() == count)
 }
 
 /// Makes the calls, and tells what the last one answered.
 fn act(alloc: Global, row: &Value, host: &mut MemHost) -> Result<String, Fail>
     requires { host.old.state.pending ≡ settled }
 {
-    let name = name_at(row, "name")?;
+    let name = name_at(row, "name", LONGEST_NAME)?;
     match text_at(row, "does")? {
         "input" => input_told(alloc, host.input(alloc, name, number_at(row, "limit")?)),
         "list" => names_told(alloc, host.list(alloc)),
@@ -119,7 +113,7 @@ fn change(
         return Ok(write(does, name, &text_bytes(alloc, row, "bytes")?, host));
     }
     if does.starts_with("rename") {
-        return rename(does, name, name_at(row, "to")?, host);
+        return rename(does, name, name_at(row, "to", LONGEST_NAME)?, host);
     }
     if does.starts_with("remove") {
         return remove(does, name, host);
@@ -133,41 +127,17 @@ fn change(
     }
 }
 
-/// A name of the row, not too long for a host.
-fn name_at<'a>(row: &'a Value, word: &str) -> Result<&'a str, Fail>
-    ensures { IfOk result (λ name. length name.now ≤ longest_file_name) }
-{
-    let name = row.get(word).and_then(Value::as_str).unwrap_or("none");
-    if name.len() > LONGEST_NAME {
-        return Err(Fail::Row);
-    }
-    Ok(name)
-}
-
 /// A write, and what comes behind it.
 fn write(does: &str, name: &str, bytes: &[u8], host: &mut MemHost) -> Result<(), Failed>
     requires short { length name.now ≤ longest_file_name }
     requires ready { host.old.state.pending ≡ settled }
 {
-    if does == "write, sync" {
-        return write_and_sync(name, bytes, host);
-    }
     let written = host.write(name, bytes);
     match does {
+        "write, sync" => host.sync(name),
         "write, settle" => host.settle(),
         "write, print" => host.print(bytes),
         _ => written,
-    }
-}
-
-/// A write and then a sync, whether it failed or not.
-fn write_and_sync(name: &str, bytes: &[u8], host: &mut MemHost) -> Result<(), Failed>
-    requires short { length name.now ≤ longest_file_name }
-    requires ready { host.old.state.pending ≡ settled }
-{
-    match host.write(name, bytes) {
-        Ok(()) => host.sync(name),
-        Err(Failed) => host.sync(name),
     }
 }
 
@@ -245,10 +215,7 @@ fn text_of(alloc: Global, bytes: &[u8]) -> Result<String, Fail> {
 }
 
 pub(crate) fn told(alloc: Global, answer: Result<(), Failed>) -> Result<String, Fail> {
-    match answer {
-        Ok(()) => Ok(String::from_str(alloc, "Ok")?),
-        Err(Failed) => Ok(String::from_str(alloc, "Failed")?),
-    }
+    Ok(String::from_str(alloc, answer_text(answer))?)
 }
 
 fn failed(alloc: Global, error: HostError) -> Result<String, Fail> {

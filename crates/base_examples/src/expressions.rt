@@ -1,5 +1,6 @@
 //! Expressions that are read, with their tree, or refused.
-use example_rows::{Fail, Table, text_at};
+use crate::pairs::open_all;
+use example_rows::{Fail, Table, items_of, text_at};
 use serde_json::Value;
 use std::alloc::Global;
 use xpath_part::{Cmp, Expr, ExprError, Operand, Origin, Step, Walk};
@@ -18,22 +19,18 @@ impl Table for Expressions {
     }
 }
 
-/// An expression, and what is said of it.
-#[derive(Clone, Copy, Drop)]
-struct Pair<'a> {
-    expr: &'a Expr,
-    said: &'a Value,
-}
+/// The expressions that are yet to be compared, each beside what is said of it.
+type Open<'a> = Vec<(&'a Expr, &'a Value)>;
 
 /// Whether an expression has that tree.
 fn is_said(alloc: Global, expr: &Expr, said: &Value) -> Result<bool, Fail> {
     let mut open = Vec::new(alloc);
-    open.push(Pair { expr, said })?;
+    open.push((expr, said))?;
     for _ in 0..u64::MAX {
-        let Some(pair) = open.pop() else {
+        let Some((expr, said)) = open.pop() else {
             return Ok(true);
         };
-        if !is_node(&mut open, pair.expr, pair.said)? {
+        if !is_node(&mut open, expr, said)? {
             return Ok(false);
         }
     }
@@ -41,48 +38,29 @@ fn is_said(alloc: Global, expr: &Expr, said: &Value) -> Result<bool, Fail> {
 }
 
 /// Whether the outermost of an expression is as said. What it is made of is yet to be compared.
-fn is_node<'a>(open: &mut Vec<Pair<'a>>, expr: &'a Expr, said: &'a Value) -> Result<bool, Fail> {
+fn is_node<'a>(open: &mut Open<'a>, expr: &'a Expr, said: &'a Value) -> Result<bool, Fail> {
     let name = said.get(0).and_then(Value::as_str);
     match expr {
         Expr::Or(left, right) => {
-            open.push(Pair {
-                expr: left.expr(),
-                said: part(said, 1)?,
-            })?;
-            open.push(Pair {
-                expr: right.expr(),
-                said: part(said, 2)?,
-            })?;
+            open_two(open, left.expr(), right.expr(), said)?;
             Ok(name == Some("or"))
         }
         Expr::And(left, right) => {
-            open.push(Pair {
-                expr: left.expr(),
-                said: part(said, 1)?,
-            })?;
-            open.push(Pair {
-                expr: right.expr(),
-                said: part(said, 2)?,
-            })?;
+            open_two(open, left.expr(), right.expr(), said)?;
             Ok(name == Some("and"))
         }
         Expr::Not(inner) => {
-            open.push(Pair {
-                expr: inner.expr(),
-                said: part(said, 1)?,
-            })?;
+            open.push((inner.expr(), part(said, 1)?))?;
             Ok(name == Some("not"))
         }
         Expr::Alone(operand) => {
             Ok(name == Some("alone") && is_operand(open, operand, part(said, 1)?)?)
         }
         Expr::Equal(left, right) => {
-            let same_left = is_operand(open, left, part(said, 1)?)?;
-            Ok(name == Some("=") && same_left && is_operand(open, right, part(said, 2)?)?)
+            Ok(name == Some("=") && are_operands(open, left, right, said)?)
         }
         Expr::Differ(left, right) => {
-            let same_left = is_operand(open, left, part(said, 1)?)?;
-            Ok(name == Some("!=") && same_left && is_operand(open, right, part(said, 2)?)?)
+            Ok(name == Some("!=") && are_operands(open, left, right, said)?)
         }
         Expr::Count(walk, comparison, number) => {
             let sign = said.get(2).and_then(Value::as_str) == Some(sign_of(*comparison));
@@ -90,6 +68,28 @@ fn is_node<'a>(open: &mut Vec<Pair<'a>>, expr: &'a Expr, said: &'a Value) -> Res
             Ok(name == Some("count") && sign && same && is_walk(open, walk, part(said, 1)?)?)
         }
     }
+}
+
+/// Puts two expressions beside the first two parts of what is said.
+fn open_two<'a>(
+    open: &mut Open<'a>,
+    left: &'a Expr,
+    right: &'a Expr,
+    said: &'a Value,
+) -> Result<(), Fail> {
+    open.push((left, part(said, 1)?))?;
+    open.push((right, part(said, 2)?))?;
+    Ok(())
+}
+
+/// Whether two operands are the first two parts of what is said.
+fn are_operands<'a>(
+    open: &mut Open<'a>,
+    left: &'a Operand,
+    right: &'a Operand,
+    said: &'a Value,
+) -> Result<bool, Fail> {
+    Ok(is_operand(open, left, part(said, 1)?)? && is_operand(open, right, part(said, 2)?)?)
 }
 
 fn part(said: &Value, place: usize) -> Result<&Value, Fail> {
@@ -108,7 +108,7 @@ fn sign_of(comparison: Cmp) -> &'static str {
 }
 
 fn is_operand<'a>(
-    open: &mut Vec<Pair<'a>>,
+    open: &mut Open<'a>,
     operand: &'a Operand,
     said: &'a Value,
 ) -> Result<bool, Fail> {
@@ -122,8 +122,8 @@ fn is_operand<'a>(
 }
 
 /// Whether a path is as said: `path`, its origin and its steps.
-fn is_walk<'a>(open: &mut Vec<Pair<'a>>, walk: &'a Walk, said: &'a Value) -> Result<bool, Fail> {
-    let Some([name, origin, steps @ ..]) = list_of(said) else {
+fn is_walk<'a>(open: &mut Open<'a>, walk: &'a Walk, said: &'a Value) -> Result<bool, Fail> {
+    let [name, origin, steps @ ..] = items_of(Some(said))? else {
         return Ok(false);
     };
     let path = name.as_str() == Some("path") && origin.as_str() == Some(origin_of(walk.origin));
@@ -136,13 +136,6 @@ fn is_walk<'a>(open: &mut Vec<Pair<'a>>, walk: &'a Walk, said: &'a Value) -> Res
     Ok(path && found.len() == steps.len())
 }
 
-fn list_of(said: &Value) -> Option<&[Value]> {
-    match said.as_array() {
-        Some(items) => Some(items.as_slice()),
-        None => None,
-    }
-}
-
 fn origin_of(origin: Origin) -> &'static str {
     match origin {
         Origin::Root => "root",
@@ -151,7 +144,7 @@ fn origin_of(origin: Origin) -> &'static str {
     }
 }
 
-fn is_step<'a>(open: &mut Vec<Pair<'a>>, step: &'a Step, said: &'a Value) -> Result<bool, Fail> {
+fn is_step<'a>(open: &mut Open<'a>, step: &'a Step, said: &'a Value) -> Result<bool, Fail> {
     match step {
         Step::Up => Ok(said.as_str() == Some("..")),
         Step::Stay => Ok(said.as_str() == Some(".")),
@@ -160,7 +153,7 @@ fn is_step<'a>(open: &mut Vec<Pair<'a>>, step: &'a Step, said: &'a Value) -> Res
             name,
             tests,
         } => {
-            let Some([said_prefix, said_name, said_tests @ ..]) = list_of(said) else {
+            let [said_prefix, said_name, said_tests @ ..] = items_of(Some(said))? else {
                 return Ok(false);
             };
             let same_prefix = match prefix {
@@ -168,20 +161,8 @@ fn is_step<'a>(open: &mut Vec<Pair<'a>>, step: &'a Step, said: &'a Value) -> Res
                 None => said_prefix.is_null(),
             };
             let same_name = said_name.as_str() == Some(name.as_str());
-            let same_tests = open_tests(open, tests.items(), said_tests)?;
+            let same_tests = open_all(open, tests.items(), said_tests)?;
             Ok(same_prefix && same_name && same_tests)
         }
     }
-}
-
-/// Puts predicates beside those of the row. False where there are more or fewer.
-fn open_tests<'a>(
-    open: &mut Vec<Pair<'a>>,
-    tests: &'a [Expr],
-    said: &'a [Value],
-) -> Result<bool, Fail> {
-    for (expr, said) in tests.iter().zip(said) {
-        open.push(Pair { expr, said })?;
-    }
-    Ok(tests.len() == said.len())
 }

@@ -1,5 +1,5 @@
 //! Patches over several scopes.
-use example_rows::{Fail, Table, text_bytes, written_at};
+use example_rows::{Fail, Table, is_written, text_bytes};
 use patch_core::{Patch, PatchError, operation_bytes, read_patch};
 use scopes::{Scoped, SplitError, split};
 use serde_json::Value;
@@ -11,10 +11,9 @@ pub struct Splits;
 
 impl Table for Splits {
     fn is_as_said(&self, alloc: Global, row: &Value) -> Result<bool, Fail> {
-        let said = written_at(alloc, row, "gives")?;
         let patch = patch_at(alloc, row)?;
         let told = split_told(alloc, &patch)?;
-        Ok(told.as_slice() == said.as_slice())
+        is_written(alloc, row, "gives", &told)
     }
 }
 

@@ -1,12 +1,12 @@
 //! What each reader answers, by name.
-use crate::documents::{read_as_config, read_as_document, read_as_patch, read_as_rules};
-use crate::model_files::{read_as_list, read_as_models, read_as_statements};
-use crate::texts::{read_as_expression, read_as_pattern, read_as_plan, read_as_pointer};
+use crate::json_readers::{read_as_config, read_as_document, read_as_patch, read_as_rules};
+use crate::model_readers::{read_as_list, read_as_models, read_as_statements};
+use crate::text_readers::{read_as_expression, read_as_pattern, read_as_plan, read_as_pointer};
 use example_rows::Fail;
 use std::alloc::Global;
 
 /// How many bytes a text may have.
-const MOST_BYTES: usize = 1_048_576;
+pub const MOST_BYTES: usize = 1_048_576;
 
 /// What a reader answers to these bytes: `read`, or the name of its refusal.
 pub fn answer(alloc: Global, reader: &str, bytes: &[u8]) -> Result<&'static str, Fail> {

@@ -1,0 +1,86 @@
+//! Hosts in memory as rows tell them.
+ghost use Rattle.std.specs.Prelude.{◌≡◌, ◌≤◌, length, IfOk};
+ghost use Rattle.host_core.specs.State.{settled};
+
+use conf_store::LoadError;
+use example_rows::{Fail, push_pairs, text_bytes};
+use host_core::{Failed, Faults, Host, HostError, MemHost, Names, Pick, Sequence};
+use serde_json::Value;
+use std::alloc::Global;
+
+/// How many bytes a name may have.
+pub const LONGEST_NAME: usize = 96;
+
+/// A host with the `files` and the `inputs` of a row, each a name with its bytes.
+pub fn host_at(alloc: Global, row: &Value, faults: Faults) -> Result<MemHost, Fail>
+    ensures { IfOk result (λ m. m.state.pending ≡ settled) }
+{
+    let mut inputs = Vec::new(alloc);
+    push_pairs(alloc, row.get("inputs"), &mut inputs)?;
+    let mut files = Vec::new(alloc);
+    push_pairs(alloc, row.get("files"), &mut files)?;
+    Ok(MemHost::new(alloc, inputs, files, faults)?)
+}
+
+/// The host of a row, of which no call fails.
+pub fn calm_host(alloc: Global, row: &Value) -> Result<MemHost, Fail>
+    ensures { IfOk result (λ m. m.state.pending ≡ settled) }
+{
+    let faults = faults_from(alloc, None);
+    host_at(alloc, row, faults)
+}
+
+/// Faults of all calls from a number on, or of none.
+pub fn faults_from(alloc: Global, from: Option<u64>) -> Faults {
+    let at = Sequence::new(alloc);
+    Faults { at, from }
+}
+
+/// A pick, whose bytes are the `torn` ones of the row.
+pub fn pick_of(alloc: Global, row: &Value, name: &str) -> Result<Pick, Fail> {
+    match name {
+        "Gone" => Ok(Pick::Gone),
+        "Bytes" => {
+            let torn = text_bytes(alloc, row, "torn")?;
+            Ok(Pick::Bytes(Sequence::from_vec(torn)))
+        }
+        "Before" => Ok(Pick::Before),
+        _ => Ok(Pick::After),
+    }
+}
+
+/// The name under a word, or `none`. It has at most so many bytes.
+pub fn name_at<'a>(row: &'a Value, word: &str, most: usize) -> Result<&'a str, Fail>
+    ensures { IfOk result (λ name. length name.now ≤ most) }
+{
+    let name = row.get(word).and_then(Value::as_str).unwrap_or("none");
+    if name.len() > most {
+        return Err(Fail::Row);
+    }
+    Ok(name)
+}
+
+/// The word for what a call that may change something answers.
+pub fn answer_text(answer: Result<(), Failed>) -> &'static str {
+    match answer {
+        Ok(()) => "Ok",
+        Err(Failed) => "Failed",
+    }
+}
+
+/// The names of a host's files.
+pub fn names_in(alloc: Global, host: &mut MemHost) -> Result<Names, Fail> {
+    match host.list(alloc) {
+        Ok(names) => Ok(names),
+        Err(HostError::Memory) => Err(Fail::Memory),
+        Err(HostError::Failed) => Err(Fail::Row),
+    }
+}
+
+/// Why a row doesn't load where it says that it does.
+pub fn fail_of(error: LoadError) -> Fail {
+    match error {
+        LoadError::Memory => Fail::Memory,
+        LoadError::Bad(_) | LoadError::Disk => Fail::Row,
+    }
+}
