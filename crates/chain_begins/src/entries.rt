@@ -32,7 +32,7 @@ pub(crate) trait EntryMoves {
     fn is_of_missing(&self) -> bool
         ensures { IsTrue result → AreOfMissing (is_given self.now) (other self.now) };
 
-    /// Puts those moves. What the other configuration has at that place is given too.
+    /// Appends one entry's moves. What the other configuration has at that place is given too.
     fn give(
         &self,
         alloc: Global,
@@ -76,7 +76,7 @@ fn count_settled<M: EntryMoves>(
     }
 }
 
-/// Puts the moves for the entries of a table.
+/// Appends the moves of a table's entries.
 fn give_in_table<M: EntryMoves>(
     alloc: Global,
     name: &str,
@@ -100,7 +100,7 @@ fn give_in_table<M: EntryMoves>(
     Ok(())
 }
 
-/// Puts the moves for the entries of a configuration.
+/// Appends the moves of a configuration's entries.
 pub(crate) fn give_entries<M: EntryMoves>(
     alloc: Global,
     config: &Config,

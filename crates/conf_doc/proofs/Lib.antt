@@ -1,4 +1,5 @@
 pub mod AtPlaces
+mod Segments
 pub mod ItemMaps
 pub mod Edits
 pub mod Equalities
@@ -6,6 +7,7 @@ pub mod Escapes
 pub mod Lists
 pub mod Names
 pub mod NestedValues
+mod Joined
 pub mod JsonValues
 pub mod PartOrders
 pub mod TextReadings

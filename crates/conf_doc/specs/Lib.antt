@@ -10,13 +10,16 @@ pub mod PartOrder
 pub mod Paths
 pub mod Pointer
 pub mod Reading
+pub mod Runs
 pub mod Shaping
 pub mod Sound
 pub mod Texts
 pub mod Trees
 pub mod WellFormed
 -- what only private clauses cite
+pub mod Blocks
 pub mod Indexes
+pub mod Joined
 pub mod OrderLaws
 pub mod Shared
 pub mod Stops

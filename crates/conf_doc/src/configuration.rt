@@ -4,6 +4,7 @@ ghost use Rattle.conf_doc.specs.Changes.{entry_at, value_at};
 ghost use Rattle.conf_doc.specs.Pairs.{find, first_from};
 ghost use Rattle.conf_doc.specs.WellFormed.{AreTexts, IsConfig, IsEntry, IsTable, IsValue};
 
+use crate::entries::Entries;
 use crate::sorted::Sorted;
 use host_core::{Memory, Names, Txt};
 use std::alloc::Global;
@@ -16,21 +17,21 @@ pub enum Value {
     List(Names),
 }
 
-/// The fields of an entry, sorted by name. No name is empty, and none stands twice. Contracts see the
+/// The fields of an entry, sorted by name. No name is empty, and none is there twice. Contracts see the
 /// list of pairs of a name and a value.
 #[derive(Drop, Eq, Hash, Ord, PartialEq, PartialOrd)]
 pub struct Entry {
     pub(crate) fields: Sorted<Value>,
 }
 
-/// The entries of a table, sorted by key. No key is empty, and none stands twice. Contracts see the
+/// The entries of a table, sorted by key. No key is empty, and none is there twice. Contracts see the
 /// list of pairs of a key and an entry.
 #[derive(Drop, Eq, Hash, Ord, PartialEq, PartialOrd)]
 pub struct Table {
-    pub(crate) entries: Sorted<Entry>,
+    pub(crate) entries: Entries,
 }
 
-/// The tables of a configuration, sorted by name. No name is empty, and none stands twice. Contracts see
+/// The tables of a configuration, sorted by name. No name is empty, and none is there twice. Contracts see
 /// the list of pairs of a name and a table.
 #[derive(Drop, Eq, Hash, PartialEq)]
 pub struct Config {
@@ -211,7 +212,7 @@ impl Table {
         ensures { result ≡ [] }
     {
         Table {
-            entries: Sorted::new(alloc),
+            entries: Entries::new(alloc),
         }
     }
 
@@ -220,7 +221,7 @@ impl Table {
         ensures entry { option_map (λ v. v.now) result ≡ find key.now self.now }
         ensures formed { IsTable self.now }
     {
-        self.entries.find(key)
+        self.entries.list().find(key)
     }
 
     /// How many entries there are.
@@ -228,7 +229,7 @@ impl Table {
         ensures len { result ≡ length self.now }
         ensures formed { IsTable self.now }
     {
-        self.entries.len()
+        self.entries.list().len()
     }
 
     /// The key of the entry at an index, counted from 0 in the order of the keys.
@@ -236,7 +237,7 @@ impl Table {
         requires { i < length self.now }
         ensures { slice_get (map (λ p. p.0) self.now) i ≡ Some result.now }
     {
-        self.entries.name_at(i)
+        self.entries.list().name_at(i)
     }
 
     /// The entry at an index.
@@ -245,7 +246,7 @@ impl Table {
         ensures part { slice_get (map (λ p. p.1) self.now) i ≡ Some result.now }
         ensures formed { IsTable self.now }
     {
-        self.entries.part_at(i)
+        self.entries.list().part_at(i)
     }
 
     /// The key of an entry and the entry at an index.
@@ -254,7 +255,7 @@ impl Table {
         ensures pair { slice_get self.now i ≡ Some (result.0.now, result.1.now) }
         ensures formed { IsTable self.now }
     {
-        self.entries.both_at(i)
+        self.entries.list().both_at(i)
     }
 
     /// The first index from which no key is below that text, or the length. Keys that begin with a text
@@ -262,7 +263,7 @@ impl Table {
     pub fn first_from(&self, key: &str) -> usize
         ensures { result ≡ first_from key.now self.now }
     {
-        self.entries.first_from(key)
+        self.entries.list().first_from(key)
     }
 
     /// The same table.

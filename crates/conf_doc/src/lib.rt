@@ -1,11 +1,14 @@
 //! Configurations and JSON documents as values: how they are read, shaped, changed, compared and written.
 #![tactic(auto)]
 
+mod blocks;
 mod changes;
 mod comparisons;
 mod configuration;
+mod entries;
 mod errors;
 mod indexes;
+mod joining;
 mod laws;
 mod parts;
 mod paths;

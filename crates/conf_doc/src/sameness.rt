@@ -1,12 +1,14 @@
 //! Whether two configurations, or parts of them, are the same: in one pass, lengths first, with no memory.
-ghost use Rattle.std.specs.Prelude.{◌≡◌, ◌↔◌, IsTrue};
+ghost use Rattle.std.specs.Prelude.{◌≡◌, ◌↔◌, ◌≤◌, length, IsTrue};
+ghost use Rattle.conf_doc.specs.Runs.{IsRun};
+ghost use Rattle.conf_doc.specs.WellFormed.{IsTable};
 
 use crate::sorted::Sorted;
 use crate::{Config, Entry, Table, Value};
 use host_core::{Names, Txt};
 
 /// Values of which can be said that they are the same.
-trait Same {
+pub(crate) trait Same {
     fn is_same(&self, other: &Self) -> bool
         ensures { IsTrue result ↔ (self.now ≡ other.now) };
 }
@@ -25,7 +27,18 @@ impl Table {
     pub fn same(&self, other: &Table) -> bool
         ensures { IsTrue result ↔ (self.now ≡ other.now) }
     {
-        same_parts(&self.entries, &other.entries)
+        self.entries.same(&other.entries)
+    }
+
+    /// How many entries, with their keys, two tables have alike, each from an index on.
+    pub fn count_same(&self, i: usize, other: &Table, j: usize) -> usize
+        requires first { i ≤ length self.now }
+        requires second { j ≤ length other.now }
+        ensures run { IsRun self.now i other.now j result }
+        ensures formed { IsTable self.now }
+        ensures other_formed { IsTable other.now }
+    {
+        self.entries.count_same(i, &other.entries, j)
     }
 }
 
@@ -84,7 +97,7 @@ fn same_parts<X: Same>(left: &Sorted<X>, right: &Sorted<X>) -> bool
 }
 
 /// Whether the names and the parts are the same.
-fn same_pair<X: Same>(left: &(Txt, X), right: &(Txt, X)) -> bool
+pub(crate) fn same_pair<X: Same>(left: &(Txt, X), right: &(Txt, X)) -> bool
     ensures { IsTrue result ↔ (left.now ≡ right.now) }
 {
     left.0.as_str() == right.0.as_str() && left.1.is_same(&right.1)

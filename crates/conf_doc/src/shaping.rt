@@ -8,6 +8,7 @@ ghost use Rattle.conf_doc.specs.Stops.{located, stop_place};
 ghost use Rattle.conf_doc.specs.Trees.{document};
 ghost use Rattle.conf_doc.specs.WellFormed.{AreTexts, Each, IsConfig, IsEntry, IsShaped, IsTable, IsValue};
 
+use crate::entries::Entries;
 use crate::sorted::Sorted;
 use crate::stops::Stop;
 use crate::{Config, Entry, Items, Members, ShapeError, Table, Tree, Value};
@@ -71,8 +72,9 @@ impl Shaped for Table {
     ghost IsWell = { IsTable };
 
     fn shape(alloc: Global, tree: Tree) -> Result<Table, Stop> {
+        let list = shape_map(alloc, tree)?;
         Ok(Table {
-            entries: shape_map(alloc, tree)?,
+            entries: Entries::of(alloc, list),
         })
     }
 }

@@ -1,6 +1,7 @@
 //! The list under tables, entries and fields: pairs of a name and a part, sorted by the names. A pair
 //! stands behind one pointer, so that a changed list shares every other pair with the old one.
-ghost use Rattle.std.specs.Prelude.{◌≡◌, ◌<◌, [], length, map, option_map, slice_get, Some, IfOk, IsUtf8, OnOk};
+ghost use Rattle.std.specs.Prelude.{◌≡◌, ◌<◌, [], length, map, option_map, slice_get, Some, IfErr, IfOk, IsUtf8, OnOk};
+ghost use Rattle.conf_doc.specs.Indexes.{IsAt, IsGap};
 ghost use Rattle.conf_doc.specs.Pairs.{find, first_from, put, set_part, without, IsRising};
 ghost use Rattle.conf_doc.specs.Shared.{pairs_of};
 ghost use Rattle.conf_doc.specs.WellFormed.{IsShaped};
@@ -102,6 +103,14 @@ impl<X> Sorted<X> {
         ensures { slice_get (map (λ p. p.1) self.now) i ≡ Some result.now }
     {
         &self.pair_at(i).1
+    }
+
+    /// The index of a name, or else the index where it would go.
+    pub(crate) fn index_of(&self, name: &str) -> Result<usize, usize>
+        ensures found { IfOk result (IsAt self.now name.now) }
+        ensures absent { IfErr result (IsGap self.now name.now) }
+    {
+        index_of_pair(&self.pairs, name)
     }
 
     /// What a name names, or None where it stands nowhere.

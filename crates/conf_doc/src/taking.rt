@@ -40,7 +40,7 @@ impl Taken for Config {
 impl Taken for Table {
     fn into_tree(self, alloc: Global) -> Result<Tree, Memory> {
         let Table { entries } = self;
-        take_parts(alloc, entries)
+        take_parts(alloc, entries.into_list())
     }
 }
 

@@ -80,11 +80,11 @@ impl Written for Table {
     ghost as_document = { table_tree };
 
     fn tree(&self, alloc: Global) -> Result<Tree, Memory> {
-        tree_of_parts(alloc, &self.entries)
+        tree_of_parts(alloc, self.entries.list())
     }
 
     fn write(&self, out: &mut Pretty) -> Result<(), AllocError> {
-        write_parts(&self.entries, out)
+        write_parts(self.entries.list(), out)
     }
 }
 
