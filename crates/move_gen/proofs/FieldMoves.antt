@@ -1,6 +1,6 @@
 -- What is given for the fields of the entries that both have is what the third generator gives.
 use Rattle.std.proofs.Common.{◌≡◌, ◌≢◌, ◌↔◌, ℕ, List, [], ◌∷◌, inl, inr, refl, sym, ap, ◌∙◌, subst, arith}
-use Rattle.std.specs.Prelude.{Option, Some, None, IsSome, slice_get}
+use Rattle.std.specs.Prelude.{Option, Some, IsSome, slice_get}
 use Rattle.conf_doc.specs.Changes.{part_at, HasPlace}
 use Rattle.conf_doc.specs.Pairs.{find}
 use Rattle.conf_doc.specs.declared.configuration.Config.{Config}
@@ -16,6 +16,7 @@ use Rattle.move_gen.specs.EntryLaws.{changed_for}
 use Rattle.move_gen.specs.FieldsOfEntry.{IsFieldOf, IsForEntry}
 use Rattle.move_gen.specs.Given.{IsChangedEntry, IsOfFields, IsOfTable, IsRemovedField, IsSetField, own_move}
 use Rattle.move_gen.specs.Giving.{IsOfSome}
+use Rattle.move_gen.specs.SameEntryLaws.{no_fields}
 use Rattle.move_gen.proofs.OwnPlaces.{apart_add, apart_replace, of_its_place, owned}
 use Rattle.move_gen.proofs.PlaceParts.{IsEntryAt, entry_there, lacks_value, no_value, some_there, some_value, there_entry, there_value, value_there}
 
@@ -33,21 +34,7 @@ fields_apart t k old new g h s = by s.is
 
 -- an entry that stays the same has none
 pub unchanged : (t k : List ℕ) (old new : Entry) (g : Generated) → old ≡ new → ¬ IsOfFields t k old new g
-unchanged t k old new g same is = alike old (subst (λ e. IsOfFields t k old e g) (sym same) is)
-  where
-    same_value : (u v : Value) → Some u ≡ Some v → u ≡ v
-    same_value u v e = cc
-
-    apart : (v : Value) → None ≡ Some v → ⊥
-    apart v e = cc
-
-    set_none : (e : Entry) (n : List ℕ) (v : Value) → find n e ≡ Some v → ¬ IsSetField t k e n v g
-    set_none e n v there (inl is) = apart v (sym is.0 ∙ there)
-    set_none e n v there (inr is) = is.2.0 (same_value is.0 v (sym is.1 ∙ there))
-
-    alike : (e : Entry) → ¬ IsOfFields t k e e g
-    alike e (inl h) = apart h.part (sym h.is.0 ∙ h.there)
-    alike e (inr h) = set_none e h.name h.part h.there h.is
+unchanged t k old new g same is = no_fields t k old g (subst (λ e. IsOfFields t k old e g) (sym same) is)
 
 -- cur's entry is the one at goal's place
 pub of_entry : (cur : Config) (t k : List ℕ) (old new : Entry) (g : Generated) → Some (part.Entry old) ≡ part_at cur (t ∷ k ∷ []) → IsOfFields t k old new g ↔ IsChangedEntry cur t k new g

@@ -8,7 +8,7 @@ pub mod GeneratorKinds
 pub mod OwnPlaces
 pub mod PlaceParts
 pub mod SamePairs
-pub mod CommonEntries
+pub mod SameEntries
 pub mod TableMoves
 pub mod Walks
 pub mod WantNames

@@ -9,7 +9,7 @@ use Rattle.host_core.specs.Names.{name_cmp}
 use Rattle.move_core.specs.Appends.{Appends, AppendsSome}
 use Rattle.conf_doc.specs.Pairs.{AreNamed, IsRising, find}
 use Rattle.conf_doc.proofs.Edits.{find_at, first_from_at, same_name}
-use Rattle.move_gen.specs.Giving.{Giver, Gives, IsOfFirst, IsOfSome}
+use Rattle.move_gen.specs.Giving.{Giver, Gives, IsNoneFrom, IsOfFirst, IsOfSome}
 use Rattle.move_gen.proofs.ListGrowth.{appends_alike, appends_both, appends_none, appends_then_some, gives_some, some_weaker}
 
 same_Some : {A : Type 0} (x y : A) → Some x ≡ Some y → x ≡ y
@@ -104,6 +104,23 @@ module _ {A B : Type 0} (P : Giver A B) (ps : List (List ℕ × A)) where
   -- a walk that ends
   pub walk_ends : IsRising ps → (i : ℕ) (old new : List B) → length ps ≤ i → Appends (IsOfFirst P ps i) old new → Appends (IsOfSome P ps) old new
   walk_ends rising i old new end so_far = appends_alike (IsOfFirst P ps i) (IsOfSome P ps) old new (first_all i rising end) so_far
+
+  -- behind pairs that none is for no more is given than before them
+  first_passed : (i n : ℕ) → i ≤ n → IsNoneFrom P ps i n → (b : B) → IsOfFirst P ps i b ↔ IsOfFirst P ps n b
+  first_passed i n upward none b = (forth, back)
+    where
+      forth : IsOfFirst P ps i b → IsOfFirst P ps n b
+      forth h = let before = h.before in record { index = h.index; before = omega (arith, before, upward); name = h.name; named = h.named; part = h.part; there = h.there; is = h.is }
+
+      back : IsOfFirst P ps n b → IsOfFirst P ps i b
+      back h = elim (cases_lt h.index i) as (λ _. IsOfFirst P ps i b) [
+        | inl less ↦ record { index = h.index; before = less; name = h.name; named = h.named; part = h.part; there = h.there; is = h.is }
+        | inr from ↦ absurd (none h.index from h.before h.name h.part h.named h.there b h.is)
+      ]
+
+  -- a walk that passes over them
+  pub walk_passes : (i n : ℕ) (old new : List B) → i ≤ n → IsNoneFrom P ps i n → Appends (IsOfFirst P ps i) old new → Appends (IsOfFirst P ps n) old new
+  walk_passes i n old new upward none so_far = appends_alike (IsOfFirst P ps i) (IsOfFirst P ps n) old new (first_passed i n upward none) so_far
 
   -- one that begins
   pub walk_begins : (old : List B) → Appends (IsOfFirst P ps 0) old old

@@ -49,6 +49,12 @@ abbrev pub AreOfMissing : EntryGiver → Config → Type 0
 AreOfMissing Is other =
     (t k : List ℕ) (e : Entry) (g : Generated) → Is t k e g → Lacks other (t ∷ k ∷ [])
 
+-- none is for an entry that the other configuration has the same
+abbrev pub AreForDiffering : EntryGiver → Config → Type 0
+AreForDiffering Is other =
+    (t k : List ℕ) (e : Entry) (g : Generated) → Is t k e g
+    → part_at other (t ∷ k ∷ []) ≢ Some (part.Entry e)
+
 -- what is given for the entries of a table
 abbrev pub IsOfTable : EntryGiver → Giver Table Generated
 IsOfTable Is t table g = IsOfSome (Is t) table g

@@ -1,5 +1,5 @@
 -- What a call puts at the end of a list.
-use Rattle.std.specs.Prelude.{◌≡◌, ◌<◌, ℕ, List, Result, Ok, Err, Some, map, slice_get}
+use Rattle.std.specs.Prelude.{◌≡◌, ◌<◌, ◌≤◌, ℕ, List, Result, Ok, Err, Some, map, slice_get}
 use Rattle.conf_doc.specs.Pairs.{find}
 use Rattle.move_core.specs.Appends.{Appends, AppendsSome}
 
@@ -30,6 +30,10 @@ pub record IsOfFirst {A B : Type 0} (Is : Giver A B) (ps : List (List ℕ × A))
   pub there : slice_get (map (λ p. p.1) ps) index ≡ Some part
   pub is : Is name part b
 
--- none is for a pair before an index
-abbrev pub IsNoneOfFirst : {A B : Type 0} → Giver A B → List (List ℕ × A) → ℕ → Type 0
-IsNoneOfFirst {A} {B} Is ps n = (b : B) → ¬ IsOfFirst Is ps n b
+-- none is for a pair from an index on and before another
+abbrev pub IsNoneFrom : {A B : Type 0} → Giver A B → List (List ℕ × A) → ℕ → ℕ → Type 0
+IsNoneFrom {A} {B} Is ps i n =
+    (j : ℕ) → i ≤ j → j < n → (name : List ℕ) (part : A)
+    → slice_get (map (λ p. p.0) ps) j ≡ Some name
+    → slice_get (map (λ p. p.1) ps) j ≡ Some part
+    → (b : B) → ¬ Is name part b

@@ -12,7 +12,7 @@ use Rattle.move_core.specs.Moves.{Place}
 use Rattle.move_core.specs.declared.moves.Generated.{Generated}
 use Rattle.move_core.specs.declared.moves.Move.TheVariants.{AddItem, RemoveItem}
 use Rattle.move_gen.specs.Given.{own_move}
-use Rattle.move_gen.specs.Giving.{Giver, IsOfSome}
+use Rattle.move_gen.specs.Giving.{IsOfSome}
 
 -- the remove of cur's item at an index
 abbrev pub IsRemovedItem : (old new : List (List ℕ)) → Place → ℕ → Generated → Type 0

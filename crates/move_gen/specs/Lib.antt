@@ -9,3 +9,4 @@ pub mod EntryLaws
 pub mod FieldWants
 pub mod Given
 pub mod ItemsGiven
+pub mod SameEntryLaws

@@ -5,6 +5,7 @@ ghost use Rattle.move_gen.specs.Adding.{IsAs, class_of};
 ghost use Rattle.move_gen.specs.EntryLaws.{added_for};
 ghost use Rattle.move_gen.specs.Given.{IsAddedEntry};
 ghost use Rattle.move_gen.specs.Giving.{Gives};
+ghost use Rattle.move_gen.specs.SameEntryLaws.{added_differ};
 
 use crate::entries::EntryMoves;
 use crate::giving::{KEY_CLASS, SEED_CLASS, give};
@@ -83,6 +84,8 @@ impl<'a> EntryMoves for AddedEntries<'a> {
     }
 
     ghost for_entries = { λ s. added_for (IsAs s.fields) (class_of s.fields) s.cur.now };
+
+    ghost for_differing = { λ s. added_differ (IsAs s.fields) (class_of s.fields) s.cur.now };
 }
 
 /// The add of an entry at its place, or where its table isn't there, of the table that holds it alone.

@@ -1,21 +1,24 @@
-//! Entries of a table that is gone through beside another one, and fields of an entry: where both have the same
-//! names, each is found next to the last.
-ghost use Rattle.std.specs.Prelude.{◌≡◌, ◌<◌, ◌≤◌, length, map, option_and_then, option_copied, slice_get, Some, IsTrue};
+//! Entries of a table that is gone through beside another one, and fields of an entry: how many keys both have alike,
+//! and where both have the same names, each is found next to the last.
+ghost use Rattle.std.specs.Prelude.{◌≡◌, ◌+◌, ◌<◌, ◌≤◌, length, map, option_and_then, option_copied, slice_get, Some, IsTrue};
 ghost use Rattle.conf_doc.specs.Pairs.{IsRising, find};
 ghost use Rattle.move_gen.specs.Beside.{AreNamedAlike};
 
 use conf_doc::{Entry, Table, Value};
 
-/// How many keys two tables begin with alike.
-pub(crate) fn same_keys_front(table: &Table, other: &Table) -> usize
-    ensures within { result ≤ length table.now }
-    ensures alike { AreNamedAlike result table.now other.now }
+/// How many keys two tables have alike, each from an index on.
+pub(crate) fn count_same_keys(table: &Table, i: usize, other: &Table, near: usize) -> usize
+    requires first { i ≤ length table.now }
+    requires second { near ≤ length other.now }
+    ensures within { i + result ≤ length table.now }
+    ensures beside { near + result ≤ length other.now }
+    ensures alike { AreNamedAlike table.now i other.now near result }
     ensures rising { IsRising other.now }
 {
-    let both = table.len().min(other.len());
-    for i in 0..both {
-        if table.name_at(i) != other.name_at(i) {
-            return i;
+    let both = (table.len() - i).min(other.len() - near);
+    for k in 0..both {
+        if table.name_at(i + k) != other.name_at(near + k) {
+            return k;
         }
     }
     both

@@ -1,10 +1,11 @@
-//! The walk over the entries of a configuration, with moves for each.
-ghost use Rattle.std.specs.Prelude.{◌≡◌, ◌<◌, ◌≤◌, length, option_copied};
+//! The walk over the entries of a configuration, with moves for each. What the other configuration has the same,
+//! or where that is enough has at all, is passed over.
+ghost use Rattle.std.specs.Prelude.{◌≡◌, ◌+◌, ◌<◌, ◌≤◌, length, option_copied, Some};
 ghost use Rattle.conf_doc.specs.Pairs.{find};
 ghost use Rattle.move_gen.specs.Given.{IsOfTable};
-ghost use Rattle.move_gen.specs.Giving.{Gives, IsNoneOfFirst, IsOfSome};
+ghost use Rattle.move_gen.specs.Giving.{Gives, IsNoneFrom, IsOfSome};
 
-use crate::beside::{look_beside, same_keys_front};
+use crate::beside::{count_same_keys, look_beside};
 use conf_doc::{Config, Entry, Table};
 use host_core::Memory;
 use move_core::Generated;
@@ -16,7 +17,7 @@ pub(crate) trait EntryMoves {
     ghost use Rattle.conf_doc.specs.Changes.{part_at};
     ghost use Rattle.conf_doc.specs.declared.configuration.Config.{Config as Configuration};
     ghost use Rattle.conf_doc.specs.declared.parts.Part.TheVariants as part;
-    ghost use Rattle.move_gen.specs.Given.{AreForEntries, AreOfMissing, EntryGiver};
+    ghost use Rattle.move_gen.specs.Given.{AreForDiffering, AreForEntries, AreOfMissing, EntryGiver};
 
     /// What is given for a table, a key and the entry there.
     ghost is_given: { Self → EntryGiver };
@@ -32,7 +33,7 @@ pub(crate) trait EntryMoves {
     fn is_of_missing(&self) -> bool
         ensures { IsTrue result → AreOfMissing (is_given self.now) (other self.now) };
 
-    /// Puts those moves. What the other configuration has at that place is given too.
+    /// Appends one entry's moves. What the other configuration has at that place is given too.
     fn give(
         &self,
         alloc: Global,
@@ -51,32 +52,62 @@ pub(crate) trait EntryMoves {
 
     /// They are for places of that entry.
     ghost for_entries: { (s : Self) → AreForEntries (is_given s) };
+
+    /// None is for an entry that the other configuration has the same.
+    ghost for_differing: { (s : Self) → AreForDiffering (is_given s) (other s) };
 }
 
-/// How many of the first entries of a table have no moves, since the other configuration has them too.
+/// How many entries of a table, from an index on, have no moves: those that the other table has the same from an
+/// index on, or has at all where that is enough.
 fn count_settled<M: EntryMoves>(
     name: &str,
     table: &Table,
-    other: Option<&Table>,
+    i: usize,
+    other: &Table,
+    near: usize,
     moves: &M,
 ) -> usize
-    requires { option_copied other ≡ find name.now (M.other moves.now) }
-    ensures within { result ≤ length table.now }
-    ensures none { IsNoneOfFirst (M.is_given moves.now name.now) table.now result }
+    requires first { i ≤ length table.now }
+    requires second { near ≤ length other.now }
+    requires there { find name.now (M.other moves.now) ≡ Some other.now }
+    ensures within { i + result ≤ length table.now }
+    ensures beside { near + result ≤ length other.now }
+    ensures none { IsNoneFrom (M.is_given moves.now name.now) table.now i (i + result) }
 {
-    match other {
-        Some(other) => {
-            if moves.is_of_missing() {
-                same_keys_front(table, other)
-            } else {
-                0
-            }
-        }
-        None => 0,
+    if moves.is_of_missing() {
+        count_same_keys(table, i, other, near)
+    } else {
+        table.count_same(i, other, near)
     }
 }
 
-/// Puts the moves for the entries of a table.
+/// The index behind such entries, and where to look in the other table, which may not be there.
+fn pass_settled<M: EntryMoves>(
+    name: &str,
+    table: &Table,
+    i: usize,
+    other: Option<&Table>,
+    near: usize,
+    moves: &M,
+) -> (usize, usize)
+    requires first { i ≤ length table.now }
+    requires there { option_copied other ≡ find name.now (M.other moves.now) }
+    ensures from { i ≤ result.0 }
+    ensures none { IsNoneFrom (M.is_given moves.now name.now) table.now i result.0 }
+{
+    // It fits an index, and so do the sums below.
+    let _ = table.len();
+    match other {
+        Some(other) => {
+            let near = near.min(other.len());
+            let settled = count_settled(name, table, i, other, near, moves);
+            (i + settled, near + settled)
+        }
+        None => (i, near),
+    }
+}
+
+/// Appends the moves of a table's entries.
 fn give_in_table<M: EntryMoves>(
     alloc: Global,
     name: &str,
@@ -89,18 +120,17 @@ fn give_in_table<M: EntryMoves>(
         Gives Is result out.old.items out.new.items }
 {
     let other = moves.beside().table(name);
-    let first = count_settled(name, table, other, moves);
-    let mut near = first;
-    for i in first..table.len() {
+    let (mut i, mut near) = pass_settled(name, table, 0, other, 0, moves);
+    while i < table.len() {
         let key = table.name_at(i);
         let (there, next) = look_beside(other, key, near);
         moves.give(alloc, name, key, table.part_at(i), there, out)?;
-        near = next;
+        (i, near) = pass_settled(name, table, i + 1, other, next, moves);
     }
     Ok(())
 }
 
-/// Puts the moves for the entries of a configuration.
+/// Appends the moves of a configuration's entries.
 pub(crate) fn give_entries<M: EntryMoves>(
     alloc: Global,
     config: &Config,

@@ -8,6 +8,7 @@ ghost use Rattle.move_gen.specs.EntryLaws.{changed_for};
 ghost use Rattle.move_gen.specs.FieldsOfEntry.{IsFieldOf};
 ghost use Rattle.move_gen.specs.Given.{IsChangedEntry, IsOfFields, IsRemovedField, IsReplace, IsSetField};
 ghost use Rattle.move_gen.specs.Giving.{Gives, IsOfSome};
+ghost use Rattle.move_gen.specs.SameEntryLaws.{changed_differ};
 
 use crate::beside::field_near;
 use crate::entries::{EntryMoves, give_entries};
@@ -84,6 +85,8 @@ impl<'a> EntryMoves for ChangedEntries<'a> {
     }
 
     ghost for_entries = { λ s. changed_for s.cur.now };
+
+    ghost for_differing = { λ s. changed_differ s.cur.now };
 }
 
 /// Puts the remove of a field that goal's entry lacks. There it is looked for first at an index.

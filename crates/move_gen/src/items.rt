@@ -5,6 +5,7 @@ ghost use Rattle.move_core.specs.Generated.{IsFirstDifference, IsFromItems, IsIt
 ghost use Rattle.move_gen.specs.EntryLaws.{lists_for};
 ghost use Rattle.move_gen.specs.Giving.{Gives, IsOfSome};
 ghost use Rattle.move_gen.specs.ItemsGiven.{HasNewItem, HasNoItems, IsAddedItem, IsItemAt, IsItemOfField, IsOfItems, IsOfItemsOfEntry, IsOfLists, IsRemovedItem};
+ghost use Rattle.move_gen.specs.SameEntryLaws.{lists_differ};
 
 use crate::beside::field_near;
 use crate::entries::{EntryMoves, give_entries};
@@ -82,6 +83,8 @@ impl<'a> EntryMoves for ChangedLists<'a> {
     }
 
     ghost for_entries = { λ s. lists_for s.cur.now };
+
+    ghost for_differing = { λ s. lists_differ s.cur.now };
 }
 
 /// The smaller length.

@@ -4,6 +4,7 @@ ghost use Rattle.move_core.specs.Generated.{IsFromKeys};
 ghost use Rattle.move_gen.specs.EntryLaws.{removed_for};
 ghost use Rattle.move_gen.specs.Given.{IsRemovedEntry};
 ghost use Rattle.move_gen.specs.Giving.{Gives};
+ghost use Rattle.move_gen.specs.SameEntryLaws.{removed_differ};
 
 use crate::adding::{AddedEntries, Fields};
 use crate::entries::{EntryMoves, give_entries};
@@ -81,6 +82,8 @@ impl<'a> EntryMoves for RemovedEntries<'a> {
     }
 
     ghost for_entries = { λ s. removed_for s.goal.now };
+
+    ghost for_differing = { λ s. removed_differ s.goal.now };
 }
 
 /// Puts the removes and the adds.

@@ -3,6 +3,7 @@ use Rattle.std.proofs.Common.{◌≡◌, ◌≢◌, ◌⊎◌, ◌<◌, ◌≤�
 use Rattle.std.proofs.lemmas.Bool.{cases_lt}
 use Rattle.std.proofs.lemmas.Option.{none-some, slice_get_within}
 use Rattle.conf_doc.specs.Pairs.{IsRising, find}
+use Rattle.conf_doc.specs.Runs.{IsRun}
 use Rattle.conf_doc.specs.WellFormed.{IsConfig}
 use Rattle.conf_doc.specs.declared.configuration.Config.{Config}
 use Rattle.conf_doc.specs.declared.configuration.Table.{Table}
@@ -17,7 +18,7 @@ use Rattle.recheck.specs.Verdicts.{AreSound, IsSound}
 use Rattle.recheck.specs.declared.verdicts.Verdict.{Verdict}
 use Rattle.recheck.proofs.VerdictChanges.{all_sound}
 use Rattle.recheck.proofs.Lists.{among_all, entry_found}
-use Rattle.recheck.proofs.Pairs.{found_at, found_there, left_at, pair_at, some_same}
+use Rattle.recheck.proofs.Pairs.{found_at, found_there, left_at, some_same}
 
 -- ---- lists of pairs
 
@@ -67,18 +68,6 @@ same_but ps qs key s p q n rises rising heads tails all_ps all_qs mid_ps mid_qs 
 
 -- ---- one more
 
-pub same_none : {A : Type 0} (ps qs : List A) (i j : ℕ) → AreSameFrom ps i qs j 0
-same_none ps qs i j k l low high e = absurd (omega arith)
-
-pub same_more : {A : Type 0} (ps qs : List A) (i j n : ℕ) → AreSameFrom ps i qs j n → slice_get ps (i + n) ≡ slice_get qs (j + n) → AreSameFrom ps i qs j (n + 1)
-same_more ps qs i j n before here k l low high e = elim (cases_lt k (i + n)) [
-  | inl less ↦ before k l low less e
-  | inr last ↦
-      let first : i + n ≡ k = omega arith in
-      let second : j + n ≡ l = omega arith in
-      ap (slice_get ps) (sym first) ∙ here ∙ ap (slice_get qs) second
-]
-
 pub at_more : (first second : Config) (table key : List ℕ) (n : ℕ) → ((i : ℕ) → i < n → AgreeAt first second table key i) → AgreeAt first second table key n
     → (i : ℕ) → i < n + 1 → AgreeAt first second table key i
 at_more first second table key n before here i lt = elim (cases_lt i n) [
@@ -86,14 +75,14 @@ at_more first second table key n before here i lt = elim (cases_lt i n) [
   | inr last ↦ let same : n ≡ i = omega arith in subst (AgreeAt first second table key) same here
 ]
 
-pub same_end : {A : Type 0} (ps qs : List A) (i j n count : ℕ) → count ≤ n → AreSameFrom ps i qs j n → AreSameFrom ps i qs j count
-same_end ps qs i j n count past all k l low high e = all k l low (omega arith) e
+-- ---- runs
 
-pub same_pairs : {A : Type 0} (ps qs : List (List ℕ × A)) (i j : ℕ) (a b : List ℕ) (x y : A) → slice_get (map (λ p. p.0) ps) i ≡ Some a
-    → slice_get (map (λ p. p.0) qs) j ≡ Some b → slice_get (map (λ p. p.1) ps) i ≡ Some x → slice_get (map (λ p. p.1) qs) j ≡ Some y
-    → a ≡ b → x ≡ y → slice_get ps i ≡ slice_get qs j
-same_pairs ps qs i j a b x y a_at b_at x_at y_at name part =
-    pair_at ps i a x a_at x_at ∙ ap (λ n. Some (n, x)) name ∙ ap (λ z. Some (b, z)) part ∙ sym (pair_at qs j b y b_at y_at)
+-- the first items of a run are the same
+pub same_in_run : {A : Type 0} (ps qs : List A) (i j n count : ℕ) → count ≤ n → IsRun ps i qs j n → AreSameFrom ps i qs j count
+same_in_run ps qs i j n count long run k l low high e =
+    let first : i + (k - i) ≡ k = omega (arith, low) in
+    let second : j + (k - i) ≡ l = omega (arith, low, e) in
+    sym (ap (slice_get ps) first) ∙ run.same (k - i) (omega (arith, long, low, high)) ∙ ap (slice_get qs) second
 
 -- ---- configurations
 

@@ -1,4 +1,4 @@
-//! Whether two configurations have the same but for one entry. They are gone through side by side.
+//! Two configurations compared: whether they have the same but for one entry. They are gone through side by side.
 ghost use Rattle.std.specs.Prelude.{◌≡◌, ◌↔◌, ◌<◌, ◌≤◌, ◌+◌, ℕ, length, map, Some, IsTrue, slice_get};
 ghost use Rattle.recheck.specs.Agreements.{AgreeAt, AreSameBut, AreSameFrom};
 ghost use Rattle.ref_index.specs.Agreements.{AgreeBut};
@@ -28,32 +28,13 @@ fn entry_after(table: &Table, at: usize, key: &str) -> usize
     at + 1
 }
 
-/// Whether two tables have the same entry, each at a place.
-fn is_same_entry(first: &Table, i: usize, second: &Table, j: usize) -> bool
-    requires first { i < length first.now }
-    requires second { j < length second.now }
-    ensures { IsTrue result → slice_get first.now i ≡ slice_get second.now j }
-{
-    if !is_same_name(first.name_at(i), second.name_at(j)) {
-        return false;
-    }
-    first.part_at(i).same(second.part_at(j))
-}
-
 /// Whether some entries of a table from a place on are those of another one from a place on.
 fn are_same(first: &Table, i: usize, second: &Table, j: usize, count: usize) -> bool
     requires first { i + count ≤ length first.now }
     requires second { j + count ≤ length second.now }
     ensures { IsTrue result → AreSameFrom first.now i second.now j count }
 {
-    let _ = first.len();
-    let _ = second.len();
-    for n in 0..count {
-        if !is_same_entry(first, i + n, second, j + n) {
-            return false;
-        }
-    }
-    true
+    first.count_same(i, second, j) >= count
 }
 
 /// Whether two tables have the same entries but for that of a key.

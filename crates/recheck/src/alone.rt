@@ -1,5 +1,5 @@
-//! Whether a change of one entry may turn no other: no must reads its table, and where its key goes no entry wants
-//! a part of it.
+//! Whether a change of one entry may turn no other: no must reads its table, and where its key goes no want can
+//! dangle, since no entry wants a part of it.
 ghost use Rattle.std.specs.Prelude.{◌≡◌, ◌⊎◌, ℕ, IsTrue, is_some};
 ghost use Rattle.std.specs.Bool.{OnFalse};
 ghost use Rattle.std.specs.List.{All};

@@ -1,5 +1,5 @@
-//! Which verdicts a change of the configuration leaves: not those on entries that differ, not those on entries
-//! with a want that such an entry met, and not those on entries with a must that reads a changed table.
+//! A change of the configuration invalidates cached verdicts: those on entries that differ, those on entries with a
+//! want that such an entry met, and those on entries with a must that reads a changed table.
 ghost use Rattle.std.specs.Prelude.{◌≡◌, ◌↔◌, ◌⊎◌, ◌<◌, ℕ, List, length, None, Some, IsTrue, is_some, map, option_and_then, option_map, slice_get};
 ghost use Rattle.std.specs.List.{All};
 ghost use Rattle.conf_doc.specs.Pairs.{find};

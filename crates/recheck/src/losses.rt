@@ -1,5 +1,5 @@
-//! Where an entry may have lost what it wants: the entry to look at before anything else. Which one it is
-//! steers only how soon an invalid configuration is told.
+//! A removed target of a reference, and an entry that wants it: the entry to look at before anything else. Which one it
+//! is steers only how soon an invalid configuration is told.
 ghost use Rattle.std.specs.Prelude.{◌≤◌, length, IfSome};
 ghost use Rattle.move_core.specs.Moves.{place};
 

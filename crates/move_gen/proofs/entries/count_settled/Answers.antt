@@ -1,14 +1,14 @@
-use Rattle.std.proofs.Common.{sym, ap, ◌∙◌}
-use Rattle.std.specs.Prelude.{option_copied}
-use Rattle.move_gen.proofs.CommonEntries.{none_for_both}
+use Rattle.move_gen.proofs.SameEntries.{none_for_both, none_for_same}
 use Rattle.move_gen.proofs.entries.count_settled.Goals as goal
 
-pub returns-then-is_of_missing : goal.returns-then-is_of_missing
-returns-then-is_of_missing g c =
-    let ensures = c.same_keys_front.ensures in
-    record {
-      within = ensures.within;
-      none =
-          none_for_both (g.M.EntryMoves.is_given c.args.moves.now) (g.M.EntryMoves.other c.args.moves.now) c.args.name.now c.args.table.now c.in-Some.other.now
-          c.same_keys_front.result (c.is_of_missing.ensures c.if-is_of_missing.true) (sym c.requires ∙ ap option_copied c.in-Some.is) ensures.rising ensures.alike;
-    }
+pub returns-then-is_of_missing-clause-none : goal.returns-then-is_of_missing-clause-none
+returns-then-is_of_missing-clause-none g c =
+    let ensures = c.count_same_keys.ensures in
+    none_for_both (g.M.EntryMoves.is_given c.args.moves.now) (g.M.EntryMoves.other c.args.moves.now) c.args.name.now c.args.table.now c.args.other.now
+    c.args.i c.args.near c.count_same_keys.result c.requires.there ensures.rising (c.is_of_missing.ensures c.if-is_of_missing.true) ensures.alike
+
+pub returns-else-is_of_missing-clause-none : goal.returns-else-is_of_missing-clause-none
+returns-else-is_of_missing-clause-none g c =
+    let ensures = c.count_same.ensures in
+    none_for_same (g.M.EntryMoves.is_given c.args.moves.now) (g.M.EntryMoves.other c.args.moves.now) c.args.name.now c.args.table.now c.args.other.now
+    c.args.i c.args.near c.count_same.result c.requires.there ensures.other_formed.shaped.rising (g.met.M.EntryMoves.for_differing c.args.moves.now) ensures.run

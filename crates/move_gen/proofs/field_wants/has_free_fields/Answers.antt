@@ -1,5 +1,4 @@
 use Rattle.std.proofs.Common.{inr, sym, subst}
-use Rattle.std.proofs.lemmas.Bool.{false≢true}
 use Rattle.move_gen.specs.FieldWants.{AreElsewhere}
 use Rattle.move_gen.proofs.WantNames.{none_left, passes, unnamed}
 use Rattle.move_gen.proofs.field_wants.has_free_fields.Goals as goal
