@@ -33,6 +33,12 @@ abbrev pub types_of : List DataType → DataTypes
 types_of [] = no_types
 types_of (t ∷ ts) = type_and t (types_of ts)
 
+-- the types that a type is as a member of a union: of a union its own members, in their order
+-- (RFC 7950, section 9.12: a value is tried against the members one by one)
+abbrev pub members : DataType → List DataType
+members (union ts) = plain_types ts
+members t = t ∷ []
+
 abbrev mutual
   -- how many types a type has in it, itself included
   pub type_weight : DataType → ℕ

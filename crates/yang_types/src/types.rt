@@ -1,6 +1,7 @@
 //! The types of leaves.
 
-ghost use Rattle.std.specs.Prelude.{◌≡◌, ◌<◌, [], ◌∷◌, ◌++◌, length, map, slice_get, Some, IfOk, OnOk, OnErr};
+ghost use Rattle.std.specs.Prelude.{◌≡◌, ◌<◌, [], ◌∷◌, ◌++◌, length, map, slice_get, Some, IfErr, IfOk, OnOk, OnErr};
+ghost use Rattle.yang_types.specs.DataType.{members, types_of, union};
 ghost use Rattle.yang_types.specs.DataTypes.{data_type};
 
 use host_core::{Memory, Names, Sequence, Txt};
@@ -111,6 +112,20 @@ impl Drop for Ty {
     }
 }
 
+impl Ty {
+    /// The members of a union. A type that is none is given back.
+    pub fn into_union(self) -> Result<Types, Ty>
+        ensures union { IfOk result (λ types. data_type self ≡ union (types_of types)) }
+        ensures same { IfErr result (λ ty. data_type ty ≡ data_type self) }
+        ensures other { IfErr result (λ ty. members (data_type ty) ≡ data_type ty ∷ []) }
+    {
+        match self {
+            Ty::Union(types) => Ok(types),
+            _ => Err(self),
+        }
+    }
+}
+
 impl Model for TyBox {
     ghost use Rattle.yang_types.specs.Coding.{coded_type};
     ghost use Rattle.yang_types.specs.DataType.{DataType, type_weight};
@@ -200,6 +215,14 @@ impl Types {
         ensures { map data_type result.now ≡ self.now }
     {
         self.types.as_slice()
+    }
+
+    /// The types, out of their list.
+    pub fn into_items(self) -> Vec<Ty>
+        ensures { map data_type result.items ≡ self }
+    {
+        let Types { types } = self;
+        types
     }
 
     /// The type at an index, counted from 0.

@@ -1,12 +1,12 @@
 -- Types of which the same is known make types of which the same is known.
 use Rattle.std.proofs.Common.{◌≡◌, inl, inr, ◌↔◌, ◌+◌, ◌<◌, ◌||◌, not, ℕ, zero, suc, Bool, true, false, cond, true≢false, List, [], ◌∷◌, ◌++◌, map, take, length, get_or, codes, Option, Some, None, option_and_then, refl, sym, ap, ◌∙◌, subst, arith}
 use Rattle.std.specs.Prelude.{Contains}
-use Rattle.std.specs.List.{AllZip, fold}
+use Rattle.std.specs.List.{AllZip, flat_map, fold}
 use Rattle.std.specs.Option.{option_map_or}
 use Rattle.std.proofs.lemmas.List.{map-append}
 use Rattle.yang_text.specs.Declarations.{Declaration, argument, block}
 use Rattle.yang_types.specs.Accepts.{Accepts, AcceptsAny}
-use Rattle.yang_types.specs.DataType.{DataType, text, number, length_within, value_within, matching, truth, builtin, union, types_of}
+use Rattle.yang_types.specs.DataType.{DataType, text, number, length_within, value_within, matching, truth, builtin, union, members, types_of}
 use Rattle.yang_types.specs.declared.types.Bounds.{Bounds}
 use Rattle.yang_types.specs.declared.types.Target.{Target}
 use Rattle.yang_scope.specs.Meanings.{type_meaning, base_of}
@@ -24,6 +24,7 @@ use Rattle.yang_values.specs.TypeValues.{path_of, only_type, leafref_of, named_t
 use Rattle.yang_values.specs.Values.{parts_in, restricted_values}
 use Rattle.yang_values.specs.Walks.{AreReached}
 use Rattle.yang_values.specs.declared.endless.Taste.{Taste}
+use Rattle.yang_values.proofs.FlatUnions.{flat_leafref, flat_accepts}
 use Rattle.yang_values.proofs.ReachableTypes.{no_element, mapped_more}
 
 -- two types are leafrefs or hold them alike, and accept a text alike
@@ -55,10 +56,16 @@ module _ (s : List ℕ) where
         ),
       )
 
-  union_alike : (ts us : List DataType) → AllZip (Alike s) ts us → Alike s (union (types_of ts)) (union (types_of us))
+  union_alike : (ts us : List DataType) → AllZip (Alike s) ts us → Alike s (union (types_of (flat_map members ts))) (union (types_of (flat_map members us)))
   union_alike ts us z =
       let all = any_alike ts us z in
-      record { holds = all.0; accepts = all.1 }
+      record {
+        holds = flat_leafref ts ∙ all.0 ∙ sym (flat_leafref us);
+        accepts = (
+          λ h. (flat_accepts s us).1 (all.1.0 ((flat_accepts s ts).0 h)),
+          λ h. (flat_accepts s ts).1 (all.1.1 ((flat_accepts s us).0 h)),
+        );
+      }
 
   leafref_alike : (o : Option Target) (ts us : List DataType) → AllZip (Alike s) ts us → Alike s (leafref_of o ts) (leafref_of o us)
   leafref_alike None ts us z = record { holds = refl; accepts = (only_alike ts us z).accepts }

@@ -15,4 +15,5 @@ pub mod Weights
 pub mod ValuelessParts
 pub mod Ways
 pub mod StatementNesting
+pub mod FlatUnions
 pub mod KnownTypes

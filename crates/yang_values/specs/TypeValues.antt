@@ -5,7 +5,7 @@ use Rattle.std.specs.Prelude.{ℕ, zero, suc, ◌&&◌, ◌||◌, Bool, true, fa
 use Rattle.std.specs.List.{fold, flat_map}
 use Rattle.std.specs.Option.{option_map_or, option_to_list}
 use Rattle.yang_text.specs.Declarations.{Declaration, argument, block}
-use Rattle.yang_types.specs.DataType.{DataType, text, number, length_within, value_within, matching, one_of, truth, builtin, leafref, union, types_of}
+use Rattle.yang_types.specs.DataType.{DataType, text, number, length_within, value_within, matching, one_of, truth, builtin, leafref, union, members, types_of}
 use Rattle.yang_types.specs.declared.types.Bounds.{Bounds}
 use Rattle.yang_types.specs.declared.types.Target.{Target}
 use Rattle.yang_scope.specs.Meanings.{type_meaning, base_of}
@@ -65,7 +65,7 @@ abbrev pub leafref_of : Option Target → List DataType → DataType
 leafref_of None ts = leafref nowhere (only_type ts)
 leafref_of (Some target) ts = leafref target (only_type ts)
 
--- what a name stands for, by the types that it leads to
+-- what a name stands for, by the types that it leads to; no union stands right within another
 abbrev pub named_type : List Module → Declaration → List DataType → Meaning → DataType
 named_type modules d ts Nothing = text
 named_type modules d ts (Goes m place) = only_type ts
@@ -75,7 +75,7 @@ named_type modules d ts (Ends Enumeration) = one_of (flat_map enum_name (block d
 named_type modules d ts (Ends Truth) = truth
 named_type modules d ts (Ends Leafref) =
     leafref_of (option_and_then (target_of modules) (path_of d)) ts
-named_type modules d ts (Ends Union) = union (types_of ts)
+named_type modules d ts (Ends Union) = union (types_of (flat_map members ts))
 named_type modules d ts (Ends (BuiltIn b)) = builtin b
 
 -- a pattern that is one
@@ -116,8 +116,7 @@ type_by is_pattern modules p ts =
     fold
     (restrict_if_taken is_pattern (base_of modules p.0 (argument p.1))
     (restricted_values modules p.0 p.1))
-    (named_type modules p.1 ts (type_meaning modules p.0 (argument p.1)))
-    (block p.1)
+    (named_type modules p.1 ts (type_meaning modules p.0 (argument p.1))) (block p.1)
 
 -- the type of a statement, by what it leads to in at most so many steps
 unfoldable pub type_within : (List ℕ → Bool) → List Module → ℕ → Placed → DataType

@@ -3,6 +3,7 @@ ghost use Rattle.std.specs.Prelude.{◌≡◌, ◌++◌, map, option_and_then, I
 ghost use Rattle.std.specs.List.{flat_map};
 ghost use Rattle.yang_text.specs.Declarations.{block};
 ghost use Rattle.yang_text.specs.Statements.{declaration};
+ghost use Rattle.yang_types.specs.DataType.{members};
 ghost use Rattle.yang_types.specs.DataTypes.{data_type};
 ghost use Rattle.yang_values.specs.Targets.{target_of};
 ghost use Rattle.yang_values.specs.TypeValues.{path_of, enum_name, only_type, nowhere, leafref_of, named_type};
@@ -53,15 +54,35 @@ pub(crate) fn only_type(types: Vec<Ty>) -> Ty
     }
 }
 
-/// The same types as a list of their own.
-fn types_of(alloc: Global, types: Vec<Ty>) -> Result<Types, Memory>
-    ensures { IfOk result (λ same. same ≡ map data_type types.items) }
+/// Adds types to others, in their order.
+fn push_all(all: &mut Types, types: Vec<Ty>) -> Result<(), Memory>
+    ensures { IfOk result (λ _. all.new ≡ all.old ++ map data_type types.items) }
 {
-    let mut same = Types::new(alloc);
     for ty in types {
-        same.push(ty)?;
+        all.push(ty)?;
     }
-    Ok(same)
+    Ok(())
+}
+
+/// Adds what a type is as a member of a union.
+fn push_members(all: &mut Types, ty: Ty) -> Result<(), Memory>
+    ensures { IfOk result (λ _. all.new ≡ all.old ++ members (data_type ty)) }
+{
+    match ty.into_union() {
+        Ok(types) => push_all(all, types.into_items()),
+        Err(ty) => all.push(ty),
+    }
+}
+
+/// The members of a union of some types.
+fn members_of(alloc: Global, types: Vec<Ty>) -> Result<Types, Memory>
+    ensures { IfOk result (λ all. all ≡ flat_map members (map data_type types.items)) }
+{
+    let mut all = Types::new(alloc);
+    for ty in types {
+        push_members(&mut all, ty)?;
+    }
+    Ok(all)
 }
 
 /// The target of a leafref whose path leads to nothing.
@@ -128,7 +149,7 @@ pub(crate) fn named_type(
             leafref_of(alloc, target, types)
         }
         Meaning::Ends(Base::Union) => {
-            let members = types_of(alloc, types)?;
+            let members = members_of(alloc, types)?;
             Ok(Ty::Union(members))
         }
         Meaning::Ends(Base::Builtin(builtin)) => Ok(Ty::Builtin(builtin)),

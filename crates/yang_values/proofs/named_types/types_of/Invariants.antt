@@ -1,6 +1,0 @@
-use Rattle.std.proofs.Common.{◌≡◌, ◌++◌, map}
-use Rattle.yang_types.specs.DataTypes.{data_type}
-use Rattle.yang_values.proofs.named_types.types_of.Given as goal
-
-abbrev pub invariant-loop-ty : goal.invariant-loop-ty
-invariant-loop-ty l = map data_type l.fn.types.items ≡ l.same ++ map data_type l.ty-iterator.rest.items
