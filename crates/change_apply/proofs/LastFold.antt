@@ -16,7 +16,7 @@ use Rattle.change_apply.specs.Stages.{AtFolded, AtStep, first_steps}
 use Rattle.change_apply.specs.Work.{IsReady, change_in, count}
 use Rattle.change_apply.specs.declared.errors.ApplyFault.TheVariants.{Disk}
 use Rattle.change_apply.specs.declared.ready.Work.{Work}
-use Rattle.change_apply.proofs.Due.{count_is}
+use Rattle.change_apply.proofs.DueSteps.{count_is}
 use Rattle.change_apply.proofs.FoldStages.{IsGoal, folding_last, goal_at, last_folded, last_stops}
 use Rattle.change_apply.proofs.Moments.{LeavesOf}
 use Rattle.change_apply.proofs.StepFiles.{all_named}

@@ -1,5 +1,5 @@
 mod Counting
-mod Due
+mod DueSteps
 mod FoldStages
 pub mod IntentNames
 mod IntentStages

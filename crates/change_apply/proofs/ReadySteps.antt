@@ -38,7 +38,7 @@ use Rattle.change_apply.specs.Stages.{first_steps}
 use Rattle.change_apply.specs.Work.{AreReady, IsReadyStep}
 use Rattle.change_apply.specs.declared.ready.ReadyStep.{ReadyStep}
 use Rattle.change_apply.specs.declared.ready.Restart.{Restart}
-use Rattle.change_apply.proofs.Due.{get_from_slice}
+use Rattle.change_apply.proofs.DueSteps.{get_from_slice}
 use Rattle.change_apply.proofs.StepFiles.{conf_start}
 
 -- ---- a move's value nests four levels deep at most

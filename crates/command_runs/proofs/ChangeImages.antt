@@ -25,7 +25,7 @@ use Rattle.gcu_engine.specs.Crashes.{IsOutputFront, IsWorkFront, LeftChanged, Le
 use Rattle.gcu_engine.proofs.IntentRemovals.{begun_output}
 use Rattle.command_runs.specs.Works.{AreAcknowledged, IsWork}
 use Rattle.command_runs.proofs.Acknowledgements.{acknowledged_by, cut_acknowledged, printed_acks, quiet_front}
-use Rattle.command_runs.proofs.CommitsTold.{KeepsWorlds}
+use Rattle.command_runs.proofs.CommitTexts.{KeepsWorlds}
 use Rattle.command_runs.proofs.LastLines.{IsPlain, last_is_plain, service_is_plain}
 use Rattle.command_runs.proofs.Queries.{IsReady, plain_has_neither, work_ready, work_told}
 use Rattle.command_runs.proofs.WorkOutputs.{AreToldBy, cut_work, told_work, unplanned_front}

@@ -7,8 +7,8 @@ use Rattle.gcu_output.specs.declared.outcomes.Outcome.TheVariants.{Done, PrintFa
 use Rattle.command_runs.proofs.Acknowledgements as acked
 use Rattle.command_runs.proofs.Acknowledgements.{Quiet, silent}
 use Rattle.command_runs.proofs.CompactTexts.{heads}
-use Rattle.command_runs.proofs.NothingTold.{number_has_no_told, one_word_has_no_told}
-use Rattle.command_runs.proofs.OperatorsTold.{HasNoTold}
+use Rattle.command_runs.proofs.OtherTexts.{number_has_no_told, one_word_has_no_told}
+use Rattle.command_runs.proofs.OperatorTexts.{HasNoTold}
 use Rattle.command_runs.proofs.SessionLines.{decimal_is_low, low_more}
 
 pub last_line_is_quiet : (e : Outcome) → Quiet (last_line e)

@@ -2,7 +2,7 @@ pub mod Acknowledgements
 pub mod CommandLists
 pub mod Budgets
 pub mod ChangeImages
-pub mod CommitsTold
+pub mod CommitTexts
 pub mod CompactTexts
 pub mod Fitting
 pub mod GoodNames
@@ -10,15 +10,15 @@ pub mod LastLines
 pub mod NextConfigurations
 pub mod MigrationOutputs
 pub mod MoveOperations
-pub mod NothingTold
+pub mod OtherTexts
 pub mod NotedFiles
 pub mod PlanLines
-pub mod PlansTold
+pub mod PlanHeads
 pub mod PointNames
 pub mod CommandPromises
 pub mod Queries
 pub mod Reasons
 pub mod NotedRuns
-pub mod OperatorsTold
+pub mod OperatorTexts
 pub mod SessionLines
 pub mod WorkOutputs

@@ -20,9 +20,9 @@ use Rattle.command_runs.proofs.Acknowledgements.{Quiet}
 use Rattle.command_runs.proofs.CompactTexts.{heads}
 use Rattle.command_runs.proofs.GoodNames.{HaveGoodNames, migration_good, name_is_one_line}
 use Rattle.command_runs.proofs.LastLines.{IsPlain, last_is_plain}
-use Rattle.command_runs.proofs.NothingTold.{lines_have_no_told, one_word_has_no_told}
-use Rattle.command_runs.proofs.OperatorsTold.{HasNoTold, no_told_in_front}
-use Rattle.command_runs.proofs.PlansTold.{none_in_front, quiet_has_none}
+use Rattle.command_runs.proofs.OtherTexts.{lines_have_no_told, one_word_has_no_told}
+use Rattle.command_runs.proofs.OperatorTexts.{HasNoTold, no_told_in_front}
+use Rattle.command_runs.proofs.PlanHeads.{none_in_front, quiet_has_none}
 use Rattle.command_runs.proofs.WorkOutputs.{HasNeither}
 
 -- ---- its lines

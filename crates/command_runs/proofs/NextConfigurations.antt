@@ -33,7 +33,7 @@ use Rattle.command_runs.specs.declared.stops.Ran.{Ran}
 use Rattle.command_runs.specs.declared.stops.Stop.{Stop}
 use Rattle.command_runs.proofs.Budgets.{IsBudgeted, form_is_budgeted}
 use Rattle.command_runs.proofs.ChangeImages.{StandAtWork, left_at_work}
-use Rattle.command_runs.proofs.CommitsTold.{KeepsWorlds}
+use Rattle.command_runs.proofs.CommitTexts.{KeepsWorlds}
 use Rattle.command_runs.proofs.MigrationOutputs.{migration_has_neither}
 use Rattle.command_runs.proofs.MoveOperations.{ReadsTokens}
 use Rattle.command_runs.proofs.Queries.{IsNoChange, prints_printed, query_given}

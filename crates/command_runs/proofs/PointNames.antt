@@ -28,10 +28,10 @@ use Rattle.command_runs.proofs.Acknowledgements.{not_empty}
 use Rattle.command_runs.proofs.CompactTexts.{heads}
 use Rattle.command_runs.proofs.GoodNames.{AreGood, Lacks, characters, characters_are_one_line, first_words, name_lacks, no_space, points_good}
 use Rattle.command_runs.proofs.LastLines.{last_line_has_no_told, last_line_is_quiet}
-use Rattle.command_runs.proofs.NothingTold.{reply_behind}
-use Rattle.command_runs.proofs.OperatorsTold.{commits_is, commits_plain, said_is_line}
+use Rattle.command_runs.proofs.OtherTexts.{reply_behind}
+use Rattle.command_runs.proofs.OperatorTexts.{commits_is, commits_plain, said_is_line}
 use Rattle.command_runs.proofs.PlanLines.{count, count_is_one, counted}
-use Rattle.command_runs.proofs.PlansTold.{quiet_has_none}
+use Rattle.command_runs.proofs.PlanHeads.{quiet_has_none}
 use Rattle.command_runs.proofs.SessionLines.{decimal_is_low, low_more, no_broken, no_low_reply}
 use Rattle.command_runs.proofs.WorkOutputs.{HasNoSteps}
 

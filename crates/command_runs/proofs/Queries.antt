@@ -45,14 +45,14 @@ use Rattle.command_runs.specs.Works.{FitTheirPlaces, IsWork}
 use Rattle.command_runs.proofs.Acknowledgements as acked
 use Rattle.command_runs.proofs.Acknowledgements.{Quiet}
 use Rattle.command_runs.proofs.Budgets.{IsBudgeted}
-use Rattle.command_runs.proofs.CommitsTold.{KeepsWorlds, operated_told}
+use Rattle.command_runs.proofs.CommitTexts.{KeepsWorlds, operated_told}
 use Rattle.command_runs.proofs.CompactTexts.{heads, tails}
 use Rattle.command_runs.proofs.Fitting.{way_fits}
 use Rattle.command_runs.proofs.GoodNames.{Lacks}
 use Rattle.command_runs.proofs.LastLines.{IsPlain, last_is_plain, last_line_is_quiet}
-use Rattle.command_runs.proofs.NothingTold.{line_has_no_told, number_has_no_told, sign_has_no_told}
-use Rattle.command_runs.proofs.OperatorsTold.{HasNoTold}
-use Rattle.command_runs.proofs.PlansTold.{quiet_has_none}
+use Rattle.command_runs.proofs.OtherTexts.{line_has_no_told, number_has_no_told, sign_has_no_told}
+use Rattle.command_runs.proofs.OperatorTexts.{HasNoTold}
+use Rattle.command_runs.proofs.PlanHeads.{quiet_has_none}
 use Rattle.command_runs.proofs.PointNames.{points_have_no_steps}
 use Rattle.command_runs.proofs.SessionLines.{decimal_is_low, low_more, no_broken, no_none, no_whole}
 use Rattle.command_runs.proofs.WorkOutputs.{AreToldBy, HasNeither, HasNoSteps, front_of_no_steps, front_of_work, unplanned_front}

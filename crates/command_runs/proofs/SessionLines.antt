@@ -11,7 +11,7 @@ use Rattle.sessions.specs.declared.replies.Reply.TheVariants.{Began, Exists, Unk
 use Rattle.command_runs.proofs.CompactTexts.{heads, tails}
 use Rattle.command_runs.proofs.GoodNames.{Lacks, characters, name_lacks, no_space}
 use Rattle.command_runs.proofs.PlanLines.{counted}
-use Rattle.command_runs.proofs.PlansTold.{HasNone}
+use Rattle.command_runs.proofs.PlanHeads.{HasNone}
 
 -- ---- a number begins with no letter
 

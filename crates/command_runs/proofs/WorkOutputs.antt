@@ -8,10 +8,10 @@ use Rattle.command_runs.specs.Works.{AreAcknowledged, FitTheirPlaces, HaveNames,
 use Rattle.command_runs.proofs.Acknowledgements.{Quiet, acknowledged_is_one, acknowledged_by, not_empty, quiet_front, silent, three_ways}
 use Rattle.command_runs.proofs.CompactTexts.{heads, tails}
 use Rattle.command_runs.proofs.MoveOperations.{ReadsTokens}
-use Rattle.command_runs.proofs.NothingTold.{plan_has_no_told}
-use Rattle.command_runs.proofs.OperatorsTold.{HasNoTold, cut_has_no_told, moves_split, no_told_in_front, rests_split, told_has_no_plan}
+use Rattle.command_runs.proofs.OtherTexts.{plan_has_no_told}
+use Rattle.command_runs.proofs.OperatorTexts.{HasNoTold, cut_has_no_told, moves_split, no_told_in_front, rests_split, told_has_no_plan}
 use Rattle.command_runs.proofs.PlanLines.{front_has_no_plan, plans_split}
-use Rattle.command_runs.proofs.PlansTold.{HasNone, none_in_front}
+use Rattle.command_runs.proofs.PlanHeads.{HasNone, none_in_front}
 
 -- ---- one work
 

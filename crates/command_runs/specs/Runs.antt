@@ -25,7 +25,7 @@ use Rattle.command_runs.specs.declared.stops.Stop.{Stop}
 
 -- what is promised of a command that began in one state with these counts and ended in another: its answer,
 -- its output and what it leaves, also to a crash at its end, by what the words ask of the state before. What
--- is promised of words that name a scope stands apart.
+-- is promised of words that name a scope is said by itself.
 pub record IsPromised (words : List (List ℕ)) (before after : State) (old new : Counts)
     (result : Outcome) : Type 0 where
   pub answers : IsUnscoped words → Answers words (Some before) (Some after) old new result

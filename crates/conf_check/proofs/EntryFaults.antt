@@ -3,7 +3,7 @@ use Rattle.std.proofs.Common.{◌≡◌, ◌⊎◌, ◌<◌, ◌≤◌, ℕ, [],
 use Rattle.conf_doc.specs.declared.configuration.Config.{Config}
 use Rattle.yang_model.specs.ModelSets.{ModelSet}
 use Rattle.yang_model.specs.declared.shapes.Shape.{Shape}
-use Rattle.conf_check.specs.Faults.{IsFirst, IsFirstBesideMusts, IsFirstFault, IsRefusedPart, IsMissingAt, FieldsBreak}
+use Rattle.conf_check.specs.Faults.{IsFirstNumber, IsFirstBesideMusts, IsFirstFault, IsRefusedPart, IsMissingAt, FieldsBreak}
 use Rattle.conf_check.specs.Rows.{Row, HasShape, HasNoShape}
 use Rattle.conf_check.specs.Validity.{Breaks, no_shape, of_shape, BreaksShape, IsFalse, IsRuleBefore, stage, rule_number}
 use Rattle.conf_check.specs.declared.faults.Fault.{Fault}
@@ -75,7 +75,7 @@ module _ (models : ModelSet) (config : Config) (t k : ℕ) (row : Row) where
     from_fields Must n s b = absurd (omega arith)
 
     -- a part that is refused is first
-    pub part_first : (i : ℕ) → IsFirst (IsRefusedPart models config shape row.key) (Some i)
+    pub part_first : (i : ℕ) → IsFirstNumber (IsRefusedPart models config shape row.key) (Some i)
         → IsFirstFault P (Some (record { rule = KeyReference; field = i }))
     part_first i first = (first.0, before)
       where
@@ -104,7 +104,7 @@ module _ (models : ModelSet) (config : Config) (t k : ℕ) (row : Row) where
     field_before f parts first s is Must n e e' b = later 4 s _ (omega arith) e
 
     -- where no part is refused, what a field breaks is
-    pub field_is_first : (f : Fault) → IsFirst (IsRefusedPart models config shape row.key) None
+    pub field_is_first : (f : Fault) → IsFirstNumber (IsRefusedPart models config shape row.key) None
         → IsFirstFault (FieldsBreak models config shape row.fields) (Some f) → IsFirstFault P (Some f)
     field_is_first f parts first =
         let s : stage f.rule ≡ 2 = fields_stage models config shape row.fields f.rule f.field first.0 in (
@@ -113,9 +113,9 @@ module _ (models : ModelSet) (config : Config) (t k : ℕ) (row : Row) where
         )
 
     -- where no field breaks anything, what is missing is
-    pub missing_is_first : (i : ℕ) → IsFirst (IsRefusedPart models config shape row.key) None
+    pub missing_is_first : (i : ℕ) → IsFirstNumber (IsRefusedPart models config shape row.key) None
         → IsFirstFault (FieldsBreak models config shape row.fields) None
-        → IsFirst (IsMissingAt shape row.fields) (Some i)
+        → IsFirstNumber (IsMissingAt shape row.fields) (Some i)
         → IsFirstFault P (Some (record { rule = MissingField; field = i }))
     missing_is_first i parts none first = (first.0, before)
       where
@@ -136,9 +136,9 @@ module _ (models : ModelSet) (config : Config) (t k : ℕ) (row : Row) where
     NonePlain = (r : Rule) (n : ℕ) → stage r < 4 → ¬ P r n
 
     -- where nothing is missing, nothing is broken but musts
-    pub none_plain : IsFirst (IsRefusedPart models config shape row.key) None
+    pub none_plain : IsFirstNumber (IsRefusedPart models config shape row.key) None
         → IsFirstFault (FieldsBreak models config shape row.fields) None
-        → IsFirst (IsMissingAt shape row.fields) None → NonePlain
+        → IsFirstNumber (IsMissingAt shape row.fields) None → NonePlain
     none_plain parts none missing KeyShape n lt b = b
     none_plain parts none missing KeyReference n lt b = parts n b
     none_plain parts none missing UnknownField n lt b = none UnknownField n b
@@ -149,7 +149,7 @@ module _ (models : ModelSet) (config : Config) (t k : ℕ) (row : Row) where
     none_plain parts none missing Must n lt b = omega arith
 
     -- then a false must is first
-    pub must_is_first : (i : ℕ) → NonePlain → IsFirst IsFalseAt (Some i)
+    pub must_is_first : (i : ℕ) → NonePlain → IsFirstNumber IsFalseAt (Some i)
         → IsFirstFault P (Some (record { rule = Must; field = i }))
     must_is_first i plain first = (first.0, before)
       where
@@ -164,7 +164,7 @@ module _ (models : ModelSet) (config : Config) (t k : ℕ) (row : Row) where
         before Must n e b = first.1 n (lesser_number 8 n i (same_stage 4 _ e)) b
 
     -- and else nothing is broken
-    pub nothing_first : NonePlain → IsFirst IsFalseAt None → IsFirstFault P None
+    pub nothing_first : NonePlain → IsFirstNumber IsFalseAt None → IsFirstFault P None
     nothing_first plain musts KeyShape n b = b
     nothing_first plain musts KeyReference n b = plain KeyReference n (omega arith) b
     nothing_first plain musts UnknownField n b = plain UnknownField n (omega arith) b

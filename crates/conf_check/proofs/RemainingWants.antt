@@ -5,7 +5,7 @@ use Rattle.conf_doc.specs.declared.configuration.Config.{Config}
 use Rattle.conf_check.specs.EntryShapes.{IsShapeAt}
 use Rattle.conf_check.specs.FirstWants.{AreOfOneEntry, IsFirstOfEntry, IsFirstWant, start_of}
 use Rattle.conf_check.specs.Rows.{IsEntryAt}
-use Rattle.conf_check.specs.WantRuns.{after, GivesFirst, IsAhead, IsFirstAhead, IsWantAhead}
+use Rattle.conf_check.specs.WantRuns.{after, GivesFirst, IsToCome, IsFirstAhead, IsWantAhead}
 use Rattle.conf_check.specs.Wants.{Want, want_of, IsNamed, IsPlaceBefore, IsWantAt}
 use Rattle.conf_check.specs.declared.want_iter.WantAt.{WantAt}
 use Rattle.conf_check.specs.declared.want_iter.WantIter.{WantIter}
@@ -51,7 +51,7 @@ module _ (s : WantIter) where
       → GivesFirst s a (moved place keeps)
   given place keeps a first named = record { place = place; named = named; wanted = first.0; others = others; behind = behind }
     where
-      still : (p : WantPlace) → IsAhead s p → IsPlaceBefore place p → IsAhead (moved place keeps) p
+      still : (p : WantPlace) → IsToCome s p → IsPlaceBefore place p → IsToCome (moved place keeps) p
       still p ahead lt = record {
         behind = after_behind place p lt;
         within = λ one. (

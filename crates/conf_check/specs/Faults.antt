@@ -14,8 +14,8 @@ use Rattle.conf_check.specs.declared.violations.Violation.{Violation}
 use Rattle.conf_check.specs.declared.faults.Fault.{Fault}
 
 -- the answer is the first number of which P holds, or None where it holds of none
-abbrev pub IsFirst : (ℕ → Type 0) → Option ℕ → Type 0
-IsFirst P answer =
+abbrev pub IsFirstNumber : (ℕ → Type 0) → Option ℕ → Type 0
+IsFirstNumber P answer =
     MatchOption answer ((i : ℕ) → ¬ P i) (λ i. P i × ((j : ℕ) → j < i → ¬ P j))
 
 -- the answer is the rule of the least number of which P holds, or None where it holds of none

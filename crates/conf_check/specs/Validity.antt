@@ -1,6 +1,6 @@
 -- Which rules a configuration breaks, and where (RFC 7950, section 8.1).
 use Rattle.std.specs.Prelude.{◌≡◌, ◌⊎◌, ◌<◌, ℕ, true, false, List, [], ◌∷◌, Option, Some, None, slice_get, IsSomeAnd}
-use Rattle.std.specs.List.{All, Any, AllPairs, Contains}
+use Rattle.std.specs.List.{Any, Contains}
 use Rattle.conf_doc.specs.Pairs.{find}
 use Rattle.conf_doc.specs.declared.configuration.Config.{Config}
 use Rattle.conf_doc.specs.declared.configuration.Entry.{Entry}
@@ -150,13 +150,6 @@ IsBreachBefore a b =
     ⊎ ((a.table ≡ b.table)
     × ((a.key < b.key)
     ⊎ ((a.key ≡ b.key) × IsRuleBefore a.rule a.field b.rule b.field)))
-
--- all violations of a configuration, in order
-pub record AreViolations (models : ModelSet) (config : Config)
-    (breaches : List Breach) : Type 0 where
-  pub each : All (IsBreach models config) breaches
-  pub all : (b : Breach) → IsBreach models config b → Contains breaches b
-  pub order : AllPairs IsBreachBefore breaches
 
 -- a configuration with no violation
 abbrev pub IsValid : ModelSet → Config → Type 0

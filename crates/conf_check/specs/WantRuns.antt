@@ -11,13 +11,13 @@ abbrev pub after : WantPlace → WantPlace
 after p = record { table = p.table; key = p.key; field = p.field; item = p.item + 1 }
 
 -- the iterator comes to the place: at or behind where it stands, and in the entry it keeps to
-pub record IsAhead (s : WantIter) (p : WantPlace) : Type 0 where
+pub record IsToCome (s : WantIter) (p : WantPlace) : Type 0 where
   pub behind : ¬ IsPlaceBefore p s.from
   pub within : s.one_entry ≡ true → AreOfOneEntry p s.from
 
 -- a want that it comes to
 abbrev pub IsWantAhead : WantIter → WantPlace → Want → Type 0
-IsWantAhead s p w = IsAhead s p × IsWantAt s.models.now s.config.now p w
+IsWantAhead s p w = IsToCome s p × IsWantAt s.models.now s.config.now p w
 
 -- a want is handed out with its names, the first that is ahead; the others stay ahead
 pub record GivesFirst (s : WantIter) (a : WantAt) (t : WantIter) : Type 0 where

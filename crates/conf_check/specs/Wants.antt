@@ -1,6 +1,5 @@
 -- The wants of a configuration: each text that a leafref accepts, by its place, and what it wants.
 use Rattle.std.specs.Prelude.{◌≡◌, ◌⊎◌, ◌<◌, ℕ, List, Option, Some, None, option_map, slice_get, IsSomeAnd}
-use Rattle.std.specs.List.{All, AllPairs, Contains}
 use Rattle.conf_doc.specs.declared.configuration.Config.{Config}
 use Rattle.conf_doc.specs.declared.configuration.Entry.{Entry}
 use Rattle.yang_model.specs.ModelSets.{ModelSet}
@@ -67,12 +66,3 @@ IsPlaceBefore a b =
     ⊎ ((a.key ≡ b.key)
     × (IsFieldBefore a.field b.field
     ⊎ ((a.field ≡ b.field) × (a.item < b.item))))))
-
--- the wants of a configuration, each with its place, in the order of the places
-pub record AreWants (models : ModelSet) (config : Config)
-    (wants : List (WantPlace × Want)) : Type 0 where
-  pub each : All (λ w. IsWantAt models config w.0 w.1) wants
-  pub all :
-      (place : WantPlace) (want : Want) → IsWantAt models config place want
-      → Contains wants (place, want)
-  pub order : AllPairs (λ a b. IsPlaceBefore a.0 b.0) wants

@@ -1,7 +1,7 @@
 //! What is wrong with the key and the fields of an entry: the first rule that they break.
 ghost use Rattle.std.specs.Prelude.{◌↔◌, IsTrue, Any};
 ghost use Rattle.conf_check.specs.Faults.{
-  IsFirst,
+  IsFirstNumber,
   IsFirstFault,
   IsFirstRule,
   FieldBreaks,
@@ -45,7 +45,7 @@ pub(crate) fn first_refused_part(
     shape: &Shape,
     key: &str,
 ) -> Option<usize>
-    ensures { IsFirst (IsRefusedPart models.now config.now shape.now key.now) result }
+    ensures { IsFirstNumber (IsRefusedPart models.now config.now shape.now key.now) result }
 {
     let view = KeyView::new(key);
     for (i, leaf) in shape.keys.items().iter().enumerate() {
@@ -147,7 +147,7 @@ fn is_missing(rule: &FieldRule, fields: &Entry) -> bool
 
 /// The first of the shape's fields that is mandatory and absent.
 pub(crate) fn first_missing(shape: &Shape, fields: &Entry) -> Option<usize>
-    ensures { IsFirst (IsMissingAt shape.now fields.now) result }
+    ensures { IsFirstNumber (IsMissingAt shape.now fields.now) result }
 {
     for (i, rule) in shape.fields.items().iter().enumerate() {
         if is_missing(rule, fields) {

@@ -1,6 +1,6 @@
 //! The musts of an entry that are false.
 ghost use Rattle.std.specs.Prelude.{◌≡◌, ◌↔◌, IsTrue, IfSome};
-ghost use Rattle.conf_check.specs.Faults.{IsFirst, IsFalseMust};
+ghost use Rattle.conf_check.specs.Faults.{IsFirstNumber, IsFalseMust};
 ghost use Rattle.conf_check.specs.NodeTrees.{HasModule, IsNodeOf, tree_of};
 ghost use Rattle.conf_check.specs.ConfigTree.{entry_node};
 ghost use Rattle.conf_check.specs.Validity.{IsFalse, context_of};
@@ -44,7 +44,7 @@ pub(crate) fn first_false_must(
 ) -> Option<usize>
     requires { HasModule nodes.now table }
     ensures { let models = nodes.now.models.now in
-        IsFirst (IsFalseMust models nodes.now.config.now table key shape.now) result }
+        IsFirstNumber (IsFalseMust models nodes.now.config.now table key shape.now) result }
 {
     for (i, must) in shape.musts.items().iter().enumerate() {
         if is_false(nodes, table, key, must) {

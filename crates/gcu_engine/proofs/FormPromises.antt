@@ -14,7 +14,7 @@ use Rattle.gcu_inputs.specs.Form.{Form, form}
 use Rattle.gcu_inputs.specs.Form as forms
 use Rattle.gcu_inputs.specs.Tasks.{Task, reach, run_script}
 use Rattle.gcu_engine.specs.Contents.{IsContextIn, IsMade}
-use Rattle.gcu_engine.specs.Headline.{AddsPoint, HasNoOrder, HasWholePoints, IsBefore, IsChangeCommand, IsLastOrNext, IsTaskCommand, RemovesPoint}
+use Rattle.gcu_engine.specs.Headline.{AddsPoint, HasNoOrder, HasWholePoints, IsUnacknowledged, IsChangeCommand, IsLastOrNext, IsTaskCommand, RemovesPoint}
 use Rattle.gcu_engine.proofs.CommandWords.{IsFormOf, IsPlanForm, form_words, plan_form}
 
 -- ---- by its form
@@ -44,7 +44,7 @@ pub record LacksOrder (f : Option Form) (s : State) : Type 0 where
 
 -- what the folder stands for after a crash: a command that does no task leaves that as before
 abbrev pub StandsAfter : Option Form → State → Left → Type 0
-StandsAfter (Some (forms.change task budget)) s left = IsBefore task s left ⊎ IsLastOrNext task s left
+StandsAfter (Some (forms.change task budget)) s left = IsUnacknowledged task s left ⊎ IsLastOrNext task s left
 StandsAfter other s left = stored left.files ≡ stored s.files
 
 -- the one checkpoint that a command adds, with the stored configuration, or removes

@@ -31,7 +31,7 @@ use Rattle.gcu_engine.specs.Answers.{Answers, IsDoneOutput, IsRefusal, IsUntouch
 use Rattle.gcu_engine.specs.Changing.{IsChangeFor, IsChanged, IsLastLine, acknowledged, begun}
 use Rattle.gcu_engine.specs.Crashes.{LeftByForm, LeftChanged, LeftEarly, LeftMeanwhile, LeftOf, LeftOfChange, LeftOfMigration, LeftWriting}
 use Rattle.gcu_engine.specs.Doing.{LeftToEarly}
-use Rattle.gcu_engine.specs.Headline.{HasNoOrder, IsBefore, IsForeseen, IsHeadline, IsLastOrNext, IsQuiet, PrintsTask, StoresPoint, StoresTarget}
+use Rattle.gcu_engine.specs.Headline.{HasNoOrder, IsUnacknowledged, IsForeseen, IsHeadline, IsLastOrNext, IsQuiet, PrintsTask, StoresPoint, StoresTarget}
 use Rattle.gcu_engine.specs.Plannings.{IsUnsolved}
 use Rattle.gcu_engine.proofs.AcknowledgementCounts.{acked_is}
 use Rattle.gcu_engine.proofs.ChangeEnds.{is_last_line}
@@ -221,7 +221,7 @@ line_said task budget s now Unorderable text h = last_line_of Unorderable text h
 line_said task budget s now (Budget n) text h = last_line_of (Budget n) text h.2 tt
 line_said task budget s now other text h = last_line_of other text h.2 tt
 
-pub early_before : (task : Task) (budget : ℕ) (s : State) (left : Left) → IsSettled s → LeftEarly (change_asked task budget s) s left → IsBefore task s left
+pub early_before : (task : Task) (budget : ℕ) (s : State) (left : Left) → IsSettled s → LeftEarly (change_asked task budget s) s left → IsUnacknowledged task s left
 early_before task budget s left clean (part, inl (now, answer, rest, says, same), may) = record {
   part = part;
   rest = rest;
@@ -241,7 +241,7 @@ early_before task budget s left clean (part, inr (w, c, told, rest, given, fits,
     }
 
 -- so do words that are no command
-unknown_before : (task : Task) (s : State) (left : Left) → IsSettled s → LeftOf (form_asked None s) s left → IsBefore task s left
+unknown_before : (task : Task) (s : State) (left : Left) → IsSettled s → LeftOf (form_asked None s) s left → IsUnacknowledged task s left
 unknown_before task s left clean (part, (now, answer, rest, says, same), inl may) = record {
   part = part;
   rest = rest;
@@ -431,7 +431,7 @@ module _ {H : Type 0} (moment : H → ℕ) (left_since : H → ℕ → Left → 
       prints task (inr e) = plans_print (form words) task s after before later result e answers
 
       changing : (task : Task) → IsSettled s → (left : Left) → left_since new (moment old) left → (form words ≡ None) ⊎ ((budget : ℕ) × (form words ≡ Some (forms.change task budget)))
-          → IsBefore task s left ⊎ IsLastOrNext task s left
+          → IsUnacknowledged task s left ⊎ IsLastOrNext task s left
       changing task clean left since (inl none) =
           inl (unknown_before task s left clean (subst (λ (f : Option Form). LeftByForm f s left) none (crash.each left since)))
       changing task clean left since (inr (budget, e)) =

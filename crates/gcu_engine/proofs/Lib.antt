@@ -23,7 +23,7 @@ pub mod LastLines
 pub mod Lines
 mod Listing
 mod MigrationEnding
-mod MigrationReady
+mod MigrationReadiness
 mod Naming
 mod PlanCheckSaying
 mod PlanPrints
@@ -38,13 +38,13 @@ mod Savings
 mod ScopesDoing
 mod ScopesEnding
 mod ScopesFaults
-mod ScopesInOrder
-mod ScopesOpen
+mod ScopeOrder
+mod ScopeIntents
 mod ScopesPoints
-mod ScopesReady
+mod ScopeReadiness
 mod ScopesSolving
 mod Scoping
 mod StatusSaying
-mod StepsElsewhere
+mod OtherTables
 mod SummaryTexts
 mod Writing

@@ -20,7 +20,7 @@ use Rattle.gcu_engine.specs.Answers.{Complete, Finishes}
 use Rattle.gcu_engine.specs.Plannings.{HasNone}
 use Rattle.gcu_engine.specs.Resuming.{IsResumed, IsStoppedIn, Resumes}
 use Rattle.gcu_engine.proofs.RightPlans.{way_valid}
-use Rattle.gcu_engine.proofs.StepsElsewhere.{HaveModels, half_elsewhere, rest_reaches}
+use Rattle.gcu_engine.proofs.OtherTables.{HaveModels, half_elsewhere, rest_reaches}
 
 module _ (law : HaveModels) (budget : ℕ) (s : State) (h : IsStoppedIn s) where
   -- what is planned

@@ -13,7 +13,7 @@ use Rattle.host_core.specs.Names.{name_cmp}
 use Rattle.host_core.specs.State.{Files, Pending, State, dirty, listing, printed, settled, with_file, with_pending}
 use Rattle.host_core.proofs.Runs as runs
 use Rattle.conf_store.specs.Changes.{AreLeft, Changes, Leads, Settles}
-use Rattle.gcu_output.specs.Printing.{IsFirst, IsTold, may_have_written, outcome_of, IsPrinted}
+use Rattle.gcu_output.specs.Printing.{IsBeforeAnyStep, IsTold, may_have_written, outcome_of, IsPrinted}
 use Rattle.gcu_output.specs.Lines.{last_line}
 use Rattle.gcu_output.specs.declared.outcomes.Outcome.{Outcome}
 use Rattle.gcu_output.specs.declared.outcomes.Outcome.TheVariants.{Done, Memory, Usage, InputFault, DiskFault, PrintFault, ServiceFault, Unorderable, Budget}
@@ -245,13 +245,13 @@ module _ (asking : State → Asking Request) where
 -- ---- the outcome of what was done or refused
 
 -- a refusal with its cause comes after no acknowledgement
-refused_first : (old new : Counts) (e : Outcome) → Refuses old new e → IsFirst e
+refused_first : (old new : Counts) (e : Outcome) → Refuses old new e → IsBeforeAnyStep e
 refused_first old new (DiskFault step) h = h.0
 refused_first old new Done never = absurd never
 refused_first old new (ServiceFault step service) never = absurd never
 refused_first old new other h = tt
 
-pub comes_first : (old new : Counts) (result : Result (Unit {0}) Outcome) → IfErr result (Refuses old new) → IfErr result IsFirst
+pub comes_first : (old new : Counts) (result : Result (Unit {0}) Outcome) → IfErr result (Refuses old new) → IfErr result IsBeforeAnyStep
 comes_first old new (Ok done) h = tt
 comes_first old new (Err e) h = refused_first old new e h
 

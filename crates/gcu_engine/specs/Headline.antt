@@ -108,7 +108,7 @@ pub record HasNoOrder (words : List (List ℕ)) (s : State) : Type 0 where
 -- ---- a crash
 
 -- nothing is acknowledged, and the folder stands for the same as before
-pub record IsBefore (task : Task) (s : State) (left : Left) : Type 0 where
+pub record IsUnacknowledged (task : Task) (s : State) (left : Left) : Type 0 where
   pub part : List ℕ
   pub rest : List ℕ
   pub text : IsLastLine (part ++ rest)
@@ -157,7 +157,7 @@ HasWholePoints words s files =
 -- what the folder stood for
 pub record IsWhole (words : List (List ℕ)) (s : State) (left : Left) : Type 0 where
   pub change : (task : Task) → IsChangeCommand task words
-      → IsBefore task s left ⊎ IsLastOrNext task s left
+      → IsUnacknowledged task s left ⊎ IsLastOrNext task s left
   pub other : ((task : Task) → ¬ IsChangeCommand task words)
       → stored left.files ≡ stored s.files
   pub points_are : HasWholePoints words s left.files

@@ -12,7 +12,7 @@ use Rattle.move_core.specs.Plans.{conf}
 use Rattle.change_apply.specs.Acknowledgements.{acks}
 use Rattle.gcu_inputs.specs.Form.{change, form}
 use Rattle.gcu_inputs.specs.Tasks.{Task}
-use Rattle.gcu_engine.specs.Headline.{IsBefore, IsNoneWhole, IsRightWork}
+use Rattle.gcu_engine.specs.Headline.{IsUnacknowledged, IsNoneWhole, IsRightWork}
 
 -- it holds the file text of a configuration
 abbrev pub HoldsText : Config → Files → Type 0
@@ -45,7 +45,7 @@ pub record IsIntended (task : Task) (s : State) (left : Left) : Type 0 where
 
 -- nothing is done, and it is as at the beginning; or so far as some moves are done
 abbrev pub HasIntent : Task → State → Left → Type 0
-HasIntent task s left = (IsBefore task s left × IsKept s left) ⊎ IsIntended task s left
+HasIntent task s left = (IsUnacknowledged task s left × IsKept s left) ⊎ IsIntended task s left
 
 -- at each moment of a command that does a task a crash leaves it so
 abbrev pub KeepsIntent : List (List ℕ) → State → (Left → Type 0) → Type 0

@@ -35,11 +35,11 @@ LeftInText text told left =
 -- ---- a command that writes
 
 -- a refusal before any restart, and where it is a fault of the disk it comes after no acknowledgement
-abbrev pub IsFirst : Outcome → Type 0
-IsFirst Done = ⊥
-IsFirst (DiskFault step) = step ≡ 0
-IsFirst (ServiceFault step service) = ⊥
-IsFirst other = ⊤
+abbrev pub IsBeforeAnyStep : Outcome → Type 0
+IsBeforeAnyStep Done = ⊥
+IsBeforeAnyStep (DiskFault step) = step ≡ 0
+IsBeforeAnyStep (ServiceFault step service) = ⊥
+IsBeforeAnyStep other = ⊤
 
 -- the outcome of what was done or refused
 abbrev pub outcome_of : Result (Unit {0}) Outcome → Outcome

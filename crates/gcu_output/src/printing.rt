@@ -4,7 +4,7 @@ ghost use Rattle.host_core.specs.Counts.{PrintMayRise};
 ghost use Rattle.host_core.specs.Crashes.{Elapses, MayLeaveInPrint};
 ghost use Rattle.conf_doc.specs.Trees.{document};
 ghost use Rattle.move_core.specs.Operations.{plan_text as text_of_plan};
-ghost use Rattle.gcu_output.specs.Printing.{LeftInText, LeftInTold, IsFirst, IsTold, is_disk_fault as is_fault, may_have_written, outcome_of, IsPrinted, IsSaid, text_in_lines};
+ghost use Rattle.gcu_output.specs.Printing.{LeftInText, LeftInTold, IsBeforeAnyStep, IsTold, is_disk_fault as is_fault, may_have_written, outcome_of, IsPrinted, IsSaid, text_in_lines};
 ghost use Rattle.gcu_output.specs.Lines.{last_line};
 ghost use Rattle.gcu_output.specs.declared.outcomes.Outcome.TheVariants.{Done as done, Memory as no_memory};
 
@@ -34,7 +34,7 @@ pub fn say<H: Host>(alloc: Global, outcome: Outcome, host: &mut H) -> Outcome
 /// Prints the last line of a command that writes. Once something may have been written no memory is asked
 /// for, which is so with Done and with a disk fault.
 pub fn tell<H: Host>(alloc: Global, done: Result<(), Outcome>, host: &mut H) -> Outcome
-    requires { IfErr done IsFirst }
+    requires { IfErr done IsBeforeAnyStep }
     ensures told { IsTold (may_have_written (outcome_of done)) (outcome_of done)
         (H.told host.old) (H.told host.new) (H.counts host.old) (H.counts host.new) result }
     ensures counts { PrintMayRise (H.counts host.old) (H.counts host.new) }

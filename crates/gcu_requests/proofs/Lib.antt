@@ -1,4 +1,4 @@
-pub mod Behind
+pub mod UnchangedViews
 pub mod ValidityFinding
 mod DemoFinding
 pub mod EachFinding
@@ -9,8 +9,8 @@ mod OnePlanAnswer
 mod PlanCheckFinding
 mod PlanFinding
 mod ScopesFinding
-mod ScopesInOrder
+mod ScopeOrder
 mod ScopesPreparing
-pub mod ViewsEnded
+pub mod ViewEnds
 mod SessionFinding
 pub mod TreeFinding

@@ -12,7 +12,7 @@ use Rattle.yang_model.specs.ModelSets.{ModelSet}
 use Rattle.yang_model.specs.Readers.{AreTrue, Readers}
 use Rattle.conf_check.specs.declared.violations.Rule.{Rule}
 use Rattle.move_core.specs.declared.contexts.Ctx.{Ctx}
-use Rattle.goal_checks.specs.Targets.{AgreeAt, DifferAt, HasKeysAt, IsEmptyAt, IsFirst}
+use Rattle.goal_checks.specs.Targets.{AgreeAt, DifferAt, HasKeysAt, IsEmptyAt, IsFirstByName}
 use Rattle.patch_core.specs.Operation.{Operation}
 use Rattle.plan_options.specs.Options.{default_budget}
 use Rattle.plan_options.specs.Targets.{Target, patched, replaced, resumed, rolled_back}
@@ -95,7 +95,7 @@ same_some : {A : Type 0} (x y : A) → Some x ≡ Some y → x ≡ y
 same_some x y e = cc
 
 -- of what differs and what comes before it, one is the first
-first_one : (P D : List ℕ → Type 0) → ((t : List ℕ) → P t → D t → ⊥) → (t u : List ℕ) → D t → IsFirst P t → D u → IsFirst P u → t ≡ u
+first_one : (P D : List ℕ → Type 0) → ((t : List ℕ) → P t → D t → ⊥) → (t u : List ℕ) → D t → IsFirstByName P t → D u → IsFirstByName P u → t ≡ u
 first_one P D never t u differs before too first = by (name_cmp t u) refl
   where
     by : (c : Ordering) → name_cmp t u ≡ c → t ≡ u

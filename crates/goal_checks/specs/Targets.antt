@@ -9,8 +9,8 @@ use Rattle.move_core.specs.Contexts.{IsModelled}
 use Rattle.move_core.specs.declared.contexts.Ctx.{Ctx}
 
 -- it is the first by name: those before it are as P says
-abbrev pub IsFirst : (List ℕ → Type 0) → List ℕ → Type 0
-IsFirst P t = (u : List ℕ) → name_cmp u t ≡ Less → P u
+abbrev pub IsFirstByName : (List ℕ → Type 0) → List ℕ → Type 0
+IsFirstByName P t = (u : List ℕ) → name_cmp u t ≡ Less → P u
 
 -- ---- tables without a model
 
@@ -24,7 +24,7 @@ DifferAt ctx a b t = ¬ IsModelled ctx.models t × (find t a ≢ find t b)
 
 -- the first such table
 abbrev pub IsFirstDifference : Ctx → Config → Config → List ℕ → Type 0
-IsFirstDifference ctx a b t = DifferAt ctx a b t × IsFirst (AgreeAt ctx a b) t
+IsFirstDifference ctx a b t = DifferAt ctx a b t × IsFirstByName (AgreeAt ctx a b) t
 
 -- ---- tables without keys
 
@@ -42,4 +42,4 @@ HasNoEmptyTable ctx c = (t : List ℕ) → HasKeysAt ctx c t
 
 -- the first such table
 abbrev pub IsFirstEmpty : Ctx → Config → List ℕ → Type 0
-IsFirstEmpty ctx c t = IsEmptyAt ctx c t × IsFirst (HasKeysAt ctx c) t
+IsFirstEmpty ctx c t = IsEmptyAt ctx c t × IsFirstByName (HasKeysAt ctx c) t

@@ -1,4 +1,4 @@
--- What a crash leaves: of a host as it stands, and at every moment of a run.
+-- What a crash leaves: of a host as it is, and at every moment of a run.
 use Rattle.std.specs.Prelude.{◌≡◌, ◌⊎◌, ℕ, ◌≤◌, List, [], ◌∷◌, ◌++◌, drop, Option, Some, None, option_map}
 use Rattle.std.proofs.Common.{subst}
 use Rattle.host_core.specs.State.{Files, Pending, settled, dirty, listing, State, with_file, printed}

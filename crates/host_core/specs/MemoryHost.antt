@@ -20,7 +20,7 @@ pub record MemoryHost : Type 0 where
   -- how often a call that has no other answer for it found no memory
   pub starved : ℕ
 
--- the files with these names and bytes; at a name that stands twice the first one counts
+-- the files with these names and bytes; of a name that is given twice the first one counts
 abbrev pub files_of : List (List ℕ × Vec ℕ Global) → Files
 files_of pairs = finmap.from_entries (map (λ p. (p.0, p.1.items)) pairs)
 

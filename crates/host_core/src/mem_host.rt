@@ -44,7 +44,7 @@ impl Model for MemHost {
 }
 
 impl MemHost {
-    /// A host with these inputs and files, with no calls so far. At a name that stands twice the first
+    /// A host with these inputs and files, with no calls so far. Of a name that is given twice the first
     /// one counts.
     pub fn new(
         alloc: Global,

@@ -40,7 +40,7 @@ impl NamedBytes {
         }
     }
 
-    /// Those of a list. At a name that stands twice the first one counts.
+    /// Those of a list. Of a name that is given twice the first one counts.
     pub(crate) fn of_pairs(alloc: Global, pairs: Vec<(Txt, Vec<u8>)>) -> Result<Self, Memory>
         ensures { IfOk result (λ n. n ≡ files_of pairs.items) }
     {

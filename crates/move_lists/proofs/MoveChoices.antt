@@ -13,7 +13,7 @@ use Rattle.move_core.specs.declared.moves.Ranked.{Ranked}
 use Rattle.move_lists.specs.Firsts.{IsTold, generated_of}
 use Rattle.move_lists.specs.Questions.{AreFirstsIn, IsOffered}
 use Rattle.move_lists.specs.Ranking.{IsReachOf, alone, chosen_moves, early_tier, is_chosen, is_restoring_as, leads_early, lone_tier, ranked_alone}
-use Rattle.move_lists.specs.Reaches.{Depths, IsFirst}
+use Rattle.move_lists.specs.Reaches.{Depths, IsOfferedMove}
 use Rattle.move_lists.specs.declared.asking.Question.{Question}
 use Rattle.move_lists.specs.declared.firsts.First.{First}
 use Rattle.move_lists.specs.declared.ranking.Choice.{Choice}
@@ -203,10 +203,10 @@ module _ (q : Question) (fs : List First) (are : AreFirstsIn q fs) where
             ((chosen_told start goal choice f (told f there).1).1 (subst (IsChosen choice start goal) (sym same) is))))
 
     -- they are generated
-    pub chosen_first : (ms : List Move) → ms ≡ chosen → All (IsFirst q) ms
-    chosen_first ms these = subst (All (IsFirst q)) (sym these) (λ k d lt. by (get_or chosen k d) (Contains-get_or chosen k d lt))
+    pub chosen_first : (ms : List Move) → ms ≡ chosen → All (IsOfferedMove q) ms
+    chosen_first ms these = subst (All (IsOfferedMove q)) (sym these) (λ k d lt. by (get_or chosen k d) (Contains-get_or chosen k d lt))
       where
-        by : (m : Move) → Contains chosen m → IsFirst q m
+        by : (m : Move) → Contains chosen m → IsOfferedMove q m
         by m h = let g = one_chosen m h in (g.0, All-contains (IsOffered q) firsts g.0 offered g.1, g.3)
 
   module _ (b : Bool) where

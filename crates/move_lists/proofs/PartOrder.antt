@@ -6,7 +6,7 @@ use Rattle.std.specs.declared.cmp.Ordering.TheVariants.{Less, Equal, Greater}
 use Rattle.std.proofs.lemmas.Bool.Decides.{nat_tests}
 use Rattle.move_core.specs.ListedOrder.{listed_cmp, move_cmp, rank_cmp}
 use Rattle.move_core.specs.declared.moves.Ranked.{Ranked}
-use Rattle.move_lists.specs.Parts.{part_at, part_of}
+use Rattle.move_lists.specs.Parts.{chain_part, part_of}
 use Rattle.move_lists.proofs.Chains.{nat_cmp_same, nat_less}
 
 -- ---- the part of a tier and a number of extensions
@@ -17,7 +17,7 @@ IsAt t d p =
     ((t ≤ 1) × (p ≡ t))
     ⊎ (((t ≡ 2) × (d ≤ 3) × (p ≡ 1 + d)) ⊎ (((t ≡ 2) × (3 < d) × (p ≡ 5)) ⊎ ((2 < t) × (p ≡ t + 3))))
 
-is_at : (t d : ℕ) → IsAt t d (part_at t d)
+is_at : (t d : ℕ) → IsAt t d (chain_part t d)
 is_at t d = by (nat_le t 1) (nat_le t 2) (nat_le d 3) refl refl refl
   where
     yes : (a b : ℕ) → nat_le a b ≡ true → a ≤ b
@@ -37,31 +37,31 @@ is_at t d = by (nat_le t 1) (nat_le t 2) (nat_le d 3) refl refl refl
 abbrev IsEarlyAt : ℕ → ℕ → Type 0
 IsEarlyAt d p = ((d ≤ 3) × (p ≡ 1 + d)) ⊎ ((3 < d) × (p ≡ 5))
 
-pub early_at : (d : ℕ) → IsEarlyAt d (part_at 2 d)
+pub early_at : (d : ℕ) → IsEarlyAt d (chain_part 2 d)
 early_at d = by (is_at 2 d)
   where
-    by : IsAt 2 d (part_at 2 d) → IsEarlyAt d (part_at 2 d)
+    by : IsAt 2 d (chain_part 2 d) → IsEarlyAt d (chain_part 2 d)
     by (inl h) = let l = h.0 in absurd (omega (arith, l))
     by (inr (inl h)) = inl (h.1, h.2)
     by (inr (inr (inl h))) = inr (h.1, h.2)
     by (inr (inr (inr h))) = let l = h.0 in absurd (omega (arith, l))
 
 -- a later tier has no lesser part
-tier_rises : (s t d e : ℕ) → s < t → part_at s d ≤ part_at t e
+tier_rises : (s t d e : ℕ) → s < t → chain_part s d ≤ chain_part t e
 tier_rises s t d e lt = by (is_at s d) (is_at t e)
   where
-    by : IsAt s d (part_at s d) → IsAt t e (part_at t e) → part_at s d ≤ part_at t e
+    by : IsAt s d (chain_part s d) → IsAt t e (chain_part t e) → chain_part s d ≤ chain_part t e
     by a b = grind arith
 
 -- nor have more extensions
-depth_rises : (t d e : ℕ) → d ≤ e → part_at t d ≤ part_at t e
+depth_rises : (t d e : ℕ) → d ≤ e → chain_part t d ≤ chain_part t e
 depth_rises t d e le = by (is_at t d) (is_at t e)
   where
-    by : IsAt t d (part_at t d) → IsAt t e (part_at t e) → part_at t d ≤ part_at t e
+    by : IsAt t d (chain_part t d) → IsAt t e (chain_part t e) → chain_part t d ≤ chain_part t e
     by a b = grind arith
 
 -- of a lesser part is the lesser tier, or in the same tier the lesser number of extensions
-lesser_part : (s t d e : ℕ) → part_at s d < part_at t e → (s < t) ⊎ ((s ≡ t) × (d < e))
+lesser_part : (s t d e : ℕ) → chain_part s d < chain_part t e → (s < t) ⊎ ((s ≡ t) × (d < e))
 lesser_part s t d e lt = by (split s t) (split d e)
   where
     split : (a b : ℕ) → (a < b) ⊎ ((a ≡ b) ⊎ (b < a))
@@ -70,7 +70,7 @@ lesser_part s t d e lt = by (split s t) (split d e)
     same : s ≡ t → e ≤ d → ⊥
     same is le =
         let no = depth_rises t e d le in
-        let here = subst (λ x. part_at x d < part_at t e) is lt in omega (arith, no, here)
+        let here = subst (λ x. chain_part x d < chain_part t e) is lt in omega (arith, no, here)
 
     by : (s < t) ⊎ ((s ≡ t) ⊎ (t < s)) → (d < e) ⊎ ((d ≡ e) ⊎ (e < d)) → (s < t) ⊎ ((s ≡ t) × (d < e))
     by (inl less) k = inl less

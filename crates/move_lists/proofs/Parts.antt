@@ -8,7 +8,7 @@ use Rattle.move_core.specs.Listed.{HasTier, chain_class, place_class}
 use Rattle.move_core.specs.declared.moves.Generated.{Generated}
 use Rattle.move_core.specs.declared.moves.Move.{Move}
 use Rattle.move_core.specs.declared.moves.Ranked.{Ranked}
-use Rattle.move_lists.specs.Parts.{part_at, part_of}
+use Rattle.move_lists.specs.Parts.{chain_part, part_of}
 use Rattle.move_lists.specs.Questions.{IsOffered, LeadsIn}
 use Rattle.move_lists.specs.Ranking.{AddsExtended, AreChainsIn, AreEarlier, HasLeast, IsChain, IsEarlier, IsExtended, lone_tier}
 use Rattle.move_lists.specs.Reaches.{AreNoted, AreOnce, Depths, HasMove, HasWithin, IsLedTo}
@@ -25,7 +25,7 @@ abbrev pub lone_part : Bool → ℕ
 lone_part true = 6
 lone_part false = 1
 
-lone_at : (b : Bool) → part_at (lone_tier b) 0 ≡ lone_part b
+lone_at : (b : Bool) → chain_part (lone_tier b) 0 ≡ lone_part b
 lone_at true = refl
 lone_at false = refl
 
@@ -34,30 +34,30 @@ abbrev pub IsCase : Config → Config → Generated → ℕ → ℕ → Type 0
 IsCase start goal g n p =
     ((n ≡ 0) × Meets false (IsRestoring start goal g) × (p ≡ 1))
     ⊎ (((n ≡ 0) × Meets true (IsRestoring start goal g) × (p ≡ 6))
-    ⊎ (((0 < n) × LeadsEarly start goal g × (p ≡ part_at 2 n))
+    ⊎ (((0 < n) × LeadsEarly start goal g × (p ≡ chain_part 2 n))
     ⊎ ((0 < n) × (¬ LeadsEarly start goal g) × (p ≡ 7))))
 
-pub part_case : (start goal : Config) (g : Generated) (n t : ℕ) → HasTier start goal g n t → IsCase start goal g n (part_at t n)
+pub part_case : (start goal : Config) (g : Generated) (n t : ℕ) → HasTier start goal g n t → IsCase start goal g n (chain_part t n)
 part_case start goal g zero t has = by (restoring_or_not start goal g)
   where
-    by : IsRestoring start goal g ⊎ ¬ IsRestoring start goal g → IsCase start goal g zero (part_at t zero)
-    by (inl is) = inr (inl (refl, is, ap (λ x. part_at x 0) (has.restoring is)))
-    by (inr not) = inl (refl, not, ap (λ x. part_at x 0) (has.other not))
+    by : IsRestoring start goal g ⊎ ¬ IsRestoring start goal g → IsCase start goal g zero (chain_part t zero)
+    by (inl is) = inr (inl (refl, is, ap (λ x. chain_part x 0) (has.restoring is)))
+    by (inr not) = inl (refl, not, ap (λ x. chain_part x 0) (has.other not))
 part_case start goal g (suc n) t has = by (early_or_not start goal g)
   where
-    by : LeadsEarly start goal g ⊎ ¬ LeadsEarly start goal g → IsCase start goal g (suc n) (part_at t (suc n))
+    by : LeadsEarly start goal g ⊎ ¬ LeadsEarly start goal g → IsCase start goal g (suc n) (chain_part t (suc n))
     by (inl is) =
-        inr (inr (inl (omega arith, is, ap (λ x. part_at x (suc n)) (same_tier start goal g (suc n) t 2 has (early_has start goal g n is)))))
+        inr (inr (inl (omega arith, is, ap (λ x. chain_part x (suc n)) (same_tier start goal g (suc n) t 2 has (early_has start goal g n is)))))
     by (inr late) =
-        inr (inr (inr (omega arith, late, ap (λ x. part_at x (suc n)) (same_tier start goal g (suc n) t 4 has (late_has start goal g n late)))))
+        inr (inr (inr (omega arith, late, ap (λ x. chain_part x (suc n)) (same_tier start goal g (suc n) t 4 has (late_has start goal g n late)))))
 
 -- ---- the parts of early chains
 
 -- they are greater than 1 and no greater than 5
-early_bounds : (n : ℕ) → 0 < n → (1 < part_at 2 n) × (part_at 2 n ≤ 5)
+early_bounds : (n : ℕ) → 0 < n → (1 < chain_part 2 n) × (chain_part 2 n ≤ 5)
 early_bounds n pos = by (early_at n)
   where
-    by : ((n ≤ 3) × (part_at 2 n ≡ 1 + n)) ⊎ ((3 < n) × (part_at 2 n ≡ 5)) → (1 < part_at 2 n) × (part_at 2 n ≤ 5)
+    by : ((n ≤ 3) × (chain_part 2 n ≡ 1 + n)) ⊎ ((3 < n) × (chain_part 2 n ≡ 5)) → (1 < chain_part 2 n) × (chain_part 2 n ≤ 5)
     by (inl h) = let le = h.0 in let e = h.1 in (omega (arith, e, pos), omega (arith, e, le))
     by (inr h) = let e = h.1 in (omega (arith, e), omega (arith, e))
 
@@ -78,9 +78,9 @@ part_bounds start goal g r has = by (part_case start goal g r.depth r.tier has)
 pub record IsEarlyPart (p least : ℕ) : Type 0 where
   pub low : 1 < p
   pub high : p ≤ 5
-  pub below : (n : ℕ) → n < least → part_at 2 n < p
-  pub here : (n : ℕ) → part_at 2 n ≡ p → least ≤ n
-  pub before : (n : ℕ) → part_at 2 n < p → n < least
+  pub below : (n : ℕ) → n < least → chain_part 2 n < p
+  pub here : (n : ℕ) → chain_part 2 n ≡ p → least ≤ n
+  pub before : (n : ℕ) → chain_part 2 n < p → n < least
 
 -- with one, two or three extensions
 pub few_part : (k : ℕ) → 1 ≤ k → k ≤ 3 → IsEarlyPart (1 + k) k
@@ -92,31 +92,31 @@ few_part k some few = record {
   before = λ n lt. before n lt (early_at n);
 }
   where
-    below : (n : ℕ) → n < k → ((n ≤ 3) × (part_at 2 n ≡ 1 + n)) ⊎ ((3 < n) × (part_at 2 n ≡ 5)) → part_at 2 n < 1 + k
+    below : (n : ℕ) → n < k → ((n ≤ 3) × (chain_part 2 n ≡ 1 + n)) ⊎ ((3 < n) × (chain_part 2 n ≡ 5)) → chain_part 2 n < 1 + k
     below n lt (inl h) = let e = h.1 in omega (arith, e, lt)
     below n lt (inr h) = let l = h.0 in absurd (omega (arith, l, lt, few))
 
-    here : (n : ℕ) → part_at 2 n ≡ 1 + k → ((n ≤ 3) × (part_at 2 n ≡ 1 + n)) ⊎ ((3 < n) × (part_at 2 n ≡ 5)) → k ≤ n
+    here : (n : ℕ) → chain_part 2 n ≡ 1 + k → ((n ≤ 3) × (chain_part 2 n ≡ 1 + n)) ⊎ ((3 < n) × (chain_part 2 n ≡ 5)) → k ≤ n
     here n is (inl h) = let e = h.1 in omega (arith, e, is)
     here n is (inr h) = let l = h.0 in omega (arith, l, few)
 
-    before : (n : ℕ) → part_at 2 n < 1 + k → ((n ≤ 3) × (part_at 2 n ≡ 1 + n)) ⊎ ((3 < n) × (part_at 2 n ≡ 5)) → n < k
+    before : (n : ℕ) → chain_part 2 n < 1 + k → ((n ≤ 3) × (chain_part 2 n ≡ 1 + n)) ⊎ ((3 < n) × (chain_part 2 n ≡ 5)) → n < k
     before n lt (inl h) = let e = h.1 in omega (arith, e, lt)
     before n lt (inr h) = let e = h.1 in absurd (omega (arith, e, lt, few))
 
 -- the part of one such number of extensions
-pub few_at : (k n : ℕ) → k ≤ 3 → k ≤ n → n ≤ k → part_at 2 n ≡ 1 + k
+pub few_at : (k n : ℕ) → k ≤ 3 → k ≤ n → n ≤ k → chain_part 2 n ≡ 1 + k
 few_at k n few least most = by (early_at n)
   where
-    by : ((n ≤ 3) × (part_at 2 n ≡ 1 + n)) ⊎ ((3 < n) × (part_at 2 n ≡ 5)) → part_at 2 n ≡ 1 + k
+    by : ((n ≤ 3) × (chain_part 2 n ≡ 1 + n)) ⊎ ((3 < n) × (chain_part 2 n ≡ 5)) → chain_part 2 n ≡ 1 + k
     by (inl h) = let e = h.1 in omega (arith, e, least, most)
     by (inr h) = let l = h.0 in absurd (omega (arith, l, most, few))
 
 -- a part up to it has no more
-pub few_within : (k n : ℕ) → k ≤ 3 → part_at 2 n ≤ 1 + k → n ≤ k
+pub few_within : (k n : ℕ) → k ≤ 3 → chain_part 2 n ≤ 1 + k → n ≤ k
 few_within k n few most = by (early_at n)
   where
-    by : ((n ≤ 3) × (part_at 2 n ≡ 1 + n)) ⊎ ((3 < n) × (part_at 2 n ≡ 5)) → n ≤ k
+    by : ((n ≤ 3) × (chain_part 2 n ≡ 1 + n)) ⊎ ((3 < n) × (chain_part 2 n ≡ 5)) → n ≤ k
     by (inl h) = let e = h.1 in omega (arith, e, most)
     by (inr h) = let e = h.1 in absurd (omega (arith, e, most, few))
 
@@ -130,22 +130,22 @@ many_part = record {
   before = λ n lt. before n lt (early_at n);
 }
   where
-    below : (n : ℕ) → n < 4 → ((n ≤ 3) × (part_at 2 n ≡ 1 + n)) ⊎ ((3 < n) × (part_at 2 n ≡ 5)) → part_at 2 n < 5
+    below : (n : ℕ) → n < 4 → ((n ≤ 3) × (chain_part 2 n ≡ 1 + n)) ⊎ ((3 < n) × (chain_part 2 n ≡ 5)) → chain_part 2 n < 5
     below n lt (inl h) = let e = h.1 in omega (arith, e, lt)
     below n lt (inr h) = let l = h.0 in absurd (omega (arith, l, lt))
 
-    here : (n : ℕ) → part_at 2 n ≡ 5 → ((n ≤ 3) × (part_at 2 n ≡ 1 + n)) ⊎ ((3 < n) × (part_at 2 n ≡ 5)) → 4 ≤ n
+    here : (n : ℕ) → chain_part 2 n ≡ 5 → ((n ≤ 3) × (chain_part 2 n ≡ 1 + n)) ⊎ ((3 < n) × (chain_part 2 n ≡ 5)) → 4 ≤ n
     here n is (inl h) = let e = h.1 in omega (arith, e, is)
     here n is (inr h) = let l = h.0 in omega (arith, l)
 
-    before : (n : ℕ) → part_at 2 n < 5 → ((n ≤ 3) × (part_at 2 n ≡ 1 + n)) ⊎ ((3 < n) × (part_at 2 n ≡ 5)) → n < 4
+    before : (n : ℕ) → chain_part 2 n < 5 → ((n ≤ 3) × (chain_part 2 n ≡ 1 + n)) ⊎ ((3 < n) × (chain_part 2 n ≡ 5)) → n < 4
     before n lt (inl h) = let l = h.0 in omega (arith, l)
     before n lt (inr h) = let e = h.1 in absurd (omega (arith, e, lt))
 
-pub many_at : (n : ℕ) → 4 ≤ n → part_at 2 n ≡ 5
+pub many_at : (n : ℕ) → 4 ≤ n → chain_part 2 n ≡ 5
 many_at n many = by (early_at n)
   where
-    by : ((n ≤ 3) × (part_at 2 n ≡ 1 + n)) ⊎ ((3 < n) × (part_at 2 n ≡ 5)) → part_at 2 n ≡ 5
+    by : ((n ≤ 3) × (chain_part 2 n ≡ 1 + n)) ⊎ ((3 < n) × (chain_part 2 n ≡ 5)) → chain_part 2 n ≡ 5
     by (inl h) = let l = h.0 in absurd (omega (arith, l, many))
     by (inr h) = h.1
 
@@ -211,8 +211,8 @@ module _ (q : Question) (firsts : List Generated) (offered : All (IsOffered q) f
     each_alone : (r : Ranked) → IsOneAlone start goal b firsts r → IsChain q r × (part_of r ≡ lone_part b)
     each_alone r h = (
       alone_chain h.0 r h.1 h.3,
-      ap (λ t. part_at t r.depth) (same_tier start goal h.0 0 r.tier (lone_tier b) h.3.tier (alone_tier start goal h.0 b h.2))
-          ∙ ap (part_at (lone_tier b)) h.3.depth ∙ lone_at b,
+      ap (λ t. chain_part t r.depth) (same_tier start goal h.0 0 r.tier (lone_tier b) h.3.tier (alone_tier start goal h.0 b h.2))
+          ∙ ap (chain_part (lone_tier b)) h.3.depth ∙ lone_at b,
     )
 
     least_alone : (s : Ranked) → IsChain q s → part_of s ≡ lone_part b → HasLeast rs s ⊎ IsEarlier q (lone_part b) s.mv
@@ -276,15 +276,15 @@ module _ (q : Question) (firsts : List Generated) (offered : All (IsOffered q) f
         early m g.0 g.1 g.2 (g.3 ∙ sym from.2)
 
     -- what was reached with so many that the part is below p
-    pub reached_below : (m : Move) (d : ℕ) → Contains es (m, d) → (0 < d → part_at t d < p) → IsEarlier q p m
+    pub reached_below : (m : Move) (d : ℕ) → Contains es (m, d) → (0 < d → chain_part t d < p) → IsEarlier q p m
     reached_below m zero there below = reached_none m there
     reached_below m (suc n) there below =
         (record { tier = t; depth = suc n; class = place_class m; mv = m }, led_chain m n there (place_class m) refl, refl, below (omega arith))
 
     module _ (least : ℕ) (rs : List Ranked) (adds : AddsExtended es t least [] rs) (some : 0 < least)
-        (lands : (m : Move) (d : ℕ) → Contains es (m, d) → least ≤ d → part_at t d ≡ p) where
+        (lands : (m : Move) (d : ℕ) → Contains es (m, d) → least ≤ d → chain_part t d ≡ p) where
       each_extended : (r : Ranked) → IsExtended es t least r → IsChain q r × (part_of r ≡ p)
-      each_extended r is = (by r.depth refl, ap (λ x. part_at x r.depth) is.tier_is ∙ lands r.mv r.depth is.there is.extended)
+      each_extended r is = (by r.depth refl, ap (λ x. chain_part x r.depth) is.tier_is ∙ lands r.mv r.depth is.there is.extended)
         where
           by : (n : ℕ) → r.depth ≡ n → IsChain q r
           by zero e = let more = is.extended in absurd (omega (arith, more, e, some))
@@ -299,7 +299,7 @@ module _ (q : Question) (firsts : List Generated) (offered : All (IsOffered q) f
               }
 
       -- a move that was reached within some extensions has a chain of no greater rank, or one of a lesser part
-      within : ((n : ℕ) → 0 < n → n < least → part_at t n < p) → (s : Ranked) → s.tier ≡ t → s.class ≡ place_class s.mv → HasWithin es s.depth s.mv
+      within : ((n : ℕ) → 0 < n → n < least → chain_part t n < p) → (s : Ranked) → s.tier ≡ t → s.class ≡ place_class s.mv → HasWithin es s.depth s.mv
           → HasLeast rs s ⊎ IsEarlier q p s.mv
       within below s tier class (d, le, there) = by (split d least)
         where
@@ -332,7 +332,7 @@ module _ (q : Question) (firsts : List Generated) (offered : All (IsOffered q) f
           by zero e = absurd (omega (arith, pos, e))
           by (suc n) e = same_tier start goal is.first (suc n) s.tier t (subst (λ d. HasTier start goal is.first d s.tier) e is.tier) (has is.first n so)
 
-      pub extended_chains : ((n : ℕ) → 0 < n → n < least → part_at t n < p) → ((s : Ranked) (is : IsChain q s) → part_of s ≡ p → (0 < s.depth) × P is.first)
+      pub extended_chains : ((n : ℕ) → 0 < n → n < least → chain_part t n < p) → ((s : Ranked) (is : IsChain q s) → part_of s ≡ p → (0 < s.depth) × P is.first)
           → ((s : Ranked) → IsChain q s → part_of s ≡ p → HasWithin es s.depth s.mv ⊎ IsEarlier q p s.mv)
           → AreChainsIn q p rs
       extended_chains below so held = record {
@@ -375,10 +375,10 @@ module _ (q : Question) (firsts : List Generated) (offered : All (IsOffered q) f
 
   -- a chain of a part of early ones
   early_of : (p least : ℕ) → IsEarlyPart p least → (s : Ranked) (is : IsChain q s) → part_of s ≡ p
-      → (0 < s.depth) × Early is.first × (part_at 2 s.depth ≡ p)
+      → (0 < s.depth) × Early is.first × (chain_part 2 s.depth ≡ p)
   early_of p least part s is at = by (case_of s is)
     where
-      by : Case s is → (0 < s.depth) × Early is.first × (part_at 2 s.depth ≡ p)
+      by : Case s is → (0 < s.depth) × Early is.first × (chain_part 2 s.depth ≡ p)
       by (inl h) = let t = h.2 in let low = part.low in absurd (omega (arith, t, at, low))
       by (inr (inl h)) = let t = h.2 in let high = part.high in absurd (omega (arith, t, at, high))
       by (inr (inr (inl h))) = (h.0, h.1, sym h.2 ∙ at)
@@ -387,11 +387,11 @@ module _ (q : Question) (firsts : List Generated) (offered : All (IsOffered q) f
   -- those that were reached with so many extensions or more
   module _ (p least : ℕ) (part : IsEarlyPart p least) (some : 0 < least) (ms : List Move) (es : Depths) (of : AreMovesOf Early firsts ms)
       (led : All (IsLedTo q ms) es) (rs : List Ranked) (adds : AddsExtended es 2 least [] rs)
-      (held : (f : Move) (n : ℕ) (x : Move) → Contains ms f → part_at 2 n ≤ p → LeadsIn q f n x → HasWithin es n x) where
-    early_held : (s : Ranked) (is : IsChain q s) → Early is.first → part_at 2 s.depth ≤ p → HasWithin es s.depth s.mv
+      (held : (f : Move) (n : ℕ) (x : Move) → Contains ms f → chain_part 2 n ≤ p → LeadsIn q f n x → HasWithin es n x) where
+    early_held : (s : Ranked) (is : IsChain q s) → Early is.first → chain_part 2 s.depth ≤ p → HasWithin es s.depth s.mv
     early_held s is leads most = held is.first.mv s.depth s.mv (of.all is.first (all is.first is.generated) leads) most is.leads
 
-    pub early_chains : ((m : Move) (d : ℕ) → Contains es (m, d) → least ≤ d → part_at 2 d ≡ p) → AreChainsIn q p rs
+    pub early_chains : ((m : Move) (d : ℕ) → Contains es (m, d) → least ≤ d → chain_part 2 d ≡ p) → AreChainsIn q p rs
     early_chains lands =
         extended_chains Early 2 p (early_has start goal) (early_before p part.low) ms es of led least rs adds some lands (λ n pos less. part.below n less)
         (λ s is at. let h = early_of p least part s is at in (h.0, h.1))
@@ -405,7 +405,7 @@ module _ (q : Question) (firsts : List Generated) (offered : All (IsOffered q) f
         extended : IsExtended es 2 least r
         extended = All-contains (IsExtended es 2 least) adds.more r adds.each (subst (λ l. Contains l r) adds.follows there)
 
-        no : Early is.first → part_at 2 s.depth < p → ⊥
+        no : Early is.first → chain_part 2 s.depth < p → ⊥
         no leads below =
             let w = early_held s is leads (omega (arith, below)) in
             let tied = once r.mv r.depth w.0 extended.there (subst (λ m. Contains {X = Move × ℕ} es (m, w.0)) same w.2) in
@@ -423,7 +423,7 @@ module _ (q : Question) (firsts : List Generated) (offered : All (IsOffered q) f
   early_ends : (early : Depths) → IsReachFrom q Early firsts [] early → (m : Move) → HasMove early m → IsEarlier q 6 m
   early_ends early of m h = reached_below Early 2 6 (early_has start goal) (early_before 6 (omega arith)) of.0 early of.1 of.2.each m h.0 h.1 (λ pos. by h.0 (early_at h.0))
     where
-      by : (n : ℕ) → ((n ≤ 3) × (part_at 2 n ≡ 1 + n)) ⊎ ((3 < n) × (part_at 2 n ≡ 5)) → part_at 2 n < 6
+      by : (n : ℕ) → ((n ≤ 3) × (chain_part 2 n ≡ 1 + n)) ⊎ ((3 < n) × (chain_part 2 n ≡ 5)) → chain_part 2 n < 6
       by n (inl h) = let e = h.1 in let l = h.0 in omega (arith, e, l)
       by n (inr h) = let e = h.1 in omega (arith, e)
 
@@ -492,7 +492,7 @@ module _ (q : Question) (firsts : List Generated) (offered : All (IsOffered q) f
     -- for a part of early chains the generated moves that aren't restoring do
     pub earlier_early : (p least : ℕ) (part : IsEarlyPart p least) (some : 0 < least) (ms : List Move) (es : Depths) (of : AreMovesOf Early firsts ms)
         (led : All (IsLedTo q ms) es) (rs : List Ranked) (adds : AddsExtended es 2 least [] rs)
-        (held : (f : Move) (n : ℕ) (x : Move) → Contains ms f → part_at 2 n ≤ p → LeadsIn q f n x → HasWithin es n x)
+        (held : (f : Move) (n : ℕ) (x : Move) → Contains ms f → chain_part 2 n ≤ p → LeadsIn q f n x → HasWithin es n x)
         → AreOnce es → (known : Depths) → AreNoted [] [] known others 0 → AreEarlier q p rs known
     earlier_early p least part some ms es of led rs adds held once known are = record {
       each = λ m h. each m ((noted [] known others 0 are m).0 h);

@@ -9,7 +9,7 @@ use Rattle.move_core.specs.Listed.{IsListed}
 use Rattle.move_core.specs.Moves.{IsDefined, place}
 use Rattle.move_core.specs.declared.moves.Move.{Move}
 use Rattle.move_lists.specs.Questions.{FollowsIn, LeadsIn}
-use Rattle.move_lists.specs.Reaches.{AreNoted, AreReached, CanSpread, Depths, HasBelow, HasMove, HasWithin, HoldsAll, HoldsWithin, IsClosed, IsFirst, IsLedTo, IsNoted, IsSpread, IsSpreadBefore, SharesAbove, most_moves}
+use Rattle.move_lists.specs.Reaches.{AreNoted, AreReached, CanSpread, Depths, HasBelow, HasMove, HasWithin, HoldsAll, HoldsWithin, IsClosed, IsOfferedMove, IsLedTo, IsNoted, IsSpread, IsSpreadBefore, SharesAbove, most_moves}
 use Rattle.move_lists.specs.declared.asking.Question.{Question}
 use Rattle.move_lists.proofs.Members.{no_member}
 
@@ -354,15 +354,15 @@ spread_noted q beside old new i mv depth ms K at each all known are = record {
 -- ---- the extenders asked
 
 -- what generated moves lead to is listed
-pub led_listed : (q : Question) (first : List Move) (e : Move × ℕ) → All (IsFirst q) first → IsLedTo q first e
+pub led_listed : (q : Question) (first : List Move) (e : Move × ℕ) → All (IsOfferedMove q) first → IsLedTo q first e
     → IsListed (rulebook q.ctx.now) q.cur.now q.goal.now e.0
 led_listed q first e firsts led =
-    let g = All-contains (IsFirst q) first led.0 firsts led.1 in
+    let g = All-contains (IsOfferedMove q) first led.0 firsts led.1 in
     record { first = g.0; depth = e.1; generated = g.1; leads = subst (λ m. LeadsIn q m e.1 e.0) (sym g.2) led.2 }
 
 -- the extenders can be asked about the next one
 pub can_spread : (q : Question) (beside : Depths) (first : List Move) (es : Depths) (i : ℕ) → AreReached q beside first es i
-    → i < length es → length es < most_moves → All (IsFirst q) first
+    → i < length es → length es < most_moves → All (IsOfferedMove q) first
     → ((m : Move) → IsListed (rulebook q.ctx.now) q.cur.now q.goal.now m → IsDefined q.cur.now m) → CanSpread q es i
 can_spread q beside first es i are lt small firsts defined =
     let here = at_index es i lt in
@@ -377,7 +377,7 @@ can_spread q beside first es i are lt small firsts defined =
 
 -- so where it has fewer extensions
 pub below_spreads : (q : Question) (first : List Move) (es : Depths) (i limit : ℕ) → AreReached q [] first es i → HasBelow es i limit
-    → i < most_moves → All (IsFirst q) first
+    → i < most_moves → All (IsOfferedMove q) first
     → ((m : Move) → IsListed (rulebook q.ctx.now) q.cur.now q.goal.now m → IsDefined q.cur.now m) → CanSpread q es i
 below_spreads q first es i limit are (e, at, lt) small firsts defined = record {
   mv = e.0;

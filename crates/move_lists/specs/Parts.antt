@@ -15,15 +15,15 @@ abbrev pub part_count : ℕ
 part_count = 7
 
 -- the part in which a chain of that tier with that many extensions lies
-abbrev pub part_at : ℕ → ℕ → ℕ
-part_at tier depth =
+abbrev pub chain_part : ℕ → ℕ → ℕ
+chain_part tier depth =
     if nat_le tier 1 then tier
     else if nat_le tier 2 then (if nat_le depth 3 then 1 + depth else 5)
     else tier + 3
 
 -- the part of a chain
 abbrev pub part_of : Ranked → ℕ
-part_of r = part_at r.tier r.depth
+part_of r = chain_part r.tier r.depth
 
 -- a chain of a lesser part ends with the move
 abbrev pub EndsEarlier : Rulebook → Config → Config → Config → ℕ → Move → Type 0

@@ -8,7 +8,7 @@ use Rattle.move_core.specs.Listed.{EndsChain, moves_of, other_tier, place_class}
 use Rattle.move_core.specs.ListedOrder.{listed_cmp, rank_cmp}
 use Rattle.move_core.specs.declared.moves.Move.{Move}
 use Rattle.move_core.specs.declared.moves.Ranked.{Ranked}
-use Rattle.move_lists.specs.Parts.{AreListedIn, AreListedTo, EndsEarlier, part_at, part_of}
+use Rattle.move_lists.specs.Parts.{AreListedIn, AreListedTo, EndsEarlier, chain_part, part_of}
 use Rattle.move_lists.specs.Questions.{LeadsIn}
 use Rattle.move_lists.specs.Reaches.{AreOnce, Depths, HasMove, HasWithin, HoldsAll, IsLedTo}
 use Rattle.move_lists.specs.declared.asking.Question.{Question}
@@ -115,11 +115,11 @@ pub record IsReachFor (q : Question) (extensions : ℕ) (first : List Move) (es 
     : Type 0 where
   pub each : All (IsLedTo q first) es
   pub all :
-      (f : Move) (n : ℕ) (x : Move) → Contains first f → part_at early_tier n ≤ 1 + extensions
+      (f : Move) (n : ℕ) (x : Move) → Contains first f → chain_part early_tier n ≤ 1 + extensions
       → LeadsIn q f n x → HasWithin es n x
   pub lands :
       (m : Move) (d : ℕ) → Contains es (m, d) → extensions ≤ d
-      → part_at early_tier d ≡ 1 + extensions
+      → chain_part early_tier d ≡ 1 + extensions
 
 -- the listed moves of a part
 abbrev pub IsInPart : Question → ℕ → List Move → Type 0

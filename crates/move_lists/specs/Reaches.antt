@@ -81,8 +81,8 @@ pub record CanSpread (q : Question) (es : Depths) (i : ℕ) : Type 0 where
   pub small : i < most_moves
 
 -- it is a generated move
-abbrev pub IsFirst : Question → Move → Type 0
-IsFirst q m = (g : Generated) × IsOffered q g × (g.mv ≡ m)
+abbrev pub IsOfferedMove : Question → Move → Type 0
+IsOfferedMove q m = (g : Generated) × IsOffered q g × (g.mv ≡ m)
 
 -- that many extensions lead from one of the moves to it
 abbrev pub IsLedTo : Question → List Move → Move × ℕ → Type 0

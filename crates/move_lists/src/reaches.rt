@@ -1,7 +1,7 @@
 //! Moves with the number of extensions by which each was reached first.
 ghost use Rattle.std.specs.Prelude.{◌≡◌, ◌↔◌, ◌<◌, ◌≤◌, ◌^◌, [], length, map, slice_get, Some, OnOk, IfOk, IsTrue, All};
 ghost use Rattle.move_lists.specs.Questions.{CanAsk};
-ghost use Rattle.move_lists.specs.Reaches.{AreNoted, AreOnce, CanSpread, HasBelow, HoldsAll, HoldsWithin, IsClosed, IsFirst, IsLedTo, IsNoted, IsSpread, IsSpreadBefore, SharesAbove};
+ghost use Rattle.move_lists.specs.Reaches.{AreNoted, AreOnce, CanSpread, HasBelow, HoldsAll, HoldsWithin, IsClosed, IsOfferedMove, IsLedTo, IsNoted, IsSpread, IsSpreadBefore, SharesAbove};
 
 use crate::asking::{Question, extended_moves};
 use crate::move_keys::MoveKey;
@@ -171,7 +171,7 @@ pub(crate) fn reach_from(
 ) -> Result<Reach, Memory>
     requires kinds { ⟦<Kit as Boxes>⟧.HasKinds kit.old }
     requires asked { CanAsk question.now }
-    requires first { All (IsFirst question.now) first.items }
+    requires first { All (IsOfferedMove question.now) first.items }
     requires closed { IsClosed question.now beside.now }
     ensures kinds { ⟦<Kit as Boxes>⟧.HasKinds kit.new }
     ensures rules { kit.new.rules ≡ kit.old.rules }
@@ -200,7 +200,7 @@ pub(crate) fn reach_within(
 ) -> Result<Reach, Memory>
     requires kinds { ⟦<Kit as Boxes>⟧.HasKinds kit.old }
     requires asked { CanAsk question.now }
-    requires first { All (IsFirst question.now) first.items }
+    requires first { All (IsOfferedMove question.now) first.items }
     ensures kinds { ⟦<Kit as Boxes>⟧.HasKinds kit.new }
     ensures rules { kit.new.rules ≡ kit.old.rules }
     ensures each { IfOk result (λ r. All (IsLedTo question.now first.items) r) }

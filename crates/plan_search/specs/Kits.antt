@@ -18,7 +18,7 @@ use Rattle.move_core.specs.declared.moves.Generated.{Generated}
 use Rattle.move_core.specs.declared.moves.Move.{Move}
 use Rattle.move_core.specs.declared.moves.Move.TheVariants.{Add, Remove, Replace, AddItem, RemoveItem}
 use Rattle.move_core.specs.declared.moves.Ranked.{Ranked}
-use Rattle.move_lists.specs.Parts.{part_at, part_of}
+use Rattle.move_lists.specs.Parts.{chain_part, part_of}
 use Rattle.plan_search.specs.FirstWays.{StandsBefore}
 use Rattle.plan_search.specs.Problems.{Problem, IsLawful, part_count}
 
@@ -47,7 +47,7 @@ abbrev part_by : ℕ → ℕ → Bool → Bool → Bool → ℕ
 part_by t d one two near = if one then t else if two then (if near then 1 + d else 5) else t + 3
 
 -- a chain of the part 0 has the tier 0
-first_tier : (t d : ℕ) → IsTrue (nat_le (part_at t d) 0) → IsTrue (nat_le t 0)
+first_tier : (t d : ℕ) → IsTrue (nat_le (chain_part t d) 0) → IsTrue (nat_le t 0)
 first_tier t d le = by (nat_le t 1) (nat_le t 2) (nat_le d 3) le
   where
     by : (a b c : Bool) → IsTrue (nat_le (part_by t d a b c) 0) → IsTrue (nat_le t 0)
@@ -70,13 +70,13 @@ no_other (RemoveItem p i) (suc d) t e le = true≢false (sym le ∙ ap (λ x. na
 
 -- no chain has the part 0
 no_part : (start goal : Config) (g : Generated) (d t : ℕ)
-    → HasTier start goal g d t → ¬ IsTrue (nat_le (part_at t d) 0)
+    → HasTier start goal g d t → ¬ IsTrue (nat_le (chain_part t d) 0)
 no_part start goal g d t has le =
     no_other g.mv d t
     (has.other (λ r. no_restoring d t (has.restoring r) (first_tier t d le))) (first_tier t d le)
 
 -- of the tiers up to 4 there are seven parts
-few : (t d : ℕ) → IsTrue (nat_le t 4) → IsTrue (nat_le (part_at t d) part_count)
+few : (t d : ℕ) → IsTrue (nat_le t 4) → IsTrue (nat_le (chain_part t d) part_count)
 few t d le = by (nat_le t 1) (nat_le t 2) (nat_le d 3) refl refl
   where
     by : (a b c : Bool) → nat_le t 1 ≡ a → nat_le d 3 ≡ c

@@ -1,4 +1,4 @@
-//! What a search asks: the moves at a configuration, part by part, and whether one is allowed.
+//! The successor function of a search: the moves at a configuration, part by part, and what an allowed one makes of it.
 ghost use Rattle.std.specs.Prelude.{◌≡◌, ◌<◌, List, IfOk, MatchOption};
 ghost use Rattle.conf_doc.specs.declared.configuration.Config.{Config as Configuration};
 ghost use Rattle.move_core.specs.Moves.{step};

@@ -88,7 +88,7 @@ fn try_rest<S: Expanding>(
     Ok(None)
 }
 
-/// What the parts at the last configuration are made from: as it is kept, or made where nothing is.
+/// What the parts at the last configuration are made from, cached or computed.
 fn firsts_at_top<S: Expanding>(
     alloc: Global,
     source: &S,
@@ -182,7 +182,7 @@ fn expand<L: Ledger>(
     stack.push(alloc, next)
 }
 
-/// Goes on from what was met until there is an answer.
+/// The main loop: goes on from what was met until there is an answer.
 #[tactic(none)]
 fn go_on<S: Expanding, L: Ledger>(
     alloc: Global,

@@ -2,7 +2,7 @@ pub mod Counting
 pub mod Fronts
 pub mod Lists
 pub mod Opening
-pub mod Outside
+pub mod OtherScopes
 pub mod Parting
 pub mod Passing
 pub mod PointFiles

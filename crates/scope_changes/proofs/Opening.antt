@@ -19,7 +19,7 @@ use Rattle.scopes.specs.declared.scope.Scope.{Scope}
 use Rattle.scope_changes.specs.Stages.{FinishesIn, FinishesOne, IsLeftAtLine, IsLeftOne, IsMixed, LeavesIn, LeavesOne, StopsIn, StopsOne, opened}
 use Rattle.scope_changes.specs.Works.{ScopeWork, apply_line, line_for, lines, opening}
 use Rattle.scope_changes.proofs.Fronts.{behind_same, no_longer, part_front}
-use Rattle.scope_changes.proofs.Outside.{files_behind}
+use Rattle.scope_changes.proofs.OtherScopes.{files_behind}
 
 -- ---- what is printed
 

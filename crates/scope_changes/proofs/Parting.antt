@@ -15,7 +15,7 @@ use Rattle.scope_changes.specs.Ends.{AreParted, IsDone}
 use Rattle.scope_changes.specs.Stages.{IsAppliedIn}
 use Rattle.scope_changes.specs.Works.{AreInOrder, IsOutside, KeepsOutside, Precedes, ScopeWork}
 use Rattle.scope_changes.proofs.Lists.{both, each, front_of_all, one_more}
-use Rattle.scope_changes.proofs.Outside.{AsicsApart, HostApart, done_kept, due_kept, files_behind, kept_but, other_outside}
+use Rattle.scope_changes.proofs.OtherScopes.{AsicsApart, HostApart, done_kept, due_kept, files_behind, kept_but, other_outside}
 
 -- ---- the order
 

@@ -18,7 +18,7 @@ use Rattle.scope_changes.specs.Stages.{FinishesOne, IsLeftOne, IsStoppedAtLine, 
 use Rattle.scope_changes.specs.Works.{ScopeWork, all_lines, all_restarts, all_steps, apply_line, lines, next_line}
 use Rattle.scope_changes.proofs.Lists.{flat_map_more, front_of_all}
 use Rattle.scope_changes.proofs.Opening.{left_front}
-use Rattle.scope_changes.proofs.Outside.{AsicsApart, HostApart, kept_but}
+use Rattle.scope_changes.proofs.OtherScopes.{AsicsApart, HostApart, kept_but}
 use Rattle.scope_changes.proofs.Parting.{IsPlaced, applied_beside, applied_done, parted_behind, parted_first, parted_within}
 
 -- ---- what a crash left so far

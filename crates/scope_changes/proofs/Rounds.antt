@@ -16,7 +16,7 @@ use Rattle.scope_changes.specs.Stages.{FinishesOne, IsStoppedOne, LeavesOne, Sto
 use Rattle.scope_changes.specs.Works.{AreInOrder, ScopeWork, all_steps}
 use Rattle.scope_changes.proofs.Counting.{steps_more}
 use Rattle.scope_changes.proofs.Lists.{drop_at, take_and_drop, take_at}
-use Rattle.scope_changes.proofs.Outside.{AsicsApart, HostApart}
+use Rattle.scope_changes.proofs.OtherScopes.{AsicsApart, HostApart}
 use Rattle.scope_changes.proofs.Parting.{IsPlaced, placed}
 use Rattle.scope_changes.proofs.Passing.{LeftSoFar, between_next, left_next, so_far_next, stands_between, stopped_next}
 

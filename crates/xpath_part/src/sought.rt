@@ -4,7 +4,7 @@ ghost use Rattle.xpath_part.specs.Sought.{relates};
 
 use crate::{Node, Operand};
 
-/// How a text of one side of a comparison stands to one of the other.
+/// How a text of one side of a comparison compares to one of the other.
 #[derive(Clone, Copy)]
 pub(crate) enum Relation {
     Same,

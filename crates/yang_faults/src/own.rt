@@ -1,4 +1,4 @@
-//! Sentences on a statement of one kind alone.
+//! Single-statement checks: sentences on a statement of one kind alone.
 ghost use Rattle.std.specs.Prelude.{◌≡◌, map, OnOk};
 ghost use Rattle.std.specs.List.{flat_map};
 ghost use Rattle.yang_text.specs.Statements.{declaration};

@@ -1,5 +1,5 @@
 pub mod FaultFiles
-pub mod FaultLess
+pub mod FaultAbsence
 pub mod Fitting
 pub mod Places
 pub mod Sizes

@@ -10,9 +10,9 @@ use thiserror::Error;
 /// Why `Pattern::read` gives no pattern.
 #[derive(Debug, Drop, Error)]
 pub enum PatternError {
-    /// The text is no pattern. `at` is the place where reading stopped, in bytes: where the
-    /// character, escape, class or quantifier begins that can't stand there or has no end, or the
-    /// text's length where a group has no end or the pattern is too large.
+    /// The text is no pattern. `at` is the first error's offset in bytes: where the character,
+    /// escape, class or quantifier begins that can't stand there or has no end, or the text's length
+    /// where a group has no end or the pattern is too large.
     #[error("not a pattern, at {at}")]
     Bad { at: usize },
     /// No memory was left.

@@ -1,4 +1,14 @@
 -- The faults of the tokens of a text, where reading goes on behind each.
+--
+-- Where a keyword is due, a word of another form or a quoted text is BadToken, and reading goes on as behind a
+-- keyword; a `;` or a `{` is Unbalanced, and so is a `}` with no open brace. Behind a keyword any word or quoted
+-- text is its argument; behind a quoted text a `+` and another one may follow, and what follows a `+` and is no
+-- quoted text is BadToken.
+-- Where a `;` or a `{` is due, any other token tells at its own line that one is missing, as Unbalanced: a word or a
+-- quoted text is passed over, and a `}` ends the statement and the block round it.
+-- A `{` opens a block wherever it stands, and TooDeep is said of each in its place under as many open braces as
+-- there may be. A `}` closes the last one, and an extra one closes nothing.
+-- An unterminated comment or quoted text, an invalid escape and a stray `*/` are BadToken and leave all as it was.
 use Rattle.std.specs.Prelude.{◌≡◌, ◌<◌, ◌≤◌, ◌⊎◌, ℕ, ◌+◌, ◌-◌, ◌==◌, ◌||◌, ◌&&◌, nat_lt, nat_le, Bool, false, List, [], ◌∷◌, ◌++◌, length, Option, Some, None, option_map, option_to_list, if◌then◌else◌}
 use Rattle.std.specs.List.{AllByRecursion}
 use Rattle.yang_text.specs.Bytes.{plus, is_keyword}

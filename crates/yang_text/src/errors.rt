@@ -14,15 +14,15 @@ use thiserror::Error;
 pub enum ModelWhy {
     /// A byte is part of no character.
     NotUtf8,
-    /// A comment or quote isn't ended, an escape is none, `*/` stands alone, or something begins no token.
+    /// An unterminated comment or quote, an invalid escape, a stray `*/`, or something that begins no token.
     BadToken,
     /// A brace or a semicolon is missing or too much, or the file ends before an argument does.
     Unbalanced,
     /// Blocks nest deeper than 32.
     TooDeep,
-    /// A statement may not stand there.
+    /// A statement isn't allowed there.
     Unsupported,
-    /// A statement stands more often than it may.
+    /// A statement is given more often than it may be.
     Repeated,
     /// A statement is missing.
     Missing,

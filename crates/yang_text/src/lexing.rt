@@ -18,7 +18,7 @@ pub enum Kind {
     Semicolon,
     Open,
     Close,
-    /// A comment or quote that isn't ended, a bad escape, or the end of a comment where none began.
+    /// An unterminated comment or quote, an invalid escape, or a stray `*/`.
     Bad,
 }
 
@@ -285,7 +285,7 @@ fn advance(mode: Mode, w: Window) -> Step
     }
 }
 
-/// The fault of a comment or quote that the end of the text leaves open.
+/// The fault of an unterminated comment or quote.
 fn open_fault(mode: Mode, at: usize) -> Option<Token>
     ensures { result ≡ open_fault mode at }
 {

@@ -1,6 +1,6 @@
 use Rattle.std.proofs.Common.{◌∙◌}
 use Rattle.change_apply.specs.Work.{change_in}
-use Rattle.change_apply.proofs.Due.{due_here, is_printed, isnt_printed, while_printed}
+use Rattle.change_apply.proofs.DueSteps.{due_here, is_printed, isnt_printed, while_printed}
 use Rattle.change_apply.proofs.acknowledging.acknowledge.Goals as goal
 
 pub returns-in-Ok-clause-ok : goal.returns-in-Ok-clause-ok

@@ -2,7 +2,7 @@ use Rattle.std.proofs.Common.{◌∙◌, arith, subst, sym}
 use Rattle.change_apply.specs.Ends.{Stops}
 use Rattle.change_apply.specs.Work.{change_in}
 use Rattle.change_apply.specs.declared.errors.ApplyFault.TheVariants.{Disk}
-use Rattle.change_apply.proofs.Due.{count_is}
+use Rattle.change_apply.proofs.DueSteps.{count_is}
 use Rattle.change_apply.proofs.IntentStages.{close_stops, closed, closing, may_close}
 use Rattle.change_apply.proofs.intents.remove_intent.Goals as goal
 

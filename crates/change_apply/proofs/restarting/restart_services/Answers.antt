@@ -4,7 +4,7 @@ use Rattle.change_apply.specs.Stages.{AtPut, Leads}
 use Rattle.change_apply.specs.Work.{change_in}
 use Rattle.change_apply.specs.declared.ready.Restart.{Restart}
 use Rattle.change_apply.proofs.Counting.{rises_on, service_rises, stays}
-use Rattle.change_apply.proofs.Due.{due_here, err_holds, is_requested, isnt_requested, ok_holds, restarts_here, while_requested}
+use Rattle.change_apply.proofs.DueSteps.{due_here, err_holds, is_requested, isnt_requested, ok_holds, restarts_here, while_requested}
 use Rattle.change_apply.proofs.Moments.{begins}
 use Rattle.change_apply.proofs.StepStages.{left_at_put}
 use Rattle.change_apply.proofs.restarting.restart_services.Goals as goal

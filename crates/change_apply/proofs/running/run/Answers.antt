@@ -4,7 +4,7 @@ use Rattle.conf_store.specs.Folds.{StandsFor}
 use Rattle.change_apply.specs.Ends.{Finishes}
 use Rattle.change_apply.specs.Work.{change_in}
 use Rattle.change_apply.specs.declared.ready.ReadyStep.{ReadyStep}
-use Rattle.change_apply.proofs.Due.{count_is}
+use Rattle.change_apply.proofs.DueSteps.{count_is}
 use Rattle.change_apply.proofs.IntentStages.{at_beginning, left_at_beginning, nothing_to_do}
 use Rattle.change_apply.proofs.Moments.{LeavesOf, begins, joins}
 use Rattle.change_apply.proofs.running.run.Goals as goal

@@ -1,7 +1,7 @@
 use Rattle.std.proofs.Common.{suc, ap, ◌∙◌}
 use Rattle.conf_store.specs.Files.{is_step_name}
 use Rattle.change_apply.specs.Work.{change_in}
-use Rattle.change_apply.proofs.Due.{can_be_put, due_here, is_put, isnt_put, while_put}
+use Rattle.change_apply.proofs.DueSteps.{can_be_put, due_here, is_put, isnt_put, while_put}
 use Rattle.change_apply.proofs.StepNames.{named}
 use Rattle.change_apply.proofs.steps.put_next.Goals as goal
 

@@ -1,5 +1,5 @@
 use Rattle.command_runs.proofs.Acknowledgements.{has_one_number}
-use Rattle.command_runs.proofs.PlansTold.{plans_are_told}
+use Rattle.command_runs.proofs.PlanHeads.{plans_are_told}
 use Rattle.command_runs.proofs.WorkOutputs.{work_is_one}
 use Rattle.command_runs.proofs.laws.outputs_tell_one_work.Goals as goal
 

@@ -3,7 +3,7 @@ use Rattle.std.specs.Prelude.{flat_map}
 use Rattle.std.proofs.lemmas.List.{take_all}
 use Rattle.move_core.specs.Services.{services_of}
 use Rattle.gcu_engine.specs.declared.plan_scopes.ScopePlan as code
-use Rattle.gcu_engine.proofs.ScopesReady.{services_on}
+use Rattle.gcu_engine.proofs.ScopeReadiness.{services_on}
 use Rattle.gcu_engine.proofs.change_scopes.all_services.Goals as goal
 
 pub loop-plan-preserved : goal.loop-plan-preserved

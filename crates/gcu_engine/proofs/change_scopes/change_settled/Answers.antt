@@ -1,14 +1,14 @@
 use Rattle.std.proofs.Common.{arith}
 use Rattle.gcu_output.specs.Lines.{last_line}
-use Rattle.gcu_requests.proofs.ViewsEnded.{still_clean}
+use Rattle.gcu_requests.proofs.ViewEnds.{still_clean}
 use Rattle.gcu_engine.specs.ScopeWorks.{refused_asked}
 use Rattle.gcu_engine.proofs.Answering.{refused_cause, said_to}
 use Rattle.gcu_engine.proofs.Causes.{said_cause}
 use Rattle.gcu_engine.proofs.Changes.{cause_from}
 use Rattle.gcu_engine.proofs.Completing.{completes}
 use Rattle.gcu_engine.proofs.ScopesDoing.{done_answers, done_complete, done_left, fell_further, refused_answers, refused_complete, refused_left}
-use Rattle.gcu_engine.proofs.ScopesOpen.{are_closed}
-use Rattle.gcu_engine.proofs.ScopesReady.{are_ready}
+use Rattle.gcu_engine.proofs.ScopeIntents.{are_closed}
+use Rattle.gcu_engine.proofs.ScopeReadiness.{are_ready}
 use Rattle.gcu_engine.proofs.ScopesSolving.{fell_on, still_left}
 use Rattle.gcu_engine.proofs.change_scopes.change_settled.Goals as goal
 

@@ -5,8 +5,8 @@ use Rattle.gcu_requests.specs.ScopesPlannings.{plans_of}
 use Rattle.gcu_inputs.proofs.Finding.{always_refuses}
 use Rattle.gcu_engine.specs.declared.plan_scopes.ScopePlan as code
 use Rattle.gcu_engine.proofs.ScopesDoing.{unread_says, unsolved_says}
-use Rattle.gcu_engine.proofs.ScopesInOrder.{in_order}
-use Rattle.gcu_engine.proofs.ScopesReady.{are_works, found_each, found_long}
+use Rattle.gcu_engine.proofs.ScopeOrder.{in_order}
+use Rattle.gcu_engine.proofs.ScopeReadiness.{are_works, found_each, found_long}
 use Rattle.gcu_engine.proofs.ScopesSolving.{solved_in}
 use Rattle.gcu_engine.proofs.change_scopes.make_ready.Goals as goal
 

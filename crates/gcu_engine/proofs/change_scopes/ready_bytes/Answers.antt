@@ -1,7 +1,7 @@
 use Rattle.std.proofs.Common.{All, List, ℕ, ap, length, map, sym, subst, ◌∙◌}
 use Rattle.change_apply.specs.Change.{ArePositions, restarts_of}
 use Rattle.gcu_engine.specs.FaultLines.{AreFaultLines}
-use Rattle.gcu_engine.proofs.ScopesReady.{all_positions, has_all_bytes}
+use Rattle.gcu_engine.proofs.ScopeReadiness.{all_positions, has_all_bytes}
 use Rattle.gcu_engine.proofs.change_scopes.ready_bytes.Goals as goal
 
 pub fault_lines-requires : goal.fault_lines-requires

@@ -1,7 +1,7 @@
 use Rattle.std.proofs.Common.{◌∷◌, [], ◌++◌, ℕ, suc, ◌+◌, ◌≡◌, ap, arith, take, ◌∙◌}
 use Rattle.std.proofs.lemmas.List.{take_all}
 use Rattle.gcu_engine.specs.ReadyScopes.{works_by}
-use Rattle.gcu_engine.proofs.ScopesReady.{found_at, found_long, ready_there, works_more}
+use Rattle.gcu_engine.proofs.ScopeReadiness.{found_at, found_long, ready_there, works_more}
 use Rattle.gcu_engine.proofs.change_scopes.ready_changes.Goals as goal
 
 pub at-plan-requires : goal.at-plan-requires

@@ -4,7 +4,7 @@ use Rattle.host_core.specs.State.{settled, with_pending}
 use Rattle.gcu_output.proofs.Elapsing.{elapses_both}
 use Rattle.gcu_requests.specs.Asked.{migrate_asked}
 use Rattle.gcu_engine.proofs.Causes.{disk_fell}
-use Rattle.gcu_engine.proofs.MigrationReady.{due_ready, gives_ready, left_ready, refused_since, unsettled_ready}
+use Rattle.gcu_engine.proofs.MigrationReadiness.{due_ready, gives_ready, left_ready, refused_since, unsettled_ready}
 use Rattle.gcu_engine.proofs.Readiness.{of_ok}
 use Rattle.gcu_engine.proofs.Writing.{asking_goes_on, asking_settles}
 use Rattle.gcu_engine.proofs.migrate_checkpoints.make_ready.Goals as goal

@@ -4,7 +4,7 @@ use Rattle.gcu_engine.proofs.Causes.{ended_cause}
 use Rattle.gcu_engine.proofs.Changes.{cause_from}
 use Rattle.gcu_engine.proofs.Completing.{completes}
 use Rattle.gcu_engine.proofs.Elapsing.{asking_prints}
-use Rattle.gcu_engine.proofs.MigrationReady.{early_leaves, migration_answers, migration_leaves}
+use Rattle.gcu_engine.proofs.MigrationReadiness.{early_leaves, migration_answers, migration_leaves}
 use Rattle.gcu_engine.proofs.Readiness.{settled_now}
 use Rattle.gcu_engine.proofs.Writing.{comes_first, outcome_cause, told_answers}
 use Rattle.gcu_engine.proofs.migrate_checkpoints.migrate_checkpoints.Goals as goal

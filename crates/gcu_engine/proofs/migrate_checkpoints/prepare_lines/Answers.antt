@@ -1,7 +1,7 @@
 use Rattle.std.proofs.lemmas.Result.{err_from_is_err_and}
 use Rattle.gcu_requests.specs.Asked.{old_asked}
 use Rattle.gcu_inputs.proofs.Finding.{memory_found}
-use Rattle.gcu_engine.proofs.MigrationReady.{found_ready, of_ready, refused_ready}
+use Rattle.gcu_engine.proofs.MigrationReadiness.{found_ready, of_ready, refused_ready}
 use Rattle.gcu_engine.proofs.migrate_checkpoints.prepare_lines.Goals as goal
 
 pub returns-in_err-migration-clause-answer : goal.returns-in_err-migration-clause-answer

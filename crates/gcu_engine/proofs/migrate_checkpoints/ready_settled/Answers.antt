@@ -4,7 +4,7 @@ use Rattle.gcu_output.proofs.Elapsing.{elapses_unchanged}
 use Rattle.gcu_inputs.specs.IntentAsked.{uninterrupted}
 use Rattle.gcu_requests.specs.Asked.{old_asked}
 use Rattle.gcu_requests.proofs.IntentFinding.{gate_closed, gate_open}
-use Rattle.gcu_engine.proofs.MigrationReady.{of_ready}
+use Rattle.gcu_engine.proofs.MigrationReadiness.{of_ready}
 use Rattle.gcu_engine.proofs.migrate_checkpoints.ready_settled.Goals as goal
 
 -- a change was stopped before its end

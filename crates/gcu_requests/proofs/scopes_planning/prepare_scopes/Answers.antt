@@ -2,9 +2,9 @@ use Rattle.std.proofs.Common.{map, refl, ap, ◌∙◌}
 use Rattle.std.proofs.lemmas.Result.{err_from_is_err_and}
 use Rattle.patch_core.specs.Operation.{operations}
 use Rattle.scopes.specs.declared.splitting.Scoped.{Scoped}
-use Rattle.gcu_requests.proofs.ScopesInOrder.{in_order}
+use Rattle.gcu_requests.proofs.ScopeOrder.{in_order}
 use Rattle.gcu_requests.proofs.ScopesPreparing.{no_parts, no_scopes, no_scopes_ctx, no_scopes_patch, scopes_closed, scopes_found}
-use Rattle.gcu_requests.proofs.ViewsEnded.{still_clean, still_elapsed, still_on}
+use Rattle.gcu_requests.proofs.ViewEnds.{still_clean, still_elapsed, still_on}
 use Rattle.gcu_requests.proofs.scopes_planning.prepare_scopes.Goals as goal
 
 -- nothing is pending, since nothing was at the beginning

@@ -7,9 +7,9 @@ use Rattle.gcu_requests.specs.ScopesPlannings.{AreReady, scope_planning}
 use Rattle.gcu_requests.specs.declared.scopes_planning.ScopeEnds.{ScopeEnds}
 use Rattle.scopes.specs.declared.splitting.Scoped.{Scoped}
 use Rattle.gcu_requests.proofs.EachFinding.{all_found, more_found, none_found, refused_among}
-use Rattle.gcu_requests.proofs.ScopesInOrder.{scopes_more}
+use Rattle.gcu_requests.proofs.ScopeOrder.{scopes_more}
 use Rattle.gcu_requests.proofs.ScopesFinding.{none_stands, ready_more, stands_more}
-use Rattle.gcu_requests.proofs.ViewsEnded.{still_clean, still_here, still_on}
+use Rattle.gcu_requests.proofs.ViewEnds.{still_clean, still_here, still_on}
 use Rattle.gcu_requests.proofs.scopes_planning.read_scopes.Goals as goal
 
 pub loop-part-init : goal.loop-part-init

@@ -1,5 +1,5 @@
 use Rattle.std.proofs.Common.{ap, sym, ◌∙◌}
-use Rattle.gcu_requests.proofs.ViewsEnded.{answer_viewed, stands_viewed, still_viewed}
+use Rattle.gcu_requests.proofs.ViewEnds.{answer_viewed, stands_viewed, still_viewed}
 use Rattle.gcu_requests.proofs.scopes_planning.view_ends.Goals as goal
 
 pub returns-clause-answer : goal.returns-clause-answer

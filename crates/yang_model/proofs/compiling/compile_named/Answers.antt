@@ -11,7 +11,7 @@ use Rattle.yang_model.specs.Shapes.{models_of}
 use Rattle.yang_model.specs.Sizes.{IsSmall, most_files, most_statements}
 use Rattle.yang_faults.proofs.FaultFiles.{each_least}
 use Rattle.yang_model.proofs.FaultFiles.{faults_below}
-use Rattle.yang_model.proofs.FaultLess.{no_faults}
+use Rattle.yang_model.proofs.FaultAbsence.{no_faults}
 use Rattle.yang_model.proofs.Sizes.{are_small}
 use Rattle.yang_model.proofs.compiling.compile_named.Goals as goal
 

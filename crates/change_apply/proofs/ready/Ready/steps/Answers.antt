@@ -1,6 +1,6 @@
 use Rattle.std.proofs.Common.{ap, arith, sym, ◌∙◌}
 use Rattle.change_apply.specs.Change.{steps}
-use Rattle.change_apply.proofs.Due.{count_is}
+use Rattle.change_apply.proofs.DueSteps.{count_is}
 use Rattle.change_apply.proofs.ready.Ready.steps.Goals as goal
 
 pub returns-clause-steps : goal.returns-clause-steps

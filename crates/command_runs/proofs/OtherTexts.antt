@@ -11,7 +11,7 @@ use Rattle.command_runs.specs.Works.{Told, told_lines}
 use Rattle.command_runs.proofs.Acknowledgements.{not_empty}
 use Rattle.command_runs.proofs.CompactTexts.{heads, tails}
 use Rattle.command_runs.proofs.GoodNames.{Lacks, characters, first_words, name_lacks}
-use Rattle.command_runs.proofs.OperatorsTold.{HasNoTold, commits_is, commits_plain, first_told, name_plain, said_is_line}
+use Rattle.command_runs.proofs.OperatorTexts.{HasNoTold, commits_is, commits_plain, first_told, name_plain, said_is_line}
 use Rattle.command_runs.proofs.PlanLines.{counted}
 use Rattle.command_runs.proofs.SessionLines.{IsLow, behind_space, decimal_is_low, low_more, no_low_reply}
 

@@ -18,7 +18,7 @@ use Rattle.command_runs.proofs.Acknowledgements as acked
 use Rattle.command_runs.proofs.CompactTexts.{compacts_split}
 use Rattle.command_runs.proofs.GoodNames.{Lacks, characters, name_is_one_line, name_lacks, no_space}
 use Rattle.command_runs.proofs.MoveOperations.{ReadsTokens, move_is_told}
-use Rattle.command_runs.proofs.PlansTold.{HasNone, quiet_has_none}
+use Rattle.command_runs.proofs.PlanHeads.{HasNone, quiet_has_none}
 use Rattle.command_runs.proofs.SessionLines.{behind_space, decimal_is_low, low_more, no_low_reply, no_plan_first, one_reply, same_letter}
 
 -- ---- a line

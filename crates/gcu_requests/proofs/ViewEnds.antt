@@ -11,7 +11,7 @@ use Rattle.gcu_inputs.specs.Asking.{Asking}
 use Rattle.gcu_inputs.specs.Preparing.{Finds}
 use Rattle.gcu_requests.specs.ScopesPlannings.{IsStill}
 use Rattle.gcu_requests.specs.declared.scopes_planning.Ends.{Ends}
-use Rattle.gcu_requests.proofs.Behind.{stays_behind, told_behind}
+use Rattle.gcu_requests.proofs.UnchangedViews.{stays_behind, told_behind}
 use Rattle.gcu_requests.proofs.ScopesFinding.{found_behind}
 
 -- what was found of the view is found of what the scope shows
