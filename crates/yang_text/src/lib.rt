@@ -10,6 +10,6 @@ mod reading;
 mod statements;
 
 pub use errors::{ModelWhy, TextError};
-pub use laws::{faultless_is_spelled, one_spelling};
+pub use laws::{faultless_is_spelled, one_spelling, read_is_spelled};
 pub use reading::parse;
 pub use statements::{Statement, Statements};
