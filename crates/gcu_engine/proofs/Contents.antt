@@ -27,6 +27,7 @@ use Rattle.patch_core.specs.declared.errors.PatchError.{PatchError}
 use Rattle.model_list.specs.Lists.{paths_of}
 use Rattle.yang_text.specs.Reading.{reading}
 use Rattle.yang_text.specs.declared.faults.Fault.{Fault}
+use Rattle.yang_text.proofs.Theorems.{read_spells}
 use Rattle.yang_model.specs.ModelSets.{ModelSet}
 use Rattle.checkpoints.specs.Points.{Held, points}
 use Rattle.move_core.specs.RulesFile.{rules}
@@ -105,7 +106,7 @@ texts_are before (file ∷ files) texts e =
 
 hold_files : (s : State) (paths : List (List ℕ)) (files : List File) (texts : List Text) → AreFilesAt s paths files → AreReadAs files texts → HoldFiles s paths (statements_of texts)
 hold_files s [] [] [] at are = tt
-hold_files s (path ∷ paths) (file ∷ files) (text ∷ texts) (here, at) (is, are) = ((file.1, here, is), hold_files s paths files texts at are)
+hold_files s (path ∷ paths) (file ∷ files) (text ∷ texts) (here, at) (is, are) = ((file.1, here, read_spells file.1 text.1 is), hold_files s paths files texts at are)
 hold_files s [] (file ∷ files) texts at are = absurd at
 hold_files s (path ∷ paths) [] texts at are = absurd at
 hold_files s [] [] (text ∷ texts) at are = absurd are

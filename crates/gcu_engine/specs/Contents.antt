@@ -14,7 +14,7 @@ use Rattle.patch_core.specs.Operation.{Operation}
 use Rattle.patch_core.specs.Reading.{patch}
 use Rattle.model_list.specs.Lists.{paths_of}
 use Rattle.yang_text.specs.Declarations.{Declaration}
-use Rattle.yang_text.specs.Reading.{reading}
+use Rattle.yang_text.specs.Grammar.{Spells}
 use Rattle.yang_scope.specs.Modules.{modules_of}
 use Rattle.yang_model.specs.ModelSets.{ModelSet}
 use Rattle.yang_model.specs.Readers.{Readers, AreTrue}
@@ -30,10 +30,14 @@ Holds s path read x = (bytes : List ℕ) × (get s.inputs path ≡ Some bytes) �
 
 -- ---- models and settings
 
+-- the input at a path has bytes that spell the statements of a file
+abbrev pub HoldsStatements : State → List ℕ → List Declaration → Type 0
+HoldsStatements s path ds = (bytes : List ℕ) × (get s.inputs path ≡ Some bytes) × Spells bytes ds
+
 -- the inputs at some paths hold the statements of some files, in order
 abbrev pub HoldFiles : State → List (List ℕ) → List (List Declaration) → Type 0
 HoldFiles s [] [] = ⊤
-HoldFiles s (path ∷ paths) (file ∷ files) = Holds s path reading file × HoldFiles s paths files
+HoldFiles s (path ∷ paths) (file ∷ files) = HoldsStatements s path file × HoldFiles s paths files
 HoldFiles s paths files = ⊥
 
 -- the models are those of the files that the list of models names
