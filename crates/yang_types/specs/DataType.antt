@@ -1,5 +1,6 @@
 -- The types of YANG (RFC 7950, section 9), without the memory that a `Ty` has.
 use Rattle.std.specs.Prelude.{ℕ, suc, ◌+◌, List, [], ◌∷◌}
+use Rattle.std.specs.List.{flat_map}
 use Rattle.yang_types.specs.declared.types.Bounds.{Bounds}
 use Rattle.yang_types.specs.declared.types.Builtin.{Builtin}
 use Rattle.yang_types.specs.declared.types.Target.{Target}
@@ -38,6 +39,22 @@ types_of (t ∷ ts) = type_and t (types_of ts)
 abbrev pub members : DataType → List DataType
 members (union ts) = plain_types ts
 members t = t ∷ []
+
+-- of a leafref the type that stands in it
+abbrev pub inner : DataType → DataType
+inner (leafref target t) = t
+inner t = t
+
+-- what a type is as a member of a union that stands in a leafref
+abbrev pub plain_members : DataType → List DataType
+plain_members t = members (inner t)
+
+-- what a type accepts by itself: of a leafref the type that stands in it, and of a union the members
+-- that its members so are, in their order. Where no leafref stands within what stands in a leafref,
+-- none stands in it, and no union right within another
+abbrev pub plain : DataType → DataType
+plain (union ts) = union (types_of (flat_map plain_members (plain_types ts)))
+plain t = inner t
 
 abbrev mutual
   -- how many types a type has in it, itself included

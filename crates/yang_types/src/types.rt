@@ -1,7 +1,7 @@
 //! The types of leaves.
 
 ghost use Rattle.std.specs.Prelude.{◌≡◌, ◌<◌, [], ◌∷◌, ◌++◌, length, map, slice_get, Some, IfErr, IfOk, OnOk, OnErr};
-ghost use Rattle.yang_types.specs.DataType.{members, types_of, union};
+ghost use Rattle.yang_types.specs.DataType.{inner, members, types_of, union};
 ghost use Rattle.yang_types.specs.DataTypes.{data_type};
 
 use host_core::{Memory, Names, Sequence, Txt};
@@ -122,6 +122,19 @@ impl Ty {
         match self {
             Ty::Union(types) => Ok(types),
             _ => Err(self),
+        }
+    }
+
+    /// The type that stands in a leafref, whose target is dropped. A type that is none is given back.
+    pub fn into_inner(self) -> Ty
+        ensures { data_type result ≡ inner (data_type self) }
+    {
+        match self {
+            Ty::Ref(target, inner) => {
+                drop(target);
+                inner.into_ty()
+            }
+            _ => self,
         }
     }
 }
