@@ -1,9 +1,10 @@
--- A union of the members of unions is as good as a union of the unions.
-use Rattle.std.proofs.Common.{◌≡◌, inl, inr, ◌↔◌, ◌||◌, ℕ, Bool, true, false, List, [], ◌∷◌, ◌++◌, refl, sym, ap, ◌∙◌, subst}
+-- A union of the members of unions is as good as a union of the unions, and what a type accepts by itself
+-- accepts what the type does.
+use Rattle.std.proofs.Common.{◌≡◌, ◌≢◌, inl, inr, ◌↔◌, ◌+◌, ◌||◌, ℕ, suc, Bool, true, false, List, [], ◌∷◌, ◌++◌, refl, sym, ap, ◌∙◌, subst, arith}
 use Rattle.std.specs.Prelude.{◌⊎◌}
 use Rattle.std.specs.List.{flat_map}
 use Rattle.yang_types.specs.Accepts.{Accepts, AcceptsAny}
-use Rattle.yang_types.specs.DataType.{DataType, text, number, length_within, value_within, matching, one_of, truth, builtin, leafref, union, DataTypes, no_types, type_and, members, plain_types, types_of}
+use Rattle.yang_types.specs.DataType.{DataType, text, number, length_within, value_within, matching, one_of, truth, builtin, leafref, union, DataTypes, no_types, type_and, members, inner, plain_members, plain, plain_types, types_of, types_weight}
 use Rattle.yang_values.specs.Defaults.{has_leafref, have_leafref}
 
 same_types : (ts : DataTypes) → types_of (plain_types ts) ≡ ts
@@ -13,6 +14,24 @@ same_types (type_and t ts) = ap (type_and t) (same_types ts)
 pub plain_back : (ts : List DataType) → plain_types (types_of ts) ≡ ts
 plain_back [] = refl
 plain_back (t ∷ ts) = ap (λ us. t ∷ us) (plain_back ts)
+
+-- no union is its own only member
+never_itself : (ts : DataTypes) → plain_types ts ≢ union ts ∷ []
+never_itself ts e =
+    let same : types_weight ts ≡ suc (types_weight ts) + 0 = ap types_weight (sym (same_types ts) ∙ ap types_of e) in
+    absurd (omega arith)
+
+pub plain_alone : (t : DataType) → members t ≡ t ∷ [] → plain t ≡ inner t
+plain_alone (union ts) e = absurd (never_itself ts e)
+plain_alone text e = refl
+plain_alone (number b) e = refl
+plain_alone (length_within t bs) e = refl
+plain_alone (value_within t bs) e = refl
+plain_alone (matching t p) e = refl
+plain_alone (one_of names) e = refl
+plain_alone truth e = refl
+plain_alone (builtin b) e = refl
+plain_alone (leafref target t) e = refl
 
 or_none : (b : Bool) → (b || false) ≡ b
 or_none true = refl
@@ -78,15 +97,51 @@ module _ (s : List ℕ) where
   accept_joined (t ∷ ts) us (inl a) = inl (inl a)
   accept_joined (t ∷ ts) us (inr a) = elim (accept_joined ts us a) [ inl b ↦ inl (inr b) | inr b ↦ inr b ]
 
-  flat_to : (ts : List DataType) → AcceptsAny (types_of (flat_map members ts)) s → AcceptsAny (types_of ts) s
-  flat_to [] a = a
-  flat_to (t ∷ ts) a =
-      elim (accept_joined (members t) (flat_map members ts) a) [ inl b ↦ inl ((member_accepts t).0 b) | inr b ↦ inr (flat_to ts b) ]
+  -- types written out one by one
+  module _ (write : DataType → List DataType) (each : (t : DataType) → AcceptsAny (types_of (write t)) s ↔ Accepts t s) where
+    flat_to : (ts : List DataType) → AcceptsAny (types_of (flat_map write ts)) s → AcceptsAny (types_of ts) s
+    flat_to [] a = a
+    flat_to (t ∷ ts) a =
+        elim (accept_joined (write t) (flat_map write ts) a) [ inl b ↦ inl ((each t).0 b) | inr b ↦ inr (flat_to ts b) ]
 
-  flat_from : (ts : List DataType) → AcceptsAny (types_of ts) s → AcceptsAny (types_of (flat_map members ts)) s
-  flat_from [] a = a
-  flat_from (t ∷ ts) (inl a) = joined_accept (members t) (flat_map members ts) (inl ((member_accepts t).1 a))
-  flat_from (t ∷ ts) (inr a) = joined_accept (members t) (flat_map members ts) (inr (flat_from ts a))
+    flat_from : (ts : List DataType) → AcceptsAny (types_of ts) s → AcceptsAny (types_of (flat_map write ts)) s
+    flat_from [] a = a
+    flat_from (t ∷ ts) (inl a) = joined_accept (write t) (flat_map write ts) (inl ((each t).1 a))
+    flat_from (t ∷ ts) (inr a) = joined_accept (write t) (flat_map write ts) (inr (flat_from ts a))
 
   pub flat_accepts : (ts : List DataType) → AcceptsAny (types_of (flat_map members ts)) s ↔ AcceptsAny (types_of ts) s
-  flat_accepts ts = (flat_to ts, flat_from ts)
+  flat_accepts ts = (flat_to members member_accepts ts, flat_from members member_accepts ts)
+
+  inner_accepts : (t : DataType) → Accepts (inner t) s ↔ Accepts t s
+  inner_accepts text = (λ h. h, λ h. h)
+  inner_accepts (number b) = (λ h. h, λ h. h)
+  inner_accepts (length_within t bs) = (λ h. h, λ h. h)
+  inner_accepts (value_within t bs) = (λ h. h, λ h. h)
+  inner_accepts (matching t p) = (λ h. h, λ h. h)
+  inner_accepts (one_of names) = (λ h. h, λ h. h)
+  inner_accepts truth = (λ h. h, λ h. h)
+  inner_accepts (builtin b) = (λ h. h, λ h. h)
+  inner_accepts (leafref target t) = (λ h. h, λ h. h)
+  inner_accepts (union ts) = (λ h. h, λ h. h)
+
+  plain_member_accepts : (t : DataType) → AcceptsAny (types_of (plain_members t)) s ↔ Accepts t s
+  plain_member_accepts t = (
+    λ h. (inner_accepts t).0 ((member_accepts (inner t)).0 h),
+    λ h. (member_accepts (inner t)).1 ((inner_accepts t).1 h),
+  )
+
+  pub plain_accepts : (t : DataType) → Accepts (plain t) s ↔ Accepts t s
+  plain_accepts (union ts) =
+      let same = same_types ts in (
+        λ h. subst (λ us. AcceptsAny us s) same (flat_to plain_members plain_member_accepts (plain_types ts) h),
+        λ h. flat_from plain_members plain_member_accepts (plain_types ts) (subst (λ us. AcceptsAny us s) (sym same) h),
+      )
+  plain_accepts text = inner_accepts text
+  plain_accepts (number b) = inner_accepts (number b)
+  plain_accepts (length_within t bs) = inner_accepts (length_within t bs)
+  plain_accepts (value_within t bs) = inner_accepts (value_within t bs)
+  plain_accepts (matching t p) = inner_accepts (matching t p)
+  plain_accepts (one_of names) = inner_accepts (one_of names)
+  plain_accepts truth = inner_accepts truth
+  plain_accepts (builtin b) = inner_accepts (builtin b)
+  plain_accepts (leafref target t) = inner_accepts (leafref target t)

@@ -6,7 +6,7 @@ use Rattle.std.specs.Option.{option_map_or}
 use Rattle.std.proofs.lemmas.List.{map-append}
 use Rattle.yang_text.specs.Declarations.{Declaration, argument, block}
 use Rattle.yang_types.specs.Accepts.{Accepts, AcceptsAny}
-use Rattle.yang_types.specs.DataType.{DataType, text, number, length_within, value_within, matching, truth, builtin, union, members, types_of}
+use Rattle.yang_types.specs.DataType.{DataType, text, number, length_within, value_within, matching, truth, builtin, union, members, plain, types_of}
 use Rattle.yang_types.specs.declared.types.Bounds.{Bounds}
 use Rattle.yang_types.specs.declared.types.Target.{Target}
 use Rattle.yang_scope.specs.Meanings.{type_meaning, base_of}
@@ -24,7 +24,7 @@ use Rattle.yang_values.specs.TypeValues.{path_of, only_type, leafref_of, named_t
 use Rattle.yang_values.specs.Values.{parts_in, restricted_values}
 use Rattle.yang_values.specs.Walks.{AreReached}
 use Rattle.yang_values.specs.declared.endless.Taste.{Taste}
-use Rattle.yang_values.proofs.FlatUnions.{flat_leafref, flat_accepts}
+use Rattle.yang_values.proofs.FlatUnions.{flat_leafref, flat_accepts, plain_accepts}
 use Rattle.yang_values.proofs.ReachableTypes.{no_element, mapped_more}
 
 -- two types are leafrefs or hold them alike, and accept a text alike
@@ -67,9 +67,15 @@ module _ (s : List ℕ) where
         );
       }
 
+  plain_alike : (t u : DataType) → Alike s t u → Accepts (plain t) s ↔ Accepts (plain u) s
+  plain_alike t u a = (
+    λ h. (plain_accepts s u).1 (a.accepts.0 ((plain_accepts s t).0 h)),
+    λ h. (plain_accepts s t).1 (a.accepts.1 ((plain_accepts s u).0 h)),
+  )
+
   leafref_alike : (o : Option Target) (ts us : List DataType) → AllZip (Alike s) ts us → Alike s (leafref_of o ts) (leafref_of o us)
-  leafref_alike None ts us z = record { holds = refl; accepts = (only_alike ts us z).accepts }
-  leafref_alike (Some target) ts us z = record { holds = refl; accepts = (only_alike ts us z).accepts }
+  leafref_alike None ts us z = record { holds = refl; accepts = plain_alike (only_type ts) (only_type us) (only_alike ts us z) }
+  leafref_alike (Some target) ts us z = record { holds = refl; accepts = plain_alike (only_type ts) (only_type us) (only_alike ts us z) }
 
   named_alike : (modules : List Module) (d : Declaration) (ts us : List DataType) (meaning : Meaning) → AllZip (Alike s) ts us
       → Alike s (named_type modules d ts meaning) (named_type modules d us meaning)

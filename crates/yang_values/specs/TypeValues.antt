@@ -5,7 +5,7 @@ use Rattle.std.specs.Prelude.{ℕ, zero, suc, ◌&&◌, ◌||◌, Bool, true, fa
 use Rattle.std.specs.List.{fold, flat_map}
 use Rattle.std.specs.Option.{option_map_or, option_to_list}
 use Rattle.yang_text.specs.Declarations.{Declaration, argument, block}
-use Rattle.yang_types.specs.DataType.{DataType, text, number, length_within, value_within, matching, one_of, truth, builtin, leafref, union, members, types_of}
+use Rattle.yang_types.specs.DataType.{DataType, text, number, length_within, value_within, matching, one_of, truth, builtin, leafref, union, members, plain, types_of}
 use Rattle.yang_types.specs.declared.types.Bounds.{Bounds}
 use Rattle.yang_types.specs.declared.types.Target.{Target}
 use Rattle.yang_scope.specs.Meanings.{type_meaning, base_of}
@@ -60,10 +60,10 @@ only_type (t ∷ ts) = t
 abbrev pub nowhere : Target
 nowhere = record { table = []; shape = 0; part = 0 }
 
--- a leafref is one whatever its path says
+-- a leafref is one whatever its path says; in it stands what the leaf's type accepts by itself
 abbrev pub leafref_of : Option Target → List DataType → DataType
-leafref_of None ts = leafref nowhere (only_type ts)
-leafref_of (Some target) ts = leafref target (only_type ts)
+leafref_of None ts = leafref nowhere (plain (only_type ts))
+leafref_of (Some target) ts = leafref target (plain (only_type ts))
 
 -- what a name stands for, by the types that it leads to; no union stands right within another
 abbrev pub named_type : List Module → Declaration → List DataType → Meaning → DataType

@@ -3,7 +3,7 @@ ghost use Rattle.std.specs.Prelude.{◌≡◌, ◌++◌, map, option_and_then, I
 ghost use Rattle.std.specs.List.{flat_map};
 ghost use Rattle.yang_text.specs.Declarations.{block};
 ghost use Rattle.yang_text.specs.Statements.{declaration};
-ghost use Rattle.yang_types.specs.DataType.{members};
+ghost use Rattle.yang_types.specs.DataType.{members, plain, plain_members};
 ghost use Rattle.yang_types.specs.DataTypes.{data_type};
 ghost use Rattle.yang_values.specs.Targets.{target_of};
 ghost use Rattle.yang_values.specs.TypeValues.{path_of, enum_name, only_type, nowhere, leafref_of, named_type};
@@ -85,6 +85,38 @@ fn members_of(alloc: Global, types: Vec<Ty>) -> Result<Types, Memory>
     Ok(all)
 }
 
+/// Adds what a type is as a member of a union that stands in a leafref.
+fn push_plain(all: &mut Types, ty: Ty) -> Result<(), Memory>
+    ensures { IfOk result (λ _. all.new ≡ all.old ++ plain_members (data_type ty)) }
+{
+    push_members(all, ty.into_inner())
+}
+
+/// The members of a union that stands in a leafref.
+fn plain_members_of(alloc: Global, types: Vec<Ty>) -> Result<Types, Memory>
+    ensures { IfOk result (λ all. all ≡ flat_map plain_members (map data_type types.items)) }
+{
+    let mut all = Types::new(alloc);
+    for ty in types {
+        push_plain(&mut all, ty)?;
+    }
+    Ok(all)
+}
+
+/// What a type accepts by itself, so that no leafref stands in a leafref, and no type within types is as
+/// deep as leafrefs stand in a row.
+fn plain_of(alloc: Global, ty: Ty) -> Result<Ty, Memory>
+    ensures { IfOk result (λ by_itself. data_type by_itself ≡ plain (data_type ty)) }
+{
+    match ty.into_union() {
+        Ok(types) => {
+            let flat = plain_members_of(alloc, types.into_items())?;
+            Ok(Ty::Union(flat))
+        }
+        Err(ty) => Ok(ty.into_inner()),
+    }
+}
+
 /// The target of a leafref whose path leads to nothing.
 fn nowhere(alloc: Global) -> Result<Target, Memory>
     ensures { IfOk result (λ target. target ≡ nowhere) }
@@ -104,7 +136,8 @@ fn leafref_of(alloc: Global, target: Option<Target>, types: Vec<Ty>) -> Result<T
         Some(target) => target,
         None => nowhere(alloc)?,
     };
-    let inner = TyBox::new(alloc, only_type(types))?;
+    let by_itself = plain_of(alloc, only_type(types))?;
+    let inner = TyBox::new(alloc, by_itself)?;
     Ok(Ty::Ref(target, inner))
 }
 
