@@ -1,5 +1,5 @@
 -- A form as the code keeps it.
-use Rattle.std.specs.Prelude.{Option, Some, None}
+use Rattle.std.specs.Prelude.{◌≡◌, true, false, ⊤, Option, Some, None}
 use Rattle.plan_options.specs.Views.{target_view}
 use Rattle.gcu_inputs.specs.Form as words
 use Rattle.gcu_inputs.specs.Tasks as asked
@@ -28,3 +28,9 @@ form_view Status = Some words.status
 form_view Abandon = Some words.abandon
 form_view (Demo size) = Some (words.demo size.seed size.ports)
 form_view (CheckPlan patch plan) = Some (words.check_plan patch.now plan.now)
+
+-- what is only printed has the option for that, and what is done hasn't
+abbrev pub HasItsOptions : Form → Type 0
+HasItsOptions (Plan task options) = options.dry_run ≡ true
+HasItsOptions (Change task options) = options.dry_run ≡ false
+HasItsOptions other = ⊤

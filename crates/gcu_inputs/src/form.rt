@@ -3,7 +3,7 @@ ghost use Rattle.std.specs.Prelude.{◌≡◌, ◌∷◌, [], Some};
 ghost use Rattle.plan_options.specs.Targets.{resumed as resume_target};
 ghost use Rattle.plan_options.specs.Views.{options_view};
 ghost use Rattle.gcu_inputs.specs.Form.{change as change_of, form, form_of_check, form_of_demo, form_of_interruption, form_of_more, form_of_one, form_of_plan, form_of_resume, form_of_two, planned};
-ghost use Rattle.gcu_inputs.specs.FormView.{form_view, task_view};
+ghost use Rattle.gcu_inputs.specs.FormView.{form_view, task_view, HasItsOptions};
 ghost use Rattle.gcu_inputs.specs.Tasks.{reach};
 
 use crate::tasks::{Task, read_task};
@@ -46,7 +46,8 @@ pub enum Form<'a> {
 
 /// The command that the words are.
 pub fn read_form(words: &[Txt]) -> Form<'_>
-    ensures { form_view result ≡ form words.now }
+    ensures form { form_view result ≡ form words.now }
+    ensures options { HasItsOptions result }
 {
     match words {
         [command] => form_of_one(command),
@@ -58,7 +59,8 @@ pub fn read_form(words: &[Txt]) -> Form<'_>
 
 /// The command that a word is.
 pub(crate) fn form_of_one(command: &Txt) -> Form<'_>
-    ensures { form_view result ≡ form_of_one command.now }
+    ensures form { form_view result ≡ form_of_one command.now }
+    ensures options { HasItsOptions result }
 {
     if command.as_str() == "check" {
         return Form::Check;
@@ -74,7 +76,8 @@ pub(crate) fn form_of_one(command: &Txt) -> Form<'_>
 
 /// The command that a word is which has to do with a change that was stopped.
 fn form_of_interruption(command: &Txt) -> Form<'_>
-    ensures { form_view result ≡ form_of_interruption command.now }
+    ensures form { form_view result ≡ form_of_interruption command.now }
+    ensures options { HasItsOptions result }
 {
     if command.as_str() == "status" {
         return Form::Status;
@@ -92,13 +95,18 @@ fn form_of_interruption(command: &Txt) -> Form<'_>
     Form::Unknown
 }
 
-/// A change that was stopped is to be finished.
+/// A change that was stopped is to be finished, and not only printed.
 pub(crate) fn resumed(command: &Txt, options: Options) -> Form<'_>
-    ensures { form_view result ≡ Some (change_of (reach resume_target) options.budget) }
+    ensures form { form_view result ≡ Some (change_of (reach resume_target) options.budget) }
+    ensures options { HasItsOptions result }
 {
     let target = Target {
         source: Source::Intent,
         word: command,
+    };
+    let options = Options {
+        dry_run: false,
+        budget: options.budget,
     };
     let task = Task::Reach { target };
     Form::Change { task, options }
@@ -106,7 +114,8 @@ pub(crate) fn resumed(command: &Txt, options: Options) -> Form<'_>
 
 /// The same with the options that words are.
 fn form_of_resume<'a>(command: &'a Txt, word: &Txt, words: &[Txt]) -> Form<'a>
-    ensures { form_view result ≡ form_of_resume (word.now ∷ words.now) }
+    ensures form { form_view result ≡ form_of_resume (word.now ∷ words.now) }
+    ensures options { HasItsOptions result }
 {
     match words {
         [digits] => match read_budget_option(word, digits) {
@@ -119,7 +128,8 @@ fn form_of_resume<'a>(command: &'a Txt, word: &Txt, words: &[Txt]) -> Form<'a>
 
 /// The command that two words are.
 fn form_of_two<'a>(command: &'a Txt, word: &'a Txt) -> Form<'a>
-    ensures { form_view result ≡ form_of_two command.now word.now }
+    ensures form { form_view result ≡ form_of_two command.now word.now }
+    ensures options { HasItsOptions result }
 {
     let name = command.as_str();
     if name == "preview" && is_positional(word) {
@@ -136,7 +146,8 @@ fn form_of_two<'a>(command: &'a Txt, word: &'a Txt) -> Form<'a>
 
 /// The command that a word, a second one and more are.
 fn form_of_more<'a>(command: &'a Txt, word: &'a Txt, words: &'a [Txt]) -> Form<'a>
-    ensures { form_view result ≡ form_of_more command.now word.now words.now }
+    ensures form { form_view result ≡ form_of_more command.now word.now words.now }
+    ensures options { HasItsOptions result }
 {
     if command.as_str() == "demo" {
         return form_of_demo(word, words);
@@ -152,7 +163,8 @@ fn form_of_more<'a>(command: &'a Txt, word: &'a Txt, words: &'a [Txt]) -> Form<'
 
 /// The demonstration that a seed and a number of ports are.
 fn form_of_demo<'a>(seed: &Txt, words: &[Txt]) -> Form<'a>
-    ensures { form_view result ≡ form_of_demo seed.now words.now }
+    ensures form { form_view result ≡ form_of_demo seed.now words.now }
+    ensures options { HasItsOptions result }
 {
     match words {
         [ports] => match read_demo(seed, ports) {
@@ -165,7 +177,8 @@ fn form_of_demo<'a>(seed: &Txt, words: &[Txt]) -> Form<'a>
 
 /// The check of a plan that the path of a patch and that of the plan are.
 fn form_of_check<'a>(patch: &'a Txt, words: &'a [Txt]) -> Form<'a>
-    ensures { form_view result ≡ form_of_check patch.now words.now }
+    ensures form { form_view result ≡ form_of_check patch.now words.now }
+    ensures options { HasItsOptions result }
 {
     match words {
         [plan] => check_of_two(patch, plan),
@@ -175,7 +188,8 @@ fn form_of_check<'a>(patch: &'a Txt, words: &'a [Txt]) -> Form<'a>
 
 /// The check of a plan, where both words are paths.
 fn check_of_two<'a>(patch: &'a Txt, plan: &'a Txt) -> Form<'a>
-    ensures { form_view result ≡ form_of_check patch.now (plan.now ∷ []) }
+    ensures form { form_view result ≡ form_of_check patch.now (plan.now ∷ []) }
+    ensures options { HasItsOptions result }
 {
     if is_positional(patch) && is_positional(plan) {
         return Form::CheckPlan { patch, plan };
@@ -185,7 +199,8 @@ fn check_of_two<'a>(patch: &'a Txt, plan: &'a Txt) -> Form<'a>
 
 /// The command that a word, a second one and options are.
 fn form_of_plan<'a>(command: &Txt, word: &'a Txt, words: &[Txt]) -> Form<'a>
-    ensures { form_view result ≡ form_of_plan command.now word.now words.now }
+    ensures form { form_view result ≡ form_of_plan command.now word.now words.now }
+    ensures options { HasItsOptions result }
 {
     match (read_task(command, word), read_options(words)) {
         (Some(task), Some(options)) => planned(task, options),
@@ -195,7 +210,8 @@ fn form_of_plan<'a>(command: &Txt, word: &'a Txt, words: &[Txt]) -> Form<'a>
 
 /// What a task would do is only printed, or it is done.
 fn planned(task: Task<'_>, options: Options) -> Form<'_>
-    ensures { form_view result ≡ Some (planned (task_view task.entry) (options_view options)) }
+    ensures form { form_view result ≡ Some (planned (task_view task.entry) (options_view options)) }
+    ensures options { HasItsOptions result }
 {
     if options.dry_run {
         return Form::Plan { task, options };

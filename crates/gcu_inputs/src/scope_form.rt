@@ -1,10 +1,10 @@
 //! Which words are a command over the files of one ASIC.
-ghost use Rattle.std.specs.Prelude.{◌≡◌, ◌≢◌, ◌<◌, ◌∷◌, [], ℕ, List, Some, None, IsSome, MatchOption};
+ghost use Rattle.std.specs.Prelude.{◌≡◌, ◌≢◌, ◌<◌, ◌∷◌, [], ℕ, List, Some, None, IfSome, IsSome, MatchOption};
 ghost use Rattle.plan_options.specs.Words.{is_word};
 ghost use Rattle.scopes.specs.Scopes.{most_asics, scope_name};
 ghost use Rattle.scopes.specs.declared.scope.Scope.TheVariants.{Asic as asic};
 ghost use Rattle.gcu_inputs.specs.Form.{form};
-ghost use Rattle.gcu_inputs.specs.FormView.{form_view};
+ghost use Rattle.gcu_inputs.specs.FormView.{form_view, HasItsOptions};
 ghost use Rattle.gcu_inputs.specs.ScopeForm.{HasNoScope, IsReadScoped, cut_options as options_cut, cut_scope as scope_cut, resume_word, scope_word, takes_scope as may_take};
 
 use crate::form::{Form, form_of_one, resumed};
@@ -34,7 +34,8 @@ struct Cut<'a> {
 
 /// The command over the files of one ASIC that the words are, where they are one.
 pub fn read_scope_form(words: &[Txt]) -> Option<ScopeForm<'_>>
-    ensures { MatchOption result (HasNoScope words.now) (IsReadScoped words.now) }
+    ensures form { MatchOption result (HasNoScope words.now) (IsReadScoped words.now) }
+    ensures options { IfSome result (λ read. HasItsOptions read.form) }
 {
     let cut = cut_scope(words)?;
     let scope = asic_named(cut.name)?;
@@ -44,9 +45,10 @@ pub fn read_scope_form(words: &[Txt]) -> Option<ScopeForm<'_>>
 
 /// The name that the option has, and the command without it.
 fn cut_scope(words: &[Txt]) -> Option<Cut<'_>>
-    ensures { MatchOption result (scope_cut words.now ≡ None)
+    ensures cut { MatchOption result (scope_cut words.now ≡ None)
         (λ cut. (plain : List (List ℕ)) × (scope_cut words.now ≡ Some (cut.name.now, plain))
         × (form plain ≡ form_view cut.form)) }
+    ensures options { IfSome result (λ cut. HasItsOptions cut.form) }
 {
     match words {
         [command, option, name] => cut_interruption(command, option, name),
@@ -57,10 +59,11 @@ fn cut_scope(words: &[Txt]) -> Option<Cut<'_>>
 
 /// The same of a command with no other option.
 fn cut_interruption<'a>(command: &'a Txt, option: &Txt, name: &'a Txt) -> Option<Cut<'a>>
-    ensures { MatchOption result (scope_cut (command.now ∷ option.now ∷ name.now ∷ []) ≡ None)
+    ensures cut { MatchOption result (scope_cut (command.now ∷ option.now ∷ name.now ∷ []) ≡ None)
         (λ cut. (plain : List (List ℕ))
         × (scope_cut (command.now ∷ option.now ∷ name.now ∷ []) ≡ Some (cut.name.now, plain))
         × (form plain ≡ form_view cut.form)) }
+    ensures options { IfSome result (λ cut. HasItsOptions cut.form) }
 {
     if takes_scope(command) && is_scope(option) {
         let form = form_of_one(command);
@@ -77,12 +80,13 @@ fn cut_resume<'a>(
     c: &'a Txt,
     d: &'a Txt,
 ) -> Option<Cut<'a>>
-    ensures { MatchOption result
+    ensures cut { MatchOption result
         (scope_cut (command.now ∷ a.now ∷ b.now ∷ c.now ∷ d.now ∷ []) ≡ None)
         (λ cut. (plain : List (List ℕ))
         × (scope_cut (command.now ∷ a.now ∷ b.now ∷ c.now ∷ d.now ∷ [])
         ≡ Some (cut.name.now, plain))
         × (form plain ≡ form_view cut.form)) }
+    ensures options { IfSome result (λ cut. HasItsOptions cut.form) }
 {
     if command.as_str() == "resume" {
         return cut_options(command, a, b, c, d);
@@ -98,10 +102,11 @@ fn cut_options<'a>(
     c: &'a Txt,
     d: &'a Txt,
 ) -> Option<Cut<'a>>
-    ensures { MatchOption result (options_cut a.now b.now c.now d.now ≡ None)
+    ensures cut { MatchOption result (options_cut a.now b.now c.now d.now ≡ None)
         (λ cut. (plain : List (List ℕ))
         × (options_cut a.now b.now c.now d.now ≡ Some (cut.name.now, plain))
         × (form plain ≡ form_view cut.form)) }
+    ensures options { IfSome result (λ cut. HasItsOptions cut.form) }
 {
     if is_scope(a) {
         let form = resumed_by(command, c, d);
@@ -116,7 +121,8 @@ fn cut_options<'a>(
 
 /// A change that is resumed, by the budget that words are.
 fn resumed_by<'a>(command: &'a Txt, word: &Txt, digits: &Txt) -> Form<'a>
-    ensures { form_view result ≡ form (resume_word ∷ word.now ∷ digits.now ∷ []) }
+    ensures form { form_view result ≡ form (resume_word ∷ word.now ∷ digits.now ∷ []) }
+    ensures options { HasItsOptions result }
 {
     match read_budget_option(word, digits) {
         Some(options) => resumed(command, options),
@@ -153,7 +159,7 @@ fn asic_named(name: &Txt) -> Option<Scope>
 /// The command, where it is one.
 fn some_command(command: Form<'_>) -> Option<Form<'_>>
     ensures { MatchOption result (form_view command.entry ≡ None)
-        (λ f. (form_view f ≡ form_view command.entry) × IsSome (form_view command.entry)) }
+        (λ f. (f ≡ command.entry) × IsSome (form_view command.entry)) }
 {
     match command {
         Form::Unknown => None,

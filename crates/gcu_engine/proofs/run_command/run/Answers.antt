@@ -7,33 +7,33 @@ use Rattle.gcu_engine.proofs.run_command.run.Goals as goal
 -- ---- words that name a scope
 
 pub returns-in-Some-clause-answers : goal.returns-in-Some-clause-answers
-returns-in-Some-clause-answers g c none = absurd (none.0 _ c.in-Some.ensures.0 c.in-Some.ensures.1)
+returns-in-Some-clause-answers g c none = absurd (none.0 _ c.in-Some.ensures.form.0 c.in-Some.ensures.form.1)
 
 pub returns-in-Some-clause-crash : goal.returns-in-Some-clause-crash
-returns-in-Some-clause-crash g c none = absurd (none.0 _ c.in-Some.ensures.0 c.in-Some.ensures.1)
+returns-in-Some-clause-crash g c none = absurd (none.0 _ c.in-Some.ensures.form.0 c.in-Some.ensures.form.1)
 
 pub returns-in-Some-clause-headline : goal.returns-in-Some-clause-headline
-returns-in-Some-clause-headline g c none = absurd (none.0 _ c.in-Some.ensures.0 c.in-Some.ensures.1)
+returns-in-Some-clause-headline g c none = absurd (none.0 _ c.in-Some.ensures.form.0 c.in-Some.ensures.form.1)
 
 pub returns-in-Some-clause-intent : goal.returns-in-Some-clause-intent
-returns-in-Some-clause-intent g c none = absurd (none.0 _ c.in-Some.ensures.0 c.in-Some.ensures.1)
+returns-in-Some-clause-intent g c none = absurd (none.0 _ c.in-Some.ensures.form.0 c.in-Some.ensures.form.1)
 
 pub returns-in-Some-clause-complete : goal.returns-in-Some-clause-complete
-returns-in-Some-clause-complete g c none = absurd (none.0 _ c.in-Some.ensures.0 c.in-Some.ensures.1)
+returns-in-Some-clause-complete g c none = absurd (none.0 _ c.in-Some.ensures.form.0 c.in-Some.ensures.form.1)
 
 pub returns-in-Some-clause-resumes : goal.returns-in-Some-clause-resumes
-returns-in-Some-clause-resumes g c none = absurd (none.0 _ c.in-Some.ensures.0 c.in-Some.ensures.1)
+returns-in-Some-clause-resumes g c none = absurd (none.0 _ c.in-Some.ensures.form.0 c.in-Some.ensures.form.1)
 
 pub returns-in-Some-clause-usage : goal.returns-in-Some-clause-usage
 returns-in-Some-clause-usage g c said =
-    absurd (some_or_none (form c.in-Some.ensures.0) c.in-Some.ensures.1.command (c.in-Some.ensures.2 ∙ c.run_scoped.ensures.usage said))
+    absurd (some_or_none (form c.in-Some.ensures.form.0) c.in-Some.ensures.form.1.command (c.in-Some.ensures.form.2 ∙ c.run_scoped.ensures.usage said))
 
 pub returns-in-Some-clause-only_usage : goal.returns-in-Some-clause-only_usage
-returns-in-Some-clause-only_usage g c none = absurd (none.0.0 _ c.in-Some.ensures.0 c.in-Some.ensures.1)
+returns-in-Some-clause-only_usage g c none = absurd (none.0.0 _ c.in-Some.ensures.form.0 c.in-Some.ensures.form.1)
 
 pub returns-in-Some-clause-scoped : goal.returns-in-Some-clause-scoped
 returns-in-Some-clause-scoped g c =
-    inr (inl (c.in-Some.scoped.scope, c.in-Some.ensures.0, c.in-Some.ensures.1, c.run_scoped.ensures.runs c.in-Some.ensures.0 c.in-Some.ensures.2))
+    inr (inl (c.in-Some.scoped.scope, c.in-Some.ensures.form.0, c.in-Some.ensures.form.1, c.run_scoped.ensures.runs c.in-Some.ensures.form.0 c.in-Some.ensures.form.2))
 
 -- ---- a change of several scopes
 
@@ -67,28 +67,28 @@ returns-in-Some-read_scopes_form-clause-scoped g c = inr (inr (scopes_view c.in-
 -- ---- all others
 
 pub returns-in-None-read_scopes_form-clause-answers : goal.returns-in-None-read_scopes_form-clause-answers
-returns-in-None-read_scopes_form-clause-answers g c none = c.run_form.ensures.answers c.args.words.now (sym c.read_form.ensures)
+returns-in-None-read_scopes_form-clause-answers g c none = c.run_form.ensures.answers c.args.words.now (sym c.read_form.ensures.form)
 
 pub returns-in-None-read_scopes_form-clause-crash : goal.returns-in-None-read_scopes_form-clause-crash
-returns-in-None-read_scopes_form-clause-crash g c none = c.run_form.ensures.crash c.args.words.now (sym c.read_form.ensures)
+returns-in-None-read_scopes_form-clause-crash g c none = c.run_form.ensures.crash c.args.words.now (sym c.read_form.ensures.form)
 
 pub returns-in-None-read_scopes_form-clause-headline : goal.returns-in-None-read_scopes_form-clause-headline
-returns-in-None-read_scopes_form-clause-headline g c none = c.run_form.ensures.headline c.args.words.now (sym c.read_form.ensures)
+returns-in-None-read_scopes_form-clause-headline g c none = c.run_form.ensures.headline c.args.words.now (sym c.read_form.ensures.form)
 
 pub returns-in-None-read_scopes_form-clause-intent : goal.returns-in-None-read_scopes_form-clause-intent
-returns-in-None-read_scopes_form-clause-intent g c none = c.run_form.ensures.intent c.args.words.now (sym c.read_form.ensures)
+returns-in-None-read_scopes_form-clause-intent g c none = c.run_form.ensures.intent c.args.words.now (sym c.read_form.ensures.form)
 
 pub returns-in-None-read_scopes_form-clause-complete : goal.returns-in-None-read_scopes_form-clause-complete
-returns-in-None-read_scopes_form-clause-complete g c none = c.run_form.ensures.complete c.args.words.now (sym c.read_form.ensures)
+returns-in-None-read_scopes_form-clause-complete g c none = c.run_form.ensures.complete c.args.words.now (sym c.read_form.ensures.form)
 
 pub returns-in-None-read_scopes_form-clause-resumes : goal.returns-in-None-read_scopes_form-clause-resumes
-returns-in-None-read_scopes_form-clause-resumes g c none = c.run_form.ensures.resumes c.args.words.now (sym c.read_form.ensures)
+returns-in-None-read_scopes_form-clause-resumes g c none = c.run_form.ensures.resumes c.args.words.now (sym c.read_form.ensures.form)
 
 pub returns-in-None-read_scopes_form-clause-usage : goal.returns-in-None-read_scopes_form-clause-usage
-returns-in-None-read_scopes_form-clause-usage g c said = ((c.in-None.ensures, sym c.in-None-read_scopes_form.ensures), sym c.read_form.ensures ∙ c.run_form.ensures.usage said)
+returns-in-None-read_scopes_form-clause-usage g c said = ((c.in-None.ensures.form, sym c.in-None-read_scopes_form.ensures), sym c.read_form.ensures.form ∙ c.run_form.ensures.usage said)
 
 pub returns-in-None-read_scopes_form-clause-only_usage : goal.returns-in-None-read_scopes_form-clause-only_usage
-returns-in-None-read_scopes_form-clause-only_usage g c none = c.run_form.ensures.only_usage (c.read_form.ensures ∙ none.1)
+returns-in-None-read_scopes_form-clause-only_usage g c none = c.run_form.ensures.only_usage (c.read_form.ensures.form ∙ none.1)
 
 pub returns-in-None-read_scopes_form-clause-scoped : goal.returns-in-None-read_scopes_form-clause-scoped
-returns-in-None-read_scopes_form-clause-scoped g c = inl (c.in-None.ensures, sym c.in-None-read_scopes_form.ensures)
+returns-in-None-read_scopes_form-clause-scoped g c = inl (c.in-None.ensures.form, sym c.in-None-read_scopes_form.ensures)
