@@ -1,6 +1,7 @@
 -- what public clauses cite
 pub mod Asked
 pub mod Checking
+pub mod Counts
 pub mod DemoAsked
 pub mod FileAsked
 pub mod IntentView

@@ -6,6 +6,7 @@ ghost use Rattle.host_core.specs.Names.{longest_plain_name};
 ghost use Rattle.gcu_inputs.specs.Preparing.{Finds, IsRightBy, Refuses, RefusesAlways};
 ghost use Rattle.gcu_inputs.specs.StoredAsked.{stored_asked};
 ghost use Rattle.gcu_requests.specs.Checking.{IsJudged, check_asked, judging_asked};
+ghost use Rattle.gcu_requests.specs.Counts.{IsQuiet};
 ghost use Rattle.gcu_requests.specs.Request.{check as check_of};
 
 use crate::judging::{End, invalid};
@@ -24,6 +25,7 @@ pub fn judge_stored<H: Host>(alloc: Global, host: &mut H) -> Result<Config, Outc
     ensures stored { IfOk result (λ c. Finds (H.told host.old) (λ _. c) (Ok c) stored_asked) }
     ensures told { H.told host.new ≡ H.told host.old }
     ensures counts { NoneFell (H.counts host.old) (H.counts host.new) }
+    ensures quiet { IsQuiet (H.counts host.old) (H.counts host.new) }
     ensures cause { IfErr result (Refuses (H.counts host.old) (H.counts host.new)) }
     ensures time { Elapses H.moment H.left_since host.old host.new (MayLeaveNow (H.told host.old)) }
     ensures goes { H.goes_on host.old host.new }
@@ -39,6 +41,7 @@ fn judge_folder<H: Host>(alloc: Global, host: &mut H) -> Result<Config, Outcome>
     ensures stored { IfOk result (λ c. Finds (H.told host.old) (λ _. c) (Ok c) stored_asked) }
     ensures told { H.told host.new ≡ H.told host.old }
     ensures counts { NoneFell (H.counts host.old) (H.counts host.new) }
+    ensures quiet { IsQuiet (H.counts host.old) (H.counts host.new) }
     ensures cause { IfErr result (Refuses (H.counts host.old) (H.counts host.new)) }
     ensures time { Elapses H.moment H.left_since host.old host.new (MayLeaveNow (H.told host.old)) }
     ensures goes { H.goes_on host.old host.new }

@@ -5,6 +5,7 @@ ghost use Rattle.host_core.specs.Crashes.{Elapses, MayLeaveNow};
 ghost use Rattle.host_core.specs.Names.{longest_plain_name};
 ghost use Rattle.move_core.specs.Contexts.{IsNamed};
 ghost use Rattle.gcu_inputs.specs.Preparing.{Finds, Found, Refuses, RefusesAlways};
+ghost use Rattle.gcu_requests.specs.Counts.{IsQuiet};
 ghost use Rattle.gcu_requests.specs.DemoAsked.{demo_planning_asked, generated_asked, generating_asked};
 ghost use Rattle.gcu_requests.specs.ReadPlannings.{HasNothingToFold, IsReadyToSearch, planning_of};
 
@@ -29,6 +30,7 @@ pub fn prepare_demo<H: Host>(alloc: Global, size: Demo, host: &mut H) -> Result<
     ensures made { IfOk result (λ p. HasNothingToFold p.stored) }
     ensures told { H.told host.new ≡ H.told host.old }
     ensures counts { NoneFell (H.counts host.old) (H.counts host.new) }
+    ensures quiet { IsQuiet (H.counts host.old) (H.counts host.new) }
     ensures cause { IfErr result (Refuses (H.counts host.old) (H.counts host.new)) }
     ensures time { Elapses H.moment H.left_since host.old host.new (MayLeaveNow (H.told host.old)) }
     ensures goes { H.goes_on host.old host.new }
@@ -45,6 +47,7 @@ fn read_demo<H: Host>(alloc: Global, size: Demo, host: &mut H) -> Result<Plannin
     ensures made { IfOk result (λ p. HasNothingToFold p.stored) }
     ensures told { H.told host.new ≡ H.told host.old }
     ensures counts { NoneFell (H.counts host.old) (H.counts host.new) }
+    ensures quiet { IsQuiet (H.counts host.old) (H.counts host.new) }
     ensures cause { IfErr result (Refuses (H.counts host.old) (H.counts host.new)) }
     ensures time { Elapses H.moment H.left_since host.old host.new (MayLeaveNow (H.told host.old)) }
     ensures goes { H.goes_on host.old host.new }

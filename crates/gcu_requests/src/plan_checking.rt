@@ -8,6 +8,7 @@ ghost use Rattle.plan_options.specs.Options.{default_budget};
 ghost use Rattle.plan_options.specs.Targets.{patched};
 ghost use Rattle.plan_texts.specs.PlanTexts.{most_bytes};
 ghost use Rattle.gcu_inputs.specs.Preparing.{Finds, IsRightBy, Refuses, RefusesAlways};
+ghost use Rattle.gcu_requests.specs.Counts.{IsQuiet};
 ghost use Rattle.gcu_requests.specs.PlanAsked.{planning_asked};
 ghost use Rattle.gcu_requests.specs.PlanCheckAsked.{IsAccepted, IsPlanIn, check_plan_asked, moves_asked};
 ghost use Rattle.gcu_requests.specs.ReadPlannings.{IsReadyToSearch, planning_of};
@@ -37,6 +38,7 @@ pub fn judge_plan<H: Host>(
         (check_plan_asked patch.now plan.now) }
     ensures told { H.told host.new ≡ H.told host.old }
     ensures counts { NoneFell (H.counts host.old) (H.counts host.new) }
+    ensures quiet { IsQuiet (H.counts host.old) (H.counts host.new) }
     ensures cause { IfErr result (Refuses (H.counts host.old) (H.counts host.new)) }
     ensures time { Elapses H.moment H.left_since host.old host.new (MayLeaveNow (H.told host.old)) }
     ensures goes { H.goes_on host.old host.new }
@@ -54,6 +56,7 @@ fn prepare_patch<H: Host>(alloc: Global, patch: &Txt, host: &mut H) -> Result<Pl
     ensures ready { IfOk result IsReadyToSearch }
     ensures told { H.told host.new ≡ H.told host.old }
     ensures counts { NoneFell (H.counts host.old) (H.counts host.new) }
+    ensures quiet { IsQuiet (H.counts host.old) (H.counts host.new) }
     ensures cause { IfErr result (Refuses (H.counts host.old) (H.counts host.new)) }
     ensures time { Elapses H.moment H.left_since host.old host.new (MayLeaveNow (H.told host.old)) }
     ensures goes { H.goes_on host.old host.new }

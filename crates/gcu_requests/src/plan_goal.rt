@@ -9,6 +9,7 @@ ghost use Rattle.move_core.specs.Contexts.{AgreeElsewhere, IsValidIn};
 ghost use Rattle.checkpoints.specs.Names.{is_good_name as is_name};
 ghost use Rattle.plan_options.specs.Views.{target_view};
 ghost use Rattle.gcu_inputs.specs.Preparing.{Finds, Found, IsRightBy, Refuses, RefusesAlways, refusal};
+ghost use Rattle.gcu_requests.specs.Counts.{IsQuiet};
 ghost use Rattle.gcu_requests.specs.PlanAsked.{HasKeys, IsElsewhereAs, goal_asked, judged_asked, made_asked, target_answer};
 ghost use Rattle.gcu_requests.specs.ReadPlannings.{HasGoodName};
 ghost use Rattle.gcu_requests.specs.PointAsked.{name_answer};
@@ -70,6 +71,7 @@ pub(crate) fn read_goal<H: Host>(
     ensures elsewhere { IfOk result (AgreeElsewhere ctx.now start.now) }
     ensures told { H.told host.new ≡ H.told host.old }
     ensures counts { NoneFell (H.counts host.old) (H.counts host.new) }
+    ensures quiet { IsQuiet (H.counts host.old) (H.counts host.new) }
     ensures cause { IfErr result (Refuses (H.counts host.old) (H.counts host.new)) }
     ensures time { Elapses H.moment H.left_since host.old host.new (MayLeaveNow (H.told host.old)) }
     ensures goes { H.goes_on host.old host.new }
@@ -108,6 +110,7 @@ fn make_goal<H: Host>(
         (made_asked (target_view target.entry) start.now) }
     ensures told { H.told host.new ≡ H.told host.old }
     ensures counts { NoneFell (H.counts host.old) (H.counts host.new) }
+    ensures quiet { IsQuiet (H.counts host.old) (H.counts host.new) }
     ensures cause { IfErr result (Refuses (H.counts host.old) (H.counts host.new)) }
     ensures time { Elapses H.moment H.left_since host.old host.new (MayLeaveNow (H.told host.old)) }
     ensures goes { H.goes_on host.old host.new }

@@ -7,6 +7,7 @@ ghost use Rattle.host_core.specs.Names.{longest_plain_name};
 ghost use Rattle.conf_doc.specs.Trees.{document};
 ghost use Rattle.patch_core.specs.Operation.{operations};
 ghost use Rattle.gcu_inputs.specs.Preparing.{Finds, Refuses, RefusesAlways, refusal};
+ghost use Rattle.gcu_requests.specs.Counts.{IsQuiet};
 ghost use Rattle.gcu_requests.specs.Trees.{document_shape, patched_document, preview_document, target_document};
 
 use crate::stored_tree::read_stored;
@@ -24,6 +25,7 @@ pub fn preview<H: Host>(alloc: Global, path: &Txt, host: &mut H) -> Result<Tree,
     ensures answer { Finds (H.told host.old) document result (preview_document path.now) }
     ensures told { H.told host.new ≡ H.told host.old }
     ensures counts { NoneFell (H.counts host.old) (H.counts host.new) }
+    ensures quiet { IsQuiet (H.counts host.old) (H.counts host.new) }
     ensures cause { IfErr result (Refuses (H.counts host.old) (H.counts host.new)) }
     ensures time { Elapses H.moment H.left_since host.old host.new (MayLeaveNow (H.told host.old)) }
     ensures goes { H.goes_on host.old host.new }
@@ -38,6 +40,7 @@ fn patch_stored<H: Host>(alloc: Global, path: &Txt, host: &mut H) -> Result<Tree
     ensures answer { Finds (H.told host.old) document result (patched_document path.now) }
     ensures told { H.told host.new ≡ H.told host.old }
     ensures counts { NoneFell (H.counts host.old) (H.counts host.new) }
+    ensures quiet { IsQuiet (H.counts host.old) (H.counts host.new) }
     ensures cause { IfErr result (Refuses (H.counts host.old) (H.counts host.new)) }
     ensures time { Elapses H.moment H.left_since host.old host.new (MayLeaveNow (H.told host.old)) }
     ensures goes { H.goes_on host.old host.new }

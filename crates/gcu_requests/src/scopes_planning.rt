@@ -13,6 +13,7 @@ ghost use Rattle.scopes.specs.Views.{seen, seen_files};
 ghost use Rattle.gcu_output.specs.declared.outcomes.Outcome.TheVariants.{Memory as no_memory};
 ghost use Rattle.gcu_inputs.specs.Asking.{follows, of_each};
 ghost use Rattle.gcu_inputs.specs.Preparing.{Finds, Found, Refuses, RefusesAlways};
+ghost use Rattle.gcu_requests.specs.Counts.{IsQuiet};
 ghost use Rattle.gcu_requests.specs.ScopesAsked.{part_asked, patched_asked, patched_ends as ends_asked, patched_goal, refusal_of, scopes_asked, split_answer};
 ghost use Rattle.gcu_requests.specs.ScopesPlannings.{AreInOrder, AreReady, IsReadyBetween, IsRefusalOf, IsStill, StandsInEach, plan_in, plans_of, scope_planning};
 
@@ -68,6 +69,7 @@ pub fn prepare_scopes<H: Host>(
     ensures order { IfOk result (λ all. AreInOrder all.scopes) }
     ensures still { IsStill H.told H.moment H.left_since host.old host.new }
     ensures counts { NoneFell (H.counts host.old) (H.counts host.new) }
+    ensures quiet { IsQuiet (H.counts host.old) (H.counts host.new) }
     ensures cause { IfErr result (Refuses (H.counts host.old) (H.counts host.new)) }
     ensures goes { H.goes_on host.old host.new }
 {

@@ -7,6 +7,7 @@ ghost use Rattle.host_core.specs.Names.{longest_plain_name};
 ghost use Rattle.conf_store.specs.Folds.{StandsFor};
 ghost use Rattle.session_scripts.specs.Scripts.{most_lines, script as script_of};
 ghost use Rattle.gcu_inputs.specs.Preparing.{Finds, Refuses, RefusesAlways, refusal};
+ghost use Rattle.gcu_requests.specs.Counts.{IsQuiet};
 ghost use Rattle.gcu_requests.specs.ReadScripts.{IsReadyToOperate, operating_of};
 ghost use Rattle.gcu_requests.specs.SessionsAsked.{operating_asked, script_answer, script_asked, script_needs_asked};
 
@@ -49,6 +50,7 @@ pub fn prepare_script<H: Host>(
         (λ p. IfSome (H.told host.old) (λ s. StandsFor p.stored s.files)) }
     ensures told { H.told host.new ≡ H.told host.old }
     ensures counts { NoneFell (H.counts host.old) (H.counts host.new) }
+    ensures quiet { IsQuiet (H.counts host.old) (H.counts host.new) }
     ensures cause { IfErr result (Refuses (H.counts host.old) (H.counts host.new)) }
     ensures time { Elapses H.moment H.left_since host.old host.new (MayLeaveNow (H.told host.old)) }
     ensures goes { H.goes_on host.old host.new }
@@ -73,6 +75,7 @@ fn read_script_needs<H: Host>(
         (λ p. IfSome (H.told host.old) (λ s. StandsFor p.stored s.files)) }
     ensures told { H.told host.new ≡ H.told host.old }
     ensures counts { NoneFell (H.counts host.old) (H.counts host.new) }
+    ensures quiet { IsQuiet (H.counts host.old) (H.counts host.new) }
     ensures cause { IfErr result (Refuses (H.counts host.old) (H.counts host.new)) }
     ensures time { Elapses H.moment H.left_since host.old host.new (MayLeaveNow (H.told host.old)) }
     ensures goes { H.goes_on host.old host.new }
