@@ -11,9 +11,10 @@ use Rattle.std.specs.Ordering.{nat_cmp, ordering_reverse, ordering_then}
 use Rattle.std.specs.FinMap as finmap
 use Rattle.std.specs.FinMap.{entries}
 use Rattle.std.specs.FinMap.Entries.{below_all, by_order, is_sorted, put as put_entry}
+use Rattle.host_core.specs.Characters.{decimal_base}
 use Rattle.host_core.specs.Names.{name_cmp}
 use Rattle.host_core.specs.State.{Files, with_file}
-use Rattle.conf_store.specs.Files.{is_step_name, last_digits, last_step, step_name, step_names, ten}
+use Rattle.conf_store.specs.Files.{is_step_name, last_digits, last_step, step_name, step_names}
 use Rattle.conf_store.proofs.Digits.{length-digits}
 
 -- ---- a step's name is one
@@ -24,8 +25,8 @@ digit d small = ap (λ b. b) (rw (le-leb 48 (48 + d) (omega arith), le-leb (48 +
 are_digits : (k n : ℕ) → list_all is_ascii_digit (last_digits k n) ≡ true
 are_digits zero n = refl
 are_digits (suc k) n =
-    list_all-append is_ascii_digit (last_digits k (n / ten)) ((48 + n % ten) ∷ [])
-    ∙ rw (are_digits k (n / ten), digit (n % ten) (omega arith)) refl
+    list_all-append is_ascii_digit (last_digits k (n / decimal_base)) ((48 + n % decimal_base) ∷ [])
+    ∙ rw (are_digits k (n / decimal_base), digit (n % decimal_base) (omega arith)) refl
 
 pub named : (n : ℕ) → is_step_name (step_name n) ≡ true
 named n = are_digits 6 n
@@ -35,7 +36,7 @@ named n = are_digits 6 n
 -- how many numbers so many digits write
 abbrev numbers : ℕ → ℕ
 numbers zero = 1
-numbers (suc k) = ten * numbers k
+numbers (suc k) = decimal_base * numbers k
 
 lower : (a b : ℕ) → a < b → nat_cmp a b ≡ Less
 lower a b less = rw (lt-ltb a b less) refl
@@ -60,18 +61,18 @@ last_less (x ∷ xs) a b less =
 
 digits_less : (k n m : ℕ) → n < m → m < numbers k → slice_cmp nat_cmp (last_digits k n) (last_digits k m) ≡ Less
 digits_less zero n m less small = absurd (omega (arith, less, small))
-digits_less (suc k) n m less small = ⊎_elim (λ fewer. front (digits_less k (n / ten) (m / ten) fewer (omega (arith, small)))) last (cases_lt (n / ten) (m / ten))
+digits_less (suc k) n m less small = ⊎_elim (λ fewer. front (digits_less k (n / decimal_base) (m / decimal_base) fewer (omega (arith, small)))) last (cases_lt (n / decimal_base) (m / decimal_base))
   where
-    front : slice_cmp nat_cmp (last_digits k (n / ten)) (last_digits k (m / ten)) ≡ Less → slice_cmp nat_cmp (last_digits (suc k) n) (last_digits (suc k) m) ≡ Less
+    front : slice_cmp nat_cmp (last_digits k (n / decimal_base)) (last_digits k (m / decimal_base)) ≡ Less → slice_cmp nat_cmp (last_digits (suc k) n) (last_digits (suc k) m) ≡ Less
     front fewer =
-        front_less (last_digits k (n / ten)) (last_digits k (m / ten)) (48 + n % ten) (48 + m % ten)
-        (length-digits k (n / ten) ∙ sym (length-digits k (m / ten))) fewer
+        front_less (last_digits k (n / decimal_base)) (last_digits k (m / decimal_base)) (48 + n % decimal_base) (48 + m % decimal_base)
+        (length-digits k (n / decimal_base) ∙ sym (length-digits k (m / decimal_base))) fewer
 
-    last : m / ten ≤ n / ten → slice_cmp nat_cmp (last_digits (suc k) n) (last_digits (suc k) m) ≡ Less
+    last : m / decimal_base ≤ n / decimal_base → slice_cmp nat_cmp (last_digits (suc k) n) (last_digits (suc k) m) ≡ Less
     last high =
-        let same : m / ten ≡ n / ten = omega (arith, high, less) in
-        ap (λ q. slice_cmp nat_cmp (last_digits (suc k) n) (last_digits k q ++ (48 + m % ten) ∷ [])) same
-        ∙ last_less (last_digits k (n / ten)) (48 + n % ten) (48 + m % ten) (omega (arith, same, less))
+        let same : m / decimal_base ≡ n / decimal_base = omega (arith, high, less) in
+        ap (λ q. slice_cmp nat_cmp (last_digits (suc k) n) (last_digits k q ++ (48 + m % decimal_base) ∷ [])) same
+        ∙ last_less (last_digits k (n / decimal_base)) (48 + n % decimal_base) (48 + m % decimal_base) (omega (arith, same, less))
 
 names_rise : (n m : ℕ) → n < m → m ≤ last_step → name_cmp (step_name n) (step_name m) ≡ Less
 unfolding last_step

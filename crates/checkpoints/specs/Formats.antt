@@ -4,6 +4,7 @@ use Rattle.std.specs.Prelude.{ℕ, List, [], ◌∷◌, ◌++◌, codes, length,
 use Rattle.std.specs.Option.{option_map_or, option_or}
 use Rattle.std.specs.Result.{result_ok}
 use Rattle.std.specs.Str.Parse.{digits_value}
+use Rattle.host_core.specs.Characters.{decimal_base}
 use Rattle.conf_doc.specs.Configuration.{tree}
 use Rattle.conf_doc.specs.Document.{Document, text, list, object, members_of, pairs}
 use Rattle.conf_doc.specs.Pairs.{find}
@@ -11,7 +12,6 @@ use Rattle.conf_doc.specs.Reading.{reading}
 use Rattle.conf_doc.specs.Shaping.{configuration}
 use Rattle.conf_doc.specs.Texts.{line_feed, pretty_text}
 use Rattle.conf_doc.specs.declared.configuration.Config.{Config}
-use Rattle.conf_store.specs.Files.{ten}
 use Rattle.checkpoints.specs.declared.content.Content.{Content}
 
 -- ---- the sequence number
@@ -27,7 +27,7 @@ if_decimal n digits =
 
 -- the number that a text is in decimal, without leading zeros
 abbrev pub number_of : List ℕ → Option ℕ
-number_of digits = if_decimal (digits_value ten digits) digits
+number_of digits = if_decimal (digits_value decimal_base digits) digits
 
 -- ---- the members of a map
 

@@ -2,14 +2,7 @@
 use Rattle.std.specs.Prelude.{ℕ, ◌-◌, ◌++◌, List, codes, length, take, Bool, not, ◌&&◌, ◌||◌, ◌==◌, nat_eq, nat_le}
 use Rattle.std.specs.Char.{is_ascii_alphanumeric}
 use Rattle.std.specs.List.{ends_with, list_all}
-
--- the code of `_`
-abbrev pub underscore : ℕ
-underscore = 95
-
--- the code of `-`
-abbrev pub hyphen : ℕ
-hyphen = 45
+use Rattle.host_core.specs.Characters.{hyphen, underscore}
 
 -- an ASCII letter, a digit, `_` or `-`
 abbrev pub is_name_character : ℕ → Bool

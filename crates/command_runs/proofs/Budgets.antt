@@ -4,7 +4,8 @@ use Rattle.std.specs.Prelude.{codes, nat_le, ◌&&◌, ◌==◌, option_map, opt
 use Rattle.std.specs.Char.{is_ascii_digit}
 use Rattle.std.specs.List.{list_all}
 use Rattle.std.proofs.lemmas.Bool.Decides.{nat_tests}
-use Rattle.patch_core.specs.Indexes.{digit_0, number}
+use Rattle.host_core.specs.Characters.{digit_zero}
+use Rattle.patch_core.specs.Indexes.{number}
 use Rattle.plan_options.specs.Decimals.{number_within}
 use Rattle.plan_options.specs.Demos.{demo_of, Demo}
 use Rattle.plan_options.specs.Options.{Options, budget_in, budget_word, dry_run_word, most_budget, options, with_budget}
@@ -34,7 +35,7 @@ number_is_within ds = by (list_all is_ascii_digit ds) (nat_le (number ds) most_b
 budget_is_within : (word : List ℕ) → IsWithin (budget_in word)
 budget_is_within [] = tt
 budget_is_within (d ∷ ds) =
-    elim (d == digit_0) as (λ b. IsWithin (cond b None (number_within most_budget (d ∷ ds)))) [ true ↦ tt | false ↦ number_is_within (d ∷ ds) ]
+    elim (d == digit_zero) as (λ b. IsWithin (cond b None (number_within most_budget (d ∷ ds)))) [ true ↦ tt | false ↦ number_is_within (d ∷ ds) ]
 
 with_is_within : (dry_run : Bool) (word : List ℕ) → AreWithin (with_budget dry_run word)
 with_is_within dry_run word = by (budget_in word) (budget_is_within word)

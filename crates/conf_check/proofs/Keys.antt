@@ -6,9 +6,10 @@ use Rattle.std.specs.List.{onto_first, starts_with}
 use Rattle.std.specs.Ordering.{nat_cmp, ordering_then}
 use Rattle.std.proofs.lemmas.Bool.{and_parts, and_from}
 use Rattle.std.proofs.lemmas.Cmp.{nat_list_cmp_total, nat_cmp_total, tied_itself}
+use Rattle.host_core.specs.Characters.{bar}
 use Rattle.conf_doc.specs.Pairs.{first_from, IsRising}
 use Rattle.host_core.specs.Names.{name_cmp}
-use Rattle.key_split.specs.Key.{bar, key_parts}
+use Rattle.key_split.specs.Key.{key_parts}
 
 -- a key begins with a text
 abbrev pub Begins : List ℕ → List ℕ → Type 0

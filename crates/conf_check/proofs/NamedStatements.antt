@@ -14,7 +14,8 @@ use Rattle.yang_faults.specs.Types.{named_faults, settle}
 use Rattle.yang_faults.specs.Walks.{block_faults, statement_faults}
 use Rattle.yang_model.specs.Answers.{faults}
 use Rattle.yang_model.specs.Readers.{Readers}
-use Rattle.yang_must.specs.Spots.{ModelContainer, containers_in, containers_of, is_shape, shapes_of as shapes_in, tables_of}
+use Rattle.yang_scope.specs.Nodes.{is_shape}
+use Rattle.yang_must.specs.Spots.{ModelContainer, containers_in, containers_of, shapes_of as shapes_in, tables_of}
 use Rattle.conf_check.proofs.Members.{In, filter_in, map_in, append_in}
 
 left_none : {A : Type 0} (xs ys : List A) → xs ++ ys ≡ [] → xs ≡ []

@@ -2,7 +2,8 @@
 use Rattle.std.proofs.Common.{◌≡◌, ◌≢◌, ℕ, ◌+◌, ◌/◌, ◌≤◌, Bool, true, false, cond, ltb, List, [], ◌∷◌, ◌++◌, refl, sym, ap, ◌∙◌, append_assoc, append-nil, arith}
 use lib.Utf8.{encode, next}
 use Rattle.std.proofs.lemmas.Bool.Decides.{nat_tests}
-use Rattle.conf_doc.specs.Pointer.{escaped, pointer, slash}
+use Rattle.host_core.specs.Characters.{slash}
+use Rattle.conf_doc.specs.Pointer.{escaped, pointer}
 
 keeps : (x : ℕ) (xs : List ℕ) → x ≢ 126 → x ≢ 47 → escaped xs ≡ xs → escaped (x ∷ xs) ≡ x ∷ xs
 keeps x xs a b rest = grind (arith, nat_tests)

@@ -1,13 +1,6 @@
 -- JSON Pointer (RFC 6901, sections 3 and 4): from tokens to text.
 use Rattle.std.specs.Prelude.{◌≡◌, ℕ, List, [], ◌∷◌, codes, flat_map, if◌then◌else◌, ◌==◌}
-
--- the code of `~`
-abbrev pub tilde : ℕ
-tilde = 126
-
--- the code of `/`
-abbrev pub slash : ℕ
-slash = 47
+use Rattle.host_core.specs.Characters.{slash, tilde}
 
 -- in a token `~` is written `~0` and `/` is written `~1`
 abbrev pub escape : ℕ → List ℕ

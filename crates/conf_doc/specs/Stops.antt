@@ -1,6 +1,7 @@
 -- Where a walk over a tree stops, as a pointer's text.
 use Rattle.std.specs.Prelude.{◌≡◌, ℕ, List, ◌∷◌, ◌++◌, Option, Some, None, Result, Ok, Err}
-use Rattle.conf_doc.specs.Pointer.{pointer, escaped, slash}
+use Rattle.host_core.specs.Characters.{slash}
+use Rattle.conf_doc.specs.Pointer.{pointer, escaped}
 use Rattle.conf_doc.specs.Reading.{Way}
 use Rattle.conf_doc.specs.declared.stops.Stop.{Stop}
 use Rattle.conf_doc.specs.declared.stops.Stop.TheVariants.{At, Memory}

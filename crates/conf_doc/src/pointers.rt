@@ -1,6 +1,7 @@
 //! The texts of pointers (RFC 6901).
 ghost use Rattle.std.specs.Prelude.{◌≡◌, ◌∷◌, ◌++◌, IfOk, OnOk, encode_utf8, string_bytes};
-ghost use Rattle.conf_doc.specs.Pointer.{IsPointer, escaped, slash};
+ghost use Rattle.host_core.specs.Characters.{slash};
+ghost use Rattle.conf_doc.specs.Pointer.{IsPointer, escaped};
 
 use host_core::{Memory, Names, Txt};
 use std::alloc::{AllocError, Global};

@@ -1,6 +1,7 @@
 //! Where a walk over a tree stops.
 ghost use Rattle.std.specs.Prelude.{◌≡◌, [], ◌∷◌, ◌++◌, IfOk, string_bytes, decimal};
-ghost use Rattle.conf_doc.specs.Pointer.{escaped, slash};
+ghost use Rattle.host_core.specs.Characters.{slash};
+ghost use Rattle.conf_doc.specs.Pointer.{escaped};
 ghost use Rattle.conf_doc.specs.Stops.{IsBelow};
 
 use crate::pointers::push_token;

@@ -1,10 +1,11 @@
 -- The names of step files: how long they are, and that two numbers have two names.
 use Rattle.std.proofs.Common.{◌≡◌, ◌<◌, ◌≤◌, ℕ, zero, suc, ◌+◌, ◌*◌, ◌/◌, ◌%◌, List, [], ◌∷◌, ◌++◌, length, drop, length-append, refl, ap, arith}
-use Rattle.conf_store.specs.Files.{last_digits, last_step, step_name, ten}
+use Rattle.host_core.specs.Characters.{decimal_base}
+use Rattle.conf_store.specs.Files.{last_digits, last_step, step_name}
 
 pub length-digits : (k n : ℕ) → length (last_digits k n) ≡ k
 length-digits zero n = refl
-length-digits (suc k) n = omega (arith, length-append (last_digits k (n / ten)) ((48 + n % ten) ∷ []), length-digits k (n / ten))
+length-digits (suc k) n = omega (arith, length-append (last_digits k (n / decimal_base)) ((48 + n % decimal_base) ∷ []), length-digits k (n / decimal_base))
 
 pub length-step_name : (n : ℕ) → length (step_name n) ≡ 11
 length-step_name n = omega (arith, length-digits 6 n)
@@ -12,7 +13,7 @@ length-step_name n = omega (arith, length-digits 6 n)
 -- how many numbers so many digits write
 abbrev numbers : ℕ → ℕ
 numbers zero = 1
-numbers (suc k) = ten * numbers k
+numbers (suc k) = decimal_base * numbers k
 
 snoc_same : (xs ys : List ℕ) (a b : ℕ) → length xs ≡ length ys → xs ++ a ∷ [] ≡ ys ++ b ∷ [] → (xs ≡ ys) × (a ≡ b)
 snoc_same [] [] a b long e = (refl, cc)
@@ -27,8 +28,8 @@ snoc_same (x ∷ xs) (y ∷ ys) a b long e =
 digits_same : (k n m : ℕ) → n < numbers k → m < numbers k → last_digits k n ≡ last_digits k m → n ≡ m
 digits_same zero n m small too e = omega (arith, small, too)
 digits_same (suc k) n m small too e =
-    let parts = snoc_same (last_digits k (n / ten)) (last_digits k (m / ten)) (48 + n % ten) (48 + m % ten) (omega (arith, length-digits k (n / ten), length-digits k (m / ten))) e in
-    let front : n / ten ≡ m / ten = digits_same k (n / ten) (m / ten) (omega (arith, small)) (omega (arith, too)) parts.0 in
+    let parts = snoc_same (last_digits k (n / decimal_base)) (last_digits k (m / decimal_base)) (48 + n % decimal_base) (48 + m % decimal_base) (omega (arith, length-digits k (n / decimal_base), length-digits k (m / decimal_base))) e in
+    let front : n / decimal_base ≡ m / decimal_base = digits_same k (n / decimal_base) (m / decimal_base) (omega (arith, small)) (omega (arith, too)) parts.0 in
     omega (arith, front, parts.1)
 
 pub names_same : (n m : ℕ) → n ≤ last_step → m ≤ last_step → step_name n ≡ step_name m → n ≡ m

@@ -3,6 +3,7 @@ use Rattle.std.specs.Prelude.{ℕ, zero, suc, ◌+◌, ◌/◌, ◌%◌, List, [
 use Rattle.std.specs.Char.{is_ascii_digit}
 use Rattle.std.specs.FinMap.{keys}
 use Rattle.std.specs.List.{list_all, starts_with}
+use Rattle.host_core.specs.Characters.{decimal_base, digit_zero}
 use Rattle.host_core.specs.State.{Files, with_file}
 
 -- where bytes lie until they have their name; nothing reads it
@@ -39,18 +40,10 @@ step_digits = 6
 unfoldable pub last_step : ℕ
 last_step = 999999
 
--- the code of the digit 0
-abbrev pub digit_zero : ℕ
-digit_zero = 48
-
--- the base of the digits
-abbrev pub ten : ℕ
-ten = 10
-
 -- so many digits of a number, the last ones
 abbrev pub last_digits : ℕ → ℕ → List ℕ
 last_digits zero n = []
-last_digits (suc k) n = last_digits k (n / ten) ++ (digit_zero + n % ten) ∷ []
+last_digits (suc k) n = last_digits k (n / decimal_base) ++ (digit_zero + n % decimal_base) ∷ []
 
 -- the name of the step file of a number
 abbrev pub step_name : ℕ → List ℕ

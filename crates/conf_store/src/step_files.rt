@@ -2,7 +2,8 @@
 ghost use Rattle.std.specs.Prelude.{◌≡◌, ◌+◌, ◌%◌, ◌++◌, ◌∷◌, [], string_bytes, IfOk, OnOk};
 ghost use Rattle.std.specs.Char.{is_ascii_digit};
 ghost use Rattle.std.specs.List.{list_all};
-ghost use Rattle.conf_store.specs.Files.{digit_zero, is_step_name as is_name_of_step, last_digits, step_name as name_of_step, ten};
+ghost use Rattle.host_core.specs.Characters.{decimal_base, digit_zero};
+ghost use Rattle.conf_store.specs.Files.{is_step_name as is_name_of_step, last_digits, step_name as name_of_step};
 
 use host_core::{Memory, Txt};
 use std::alloc::Global;
@@ -51,7 +52,7 @@ fn push_digits(text: &mut String, k: u32, n: u32) -> Result<(), Memory>
 /// Appends the last digit of a number.
 fn push_digit(text: &mut String, n: u32) -> Result<(), Memory>
     ensures { OnOk result
-        (string_bytes text.new ≡ string_bytes text.old ++ (digit_zero + n % ten) ∷ []) }
+        (string_bytes text.new ≡ string_bytes text.old ++ (digit_zero + n % decimal_base) ∷ []) }
 {
     let code = b'0' + (n % 10) as u8;
     text.push(char::from(code))?;

@@ -1,5 +1,6 @@
 -- what public clauses cite
 pub mod Answers
+pub mod Characters
 pub mod Counts
 pub mod Crashes
 pub mod Entries

@@ -4,7 +4,8 @@ use Rattle.std.specs.List.{join_with_byte, onto_first, join_by}
 use Rattle.std.proofs.lemmas.Bool.{eqb-false, ne_eqb}
 use Rattle.std.proofs.lemmas.List.Elements.{All-nil, All-cons, All-head, All-tail, All-weaker}
 use Rattle.std.proofs.lemmas.List.Splits.{slice_split_none, slice_split_at, length-slice_split, join_with_byte-slice_split}
-use Rattle.key_split.specs.Key.{bar, HasNoBar, ArePartsOf, key_parts}
+use Rattle.host_core.specs.Characters.{bar}
+use Rattle.key_split.specs.Key.{HasNoBar, ArePartsOf, key_parts}
 
 abbrev IsPlain : ℕ → Type 0
 IsPlain c = c ≢ bar

@@ -1,10 +1,7 @@
 -- The key of an entry and its parts.
 use Rattle.std.specs.Prelude.{◌≡◌, ◌≢◌, ◌==◌, ◌<◌, ℕ, List, length, All}
 use Rattle.std.specs.List.{join_with_byte, slice_split}
-
--- the character that separates the parts of a key
-abbrev pub bar : ℕ
-bar = 124
+use Rattle.host_core.specs.Characters.{bar}
 
 -- no bar stands in a part
 abbrev pub HasNoBar : List ℕ → Type 0

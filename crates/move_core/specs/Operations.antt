@@ -1,10 +1,10 @@
 -- Moves as operations of a patch, and the text of a plan.
 use Rattle.std.specs.Int.Digits.{digits_of}
 use Rattle.std.specs.Prelude.{ℕ, zero, suc, ◌+◌, List, [], ◌∷◌, ◌++◌, codes, decimal, length, map}
+use Rattle.host_core.specs.Characters.{decimal_base, digit_zero}
 use Rattle.conf_doc.specs.Configuration.{part_tree}
 use Rattle.conf_doc.specs.Document.{text}
 use Rattle.conf_doc.specs.Texts.{compact, line_feed}
-use Rattle.patch_core.specs.Indexes.{base, digit_0}
 use Rattle.patch_core.specs.Operation.{Operation, add, remove, replace}
 use Rattle.patch_core.specs.Writing.{operation_document}
 use Rattle.move_core.specs.Moves.{Place}
@@ -13,8 +13,8 @@ use Rattle.move_core.specs.declared.moves.Move.TheVariants.{Add, Remove, Replace
 
 -- an index in decimal (RFC 6901, section 4): `0`, or digits that don't begin with a 0
 abbrev pub index_text : ℕ → List ℕ
-index_text zero = digit_0 ∷ []
-index_text (suc n) = map (λ d. digit_0 + d) (digits_of base (suc n))
+index_text zero = digit_zero ∷ []
+index_text (suc n) = map (λ d. digit_zero + d) (digits_of decimal_base (suc n))
 
 -- the place that a move's operation names: the place that changes, and behind its names the index of an item
 abbrev pub named_place : Move → Place

@@ -10,6 +10,7 @@ use Rattle.serde_json.specs.Data as values
 use Rattle.serde_json.specs.Find.{get_member, as_str, as_array, as_object}
 use Rattle.conf_doc.specs.Reading.{json}
 use Rattle.host_core.specs.Answers.{◌>>=◌, map_ok, both}
+use Rattle.host_core.specs.Characters.{digit_seven, digit_zero}
 use Rattle.move_core.specs.declared.errors.RulesError.{RulesError}
 use Rattle.move_core.specs.declared.errors.RulesError.TheVariants.{BadJson, Bad, Memory}
 use Rattle.move_core.specs.declared.errors.RulesWhy.{RulesWhy}
@@ -76,14 +77,6 @@ abbrev pub create_only : values.Data → Result CreateOnly RulesError
 create_only d = or_bad why.CreateOnly (as_array d) >>= pair
 
 -- ---- required values
-
--- the digit 0
-abbrev pub digit_zero : ℕ
-digit_zero = 48
-
--- the digit 7
-abbrev pub digit_seven : ℕ
-digit_seven = 55
 
 -- one digit from 0 to 7
 abbrev pub part_number : List ℕ → Option ℕ

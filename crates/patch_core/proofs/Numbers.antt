@@ -5,17 +5,18 @@ use Rattle.std.proofs.lemmas.List.{drop_more}
 use Rattle.std.proofs.lemmas.Bool.{ne_eqb}
 use Rattle.std.specs.List.{list_all}
 use Rattle.std.specs.Char.{is_ascii_digit}
-use Rattle.patch_core.specs.Indexes.{digit_0, index, is_dash, is_index, number, list_token, with_digit}
+use Rattle.host_core.specs.Characters.{digit_zero}
+use Rattle.patch_core.specs.Indexes.{index, is_dash, is_index, number, list_token, with_digit}
 
 and_true : (b : Bool) → (b && true) ≡ b
 and_true true = refl
 and_true false = refl
 
 -- digits that don't begin with a 0 are an index
-pub is_index_from_digits : (token : List ℕ) → 1 ≤ length token → get_or token 0 0 ≢ digit_0 → list_all is_ascii_digit token ≡ is_index token
+pub is_index_from_digits : (token : List ℕ) → 1 ≤ length token → get_or token 0 0 ≢ digit_zero → list_all is_ascii_digit token ≡ is_index token
 is_index_from_digits [] some first = absurd (omega arith)
 is_index_from_digits (d ∷ []) some first = and_true (is_ascii_digit d)
-is_index_from_digits (d ∷ e ∷ ds) some first = let k : (d == digit_0) ≡ false = ne_eqb d digit_0 first in ap (λ (b : Bool). not b && list_all is_ascii_digit (d ∷ e ∷ ds)) (sym k)
+is_index_from_digits (d ∷ e ∷ ds) some first = let k : (d == digit_zero) ≡ false = ne_eqb d digit_zero first in ap (λ (b : Bool). not b && list_all is_ascii_digit (d ∷ e ∷ ds)) (sym k)
 
 pub fold_grows : (n : ℕ) (ds : List ℕ) → n ≤ fold with_digit n ds
 fold_grows n [] = omega arith

@@ -1,6 +1,6 @@
 -- A `~` and what stands behind it, as a part of a pointer is read from the left.
 use Rattle.std.specs.Prelude.{◌≡◌, ◌++◌, ℕ, List, ◌∷◌, option_map}
-use Rattle.conf_doc.specs.Pointer.{tilde}
+use Rattle.host_core.specs.Characters.{tilde}
 use Rattle.patch_core.specs.Tokens.{token_of}
 
 -- a `~` before a text, of which after is left, is read as what the token gained

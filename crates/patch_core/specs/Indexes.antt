@@ -2,6 +2,7 @@
 use Rattle.std.specs.Prelude.{ℕ, ◌+◌, ◌-◌, ◌*◌, List, [], ◌∷◌, Bool, false, not, ◌&&◌, ◌==◌, fold, if◌then◌else◌}
 use Rattle.std.specs.List.{list_all}
 use Rattle.std.specs.Char.{is_ascii_digit}
+use Rattle.host_core.specs.Characters.{decimal_base, digit_zero, hyphen}
 
 -- what a token names in any list
 pub data ListToken : Type 0 where
@@ -12,27 +13,15 @@ pub data ListToken : Type 0 where
   -- nothing
   no_index : ListToken
 
--- the character `-`
-abbrev pub dash : ℕ
-dash = 45
-
--- the digit `0`
-abbrev pub digit_0 : ℕ
-digit_0 = 48
-
 -- `0`, or digits that don't begin with a 0
 abbrev pub is_index : List ℕ → Bool
 is_index [] = false
 is_index (d ∷ []) = is_ascii_digit d
-is_index (d ∷ e ∷ ds) = not (d == digit_0) && list_all is_ascii_digit (d ∷ e ∷ ds)
-
--- how many digits there are
-abbrev pub base : ℕ
-base = 10
+is_index (d ∷ e ∷ ds) = not (d == digit_zero) && list_all is_ascii_digit (d ∷ e ∷ ds)
 
 -- a number with one more digit
 abbrev pub with_digit : ℕ → ℕ → ℕ
-with_digit n d = base * n + (d - digit_0)
+with_digit n d = decimal_base * n + (d - digit_zero)
 
 -- the number that digits write
 abbrev pub number : List ℕ → ℕ
@@ -41,7 +30,7 @@ number digits = fold with_digit 0 digits
 -- the token is `-` alone
 abbrev pub is_dash : List ℕ → Bool
 is_dash [] = false
-is_dash (b ∷ []) = b == dash
+is_dash (b ∷ []) = b == hyphen
 is_dash (b ∷ c ∷ bs) = false
 
 -- what a token names there

@@ -1,18 +1,10 @@
 -- JSON Pointer (RFC 6901, sections 3 and 4): from text to tokens. It undoes `pointer`, by a law.
 use Rattle.std.specs.Prelude.{ℕ, List, [], ◌∷◌, ◌==◌, if◌then◌else◌, Option, Some, None, option_map, option_and_then, Result, Ok, Err}
 use Rattle.std.specs.List.{slice_split}
-use Rattle.conf_doc.specs.Pointer.{slash, tilde}
+use Rattle.host_core.specs.Characters.{digit_one, digit_zero, slash, tilde}
 use Rattle.patch_core.specs.Operation.{Tokens}
 use Rattle.patch_core.specs.declared.errors.PointerError.{PointerError}
 use Rattle.patch_core.specs.declared.errors.PointerError.TheVariants.{Malformed, Memory}
-
--- the digit `0`
-abbrev pub digit_0 : ℕ
-digit_0 = 48
-
--- the digit `1`
-abbrev pub digit_1 : ℕ
-digit_1 = 49
 
 -- a character in front
 abbrev pub in_front : ℕ → Option (List ℕ) → Option (List ℕ)
@@ -25,8 +17,8 @@ token_of [] = Some []
 token_of (b ∷ []) = if b == tilde then None else Some (b ∷ [])
 token_of (b ∷ c ∷ bs) =
     if b == tilde then (
-    if c == digit_0 then in_front tilde (token_of bs)
-    else if c == digit_1 then in_front slash (token_of bs)
+    if c == digit_zero then in_front tilde (token_of bs)
+    else if c == digit_one then in_front slash (token_of bs)
     else None)
     else in_front b (token_of (c ∷ bs))
 

@@ -1,7 +1,8 @@
 //! JSON Pointer (RFC 6901).
 ghost use Rattle.std.specs.Prelude.{◌≡◌, ◌∷◌, ◌<◌, ℕ, List, length, string_bytes, None, IfOk, IsErrOf};
-ghost use Rattle.conf_doc.specs.Pointer.{IsPointer, tilde};
+ghost use Rattle.conf_doc.specs.Pointer.{IsPointer};
 ghost use Rattle.host_core.specs.Answers.{Gives};
+ghost use Rattle.host_core.specs.Characters.{tilde};
 ghost use Rattle.patch_core.specs.Tokens.{token_of, tokens, tokens_of_parts, parts_of, or_malformed, pointer_fault};
 ghost use Rattle.patch_core.specs.Escapes.{Escapes};
 ghost use Rattle.patch_core.specs.declared.errors.PointerError.TheVariants.{Malformed};

@@ -6,7 +6,8 @@ use Rattle.std.proofs.lemmas.Bool.{and_parts}
 use borrow.Author.Tests.{leb-true}
 use Rattle.std.specs.Char.{is_ascii_digit}
 use Rattle.std.specs.List.{list_all}
-use Rattle.patch_core.specs.Indexes.{digit_0, number, with_digit}
+use Rattle.host_core.specs.Characters.{digit_zero}
+use Rattle.patch_core.specs.Indexes.{number, with_digit}
 use Rattle.patch_core.proofs.Numbers.{fold_grows}
 use Rattle.plan_options.specs.Decimals.{number_within}
 
@@ -29,14 +30,14 @@ too_large most digits more =
       | false ↦ λ e. ap (λ c. cond c (Some (number digits)) None) (sym (and_false (list_all is_ascii_digit digits)))
     ] refl
 
-first_counts : (d : ℕ) (ds : List ℕ) → is_ascii_digit d ≡ true → d ≢ digit_0 → 0 < number (d ∷ ds)
+first_counts : (d : ℕ) (ds : List ℕ) → is_ascii_digit d ≡ true → d ≢ digit_zero → 0 < number (d ∷ ds)
 first_counts d ds digit other =
     let low = leb-true 48 d (and_parts (nat_le 48 d) (nat_le d 57) digit).0 in
     let some : 0 < with_digit 0 d = omega arith in
     omega (arith, some, fold_grows (with_digit 0 d) ds)
 
 -- without a leading zero it isn't 0
-pub counts : (most : ℕ) (digits : List ℕ) (r : Option ℕ) → r ≡ number_within most digits → 0 < length digits → get_or digits 0 0 ≢ digit_0 → IfSome r (λ n. 0 < n)
+pub counts : (most : ℕ) (digits : List ℕ) (r : Option ℕ) → r ≡ number_within most digits → 0 < length digits → get_or digits 0 0 ≢ digit_zero → IfSome r (λ n. 0 < n)
 counts most [] r is some other = absurd (omega arith)
 counts most (d ∷ ds) r is some other =
     subst (λ o. IfSome o (λ n. 0 < n)) (sym is)

@@ -1,6 +1,6 @@
 -- The options of a command that plans.
 use Rattle.std.specs.Prelude.{ℕ, List, [], ◌∷◌, codes, Bool, true, false, ◌&&◌, ◌==◌, if◌then◌else◌, Option, Some, None, option_map}
-use Rattle.patch_core.specs.Indexes.{digit_0}
+use Rattle.host_core.specs.Characters.{digit_zero}
 use Rattle.plan_options.specs.Decimals.{number_within}
 use Rattle.plan_options.specs.Words.{is_word}
 
@@ -20,7 +20,7 @@ most_budget = 20000
 -- a decimal without leading zero, from 1 to the greatest budget
 abbrev pub budget_in : List ℕ → Option ℕ
 budget_in [] = None
-budget_in (d ∷ ds) = if d == digit_0 then None else number_within most_budget (d ∷ ds)
+budget_in (d ∷ ds) = if d == digit_zero then None else number_within most_budget (d ∷ ds)
 
 -- the word for a plan that is only printed
 abbrev pub dry_run_word : List ℕ

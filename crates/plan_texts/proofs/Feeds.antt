@@ -1,21 +1,22 @@
 -- A compact text has no line feed.
 use Rattle.std.proofs.Common.{◌≡◌, ◌≢◌, ℕ, zero, suc, ◌<◌, ◌==◌, Bool, true, false, not, ◌&&◌, List, [], ◌∷◌, inl, inr, refl, sym, subst, arith}
 use Rattle.std.proofs.lemmas.Bool.{and_parts, cases_lt, cases_eq}
+use Rattle.host_core.specs.Characters.{line_feed}
 use Rattle.json.specs.Print.{escape_byte, quoted}
 use Rattle.json.specs.Print as print
 use Rattle.json.proofs.Printed.Strings.{escape_byte_plain}
 use Rattle.serde_json.specs.Written.{comma_if, items_text, members_text}
 use Rattle.conf_doc.specs.Document.{Document, text, list, object, Items, no_items, item, Members, no_members, member}
 use Rattle.conf_doc.specs.Texts.{compact, item_values, member_values}
-use Rattle.plan_texts.specs.Lines.{HasNoFeed, feed}
+use Rattle.plan_texts.specs.Lines.{HasNoFeed}
 use Rattle.plan_texts.proofs.LineLemmas.{no_feed-append}
 
 abbrev has_none : List ℕ → Bool
 has_none [] = true
-has_none (x ∷ xs) = not (x == feed) && has_none xs
+has_none (x ∷ xs) = not (x == line_feed) && has_none xs
 
-is_other : (x : ℕ) → not (x == feed) ≡ true → x ≢ feed
-is_other x e same = let twice : not (feed == feed) ≡ true = subst (λ y. not (y == feed) ≡ true) same e in absurd cc
+is_other : (x : ℕ) → not (x == line_feed) ≡ true → x ≢ line_feed
+is_other x e same = let twice : not (line_feed == line_feed) ≡ true = subst (λ y. not (y == line_feed) ≡ true) same e in absurd cc
 
 tested : (xs : List ℕ) → has_none xs ≡ true → HasNoFeed xs
 tested [] e = tt

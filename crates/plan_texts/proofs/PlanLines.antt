@@ -4,13 +4,14 @@ use Rattle.std.specs.Prelude.{All}
 use Rattle.std.proofs.lemmas.Fmt.{decimal_by_steps}
 use Rattle.std.proofs.lemmas.List.{append-nil}
 use Rattle.std.proofs.lemmas.List.Elements.{All-append}
+use Rattle.host_core.specs.Characters.{line_feed as feed}
 use Rattle.conf_doc.specs.Texts.{line_feed}
 use Rattle.move_core.specs.Operations.{count_line, number_text, op, plan_line, plan_lines, plan_text}
 use Rattle.move_core.specs.declared.moves.Move.{Move}
 use Rattle.patch_core.specs.Writing.{operation_document}
 use Rattle.plan_texts.specs.Ends.{IsEnd}
 use Rattle.plan_texts.specs.declared.ends.End.TheVariants.{Good, Other, More}
-use Rattle.plan_texts.specs.Lines.{HasNoFeed, count_words, feed}
+use Rattle.plan_texts.specs.Lines.{HasNoFeed, count_words}
 use Rattle.plan_texts.specs.Moves.{move_text}
 use Rattle.plan_texts.specs.PlanTexts.{BeginsWith, Begins, HasNoCount, IsFirstFault, IsMove, IsPlanText, count_end}
 use Rattle.plan_texts.proofs.Feeds.{no_feed}

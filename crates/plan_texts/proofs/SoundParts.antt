@@ -4,11 +4,12 @@ use Rattle.std.proofs.lemmas.Bool.{and_parts, cases_eq}
 use Rattle.std.proofs.lemmas.Grind.{flat_map-append}
 use Rattle.std.proofs.lemmas.Str.{IsUtf8-append, IsUtf8-nil, IsUtf8-encode, encode_ascii}
 use lib.Utf8.{scalar, scalars, encode, encodes}
+use Rattle.host_core.specs.Characters.{slash}
 use Rattle.json.proofs.Printed.Utf8.{IsUtf8-are_ascii}
 use Rattle.conf_doc.specs.Configuration.{value_tree, entry_tree, table_tree, part_tree}
 use Rattle.conf_doc.specs.Document.{Document, text, object, items_of, members_of, depth, items_depth, members_depth}
 use Rattle.conf_doc.specs.Pairs.{IsRising}
-use Rattle.conf_doc.specs.Pointer.{escape, escaped, pointer, slash}
+use Rattle.conf_doc.specs.Pointer.{escape, escaped, pointer}
 use Rattle.conf_doc.specs.Sound.{IsSound, AreSoundItems, AreSoundMembers}
 use Rattle.conf_doc.specs.WellFormed.{AreTexts, Each, IsShaped, IsValue, IsEntry, IsTable}
 use Rattle.conf_doc.specs.declared.configuration.Entry.{Entry}

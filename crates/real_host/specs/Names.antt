@@ -1,10 +1,7 @@
 -- The names of files in the working folder.
 use Rattle.std.specs.Prelude.{◌≡◌, ◌≢◌, ◌⊎◌, ℕ, Bool, List, [], codes, IsFalse, nat_eq, ◌==◌}
 use Rattle.std.specs.List.{list_any, ends_with}
-
--- what parts the names of a path
-abbrev pub slash : ℕ
-slash = 47
+use Rattle.host_core.specs.Characters.{slash}
 
 -- dot and dot-dot, which name the folder and the one above
 abbrev pub AreDots : List ℕ → Type 0

@@ -7,7 +7,8 @@ use Rattle.std.proofs.lemmas.Str.{IsUtf8-from_is_utf8, is_utf8-from_IsUtf8}
 use Rattle.std.specs.List.{All, onto_first}
 use Rattle.std.specs.Str.{IsUtf8, is_utf8}
 use Rattle.host_core.specs.Answers.{map_ok}
-use Rattle.session_scripts.specs.Scripts.{before, feed, is_feed, last_of, line_at, line_of, line_of_words, lines_from, most_lines, pieces_of, script, words_of}
+use Rattle.host_core.specs.Characters.{line_feed}
+use Rattle.session_scripts.specs.Scripts.{before, is_feed, last_of, line_at, line_of, line_of_words, lines_from, most_lines, pieces_of, script, words_of}
 use Rattle.session_scripts.specs.declared.script_lines.ScriptLine.{ScriptLine}
 
 -- ---- a line
@@ -44,11 +45,11 @@ some_pieces xs = let long = length-slice_split is_feed xs in omega (arith, long)
 within : (n : ℕ) (piece : List ℕ) → n ≤ most_lines → line_at n piece ≡ line_of piece
 within n piece few = ap (λ b. if b then line_of piece else None) (le-leb n most_lines few)
 
-module _ (n : ℕ) (rest line after : List ℕ) (few : suc n ≤ most_lines) (none : All (λ b. is_feed b ≡ false) line) (is : rest ≡ line ++ feed ∷ after) where
+module _ (n : ℕ) (rest line after : List ℕ) (few : suc n ≤ most_lines) (none : All (λ b. is_feed b ≡ false) line) (is : rest ≡ line ++ line_feed ∷ after) where
   first_line : lines_from (suc n) (pieces_of rest) ≡ before (suc n) (line_of line) (lines_from (suc (suc n)) (pieces_of after))
   first_line =
       ap (λ t. lines_from (suc n) (pieces_of t)) is
-      ∙ ap (lines_from (suc n)) (slice_split_at is_feed line feed after none refl)
+      ∙ ap (lines_from (suc n)) (slice_split_at is_feed line line_feed after none refl)
       ∙ next_line (suc n) line (pieces_of after) (some_pieces after)
       ∙ ap (λ o. before (suc n) o (lines_from (suc (suc n)) (pieces_of after))) (within (suc n) line few)
 

@@ -3,6 +3,7 @@ use Rattle.std.specs.Prelude.{◌≡◌, ⊤, true, ℕ, suc, List, [], ◌∷�
 use Rattle.std.specs.List.{slice_split}
 use Rattle.std.specs.Str.{is_utf8}
 use Rattle.host_core.specs.Answers.{map_ok}
+use Rattle.host_core.specs.Characters.{line_feed, space}
 use Rattle.checkpoints.specs.Names.{is_good_name}
 use Rattle.plan_options.specs.Words.{is_word}
 use Rattle.session_scripts.specs.declared.script_lines.ScriptLine.{ScriptLine}
@@ -10,13 +11,9 @@ use Rattle.session_scripts.specs.declared.script_lines.ScriptLine.TheVariants.{B
 
 -- ---- a line
 
--- the code of a space
-abbrev pub blank : ℕ
-blank = 32
-
 -- what stands between the spaces of a text
 abbrev pub words_of : List ℕ → List (List ℕ)
-words_of text = slice_split (λ b. b == blank) text
+words_of text = slice_split (λ b. b == space) text
 
 -- `step NAME` or `end NAME`, by names as those of checkpoints
 abbrev pub line_of_two : (command name : List ℕ) → Option ScriptLine
@@ -51,13 +48,9 @@ line_of text = if is_utf8 text then line_of_words (words_of text) else None
 abbrev pub most_lines : ℕ
 most_lines = 256
 
--- the code of a line feed
-abbrev pub feed : ℕ
-feed = 10
-
 -- it ends a line
 abbrev pub is_feed : ℕ → Bool
-is_feed b = b == feed
+is_feed b = b == line_feed
 
 -- what stands before each line feed, and behind the last one
 abbrev pub pieces_of : List ℕ → List (List ℕ)

@@ -2,7 +2,8 @@
 ghost use Rattle.std.specs.Prelude.{◌≡◌, ◌≤◌, ◌∷◌, ◌++◌, IfOk, MatchOption, length, false};
 ghost use Rattle.std.specs.List.{All};
 ghost use Rattle.host_core.specs.Answers.{Gives};
-ghost use Rattle.session_scripts.specs.Scripts.{AreNamed, feed, is_feed, most_lines, script};
+ghost use Rattle.host_core.specs.Characters.{line_feed};
+ghost use Rattle.session_scripts.specs.Scripts.{AreNamed, is_feed, most_lines, script};
 ghost use Rattle.session_scripts.specs.ScriptFaults.{script_fault};
 
 use crate::ScriptError;
@@ -53,7 +54,7 @@ fn read_lines(alloc: Global, bytes: &[u8]) -> Result<Script, ScriptError>
 /// The first line of a text without its line feed, and what follows it. A text without a line feed has no line.
 fn split_line(text: &[u8]) -> Option<(&[u8], &[u8])>
     ensures { MatchOption result (All (λ b. is_feed b ≡ false) text.now)
-        (λ x. All (λ b. is_feed b ≡ false) x.0.now × (text.now ≡ x.0.now ++ feed ∷ x.1.now)) }
+        (λ x. All (λ b. is_feed b ≡ false) x.0.now × (text.now ≡ x.0.now ++ line_feed ∷ x.1.now)) }
 {
     for i in 0..text.len() {
         if text[i] == b'\n' {

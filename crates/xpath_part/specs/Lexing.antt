@@ -1,8 +1,7 @@
 -- The tokens of a text, byte by byte.
 use Rattle.std.specs.Prelude.{◌≡◌, ℕ, ◌==◌, ◌||◌, List, [], ◌∷◌, ◌++◌, Option, Some, None, option_map, option_and_then, if◌then◌else◌}
 use Rattle.std.specs.Option.{option_to_list}
-use Rattle.xpath_part.specs.Characters.{slash, open_group, close_group, open_bracket, close_bracket, equals, full_stop}
-use Rattle.xpath_part.specs.Characters.{exclamation_mark, less_than, more_than, single_quote, double_quote, colon}
+use Rattle.host_core.specs.Characters.{close_bracket, close_parenthesis, colon, double_quote, equals, exclamation_mark, full_stop, less_than, more_than, open_bracket, open_parenthesis, single_quote, slash}
 use Rattle.xpath_part.specs.Words.{is_blank, is_digit, is_name_start, is_name_byte, name_token, prefixed_token, literal_token, number_token}
 use Rattle.xpath_part.specs.declared.lexing.Mode.{Mode}
 use Rattle.xpath_part.specs.declared.lexing.Mode.TheVariants.{Between, Dot, Exclamation, Less as LessThan, More as MoreThan, Name as InName, Colon, Local, Literal as InLiteral, Number as InNumber}
@@ -28,8 +27,8 @@ whole (Some t) = Whole t
 abbrev pub sign_of : ℕ → Option Sign
 sign_of b =
     if b == slash then Some Slash
-    else if b == open_group then Some Open
-    else if b == close_group then Some Close
+    else if b == open_parenthesis then Some Open
+    else if b == close_parenthesis then Some Close
     else if b == open_bracket then Some OpenBracket
     else if b == close_bracket then Some CloseBracket
     else if b == equals then Some (Compare Equal)

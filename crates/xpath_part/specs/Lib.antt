@@ -10,7 +10,6 @@ pub mod Truth
 pub mod Coding
 pub mod Falls
 -- What only private clauses cite.
-pub mod Characters
 pub mod Detours
 pub mod Following
 pub mod Lexing

@@ -1,8 +1,7 @@
 -- What words stand for: names, literals and numbers (XPath 1.0, section 3.7, in a profile).
 use Rattle.std.specs.Prelude.{ℕ, ◌+◌, ◌-◌, ◌*◌, ◌==◌, ◌&&◌, ◌||◌, Bool, List, [], ◌∷◌, length, nat_le, Option, Some, None, option_map, if◌then◌else◌}
 use Rattle.std.specs.Str.{is_utf8}
-use Rattle.xpath_part.specs.Characters.{space, tab, line_feed, carriage_return, digit_zero, digit_nine, decimal_base}
-use Rattle.xpath_part.specs.Characters.{letter_a, letter_z, capital_a, capital_z, underscore, hyphen, full_stop}
+use Rattle.host_core.specs.Characters.{capital_a, capital_z, carriage_return, decimal_base, digit_nine, digit_zero, full_stop, hyphen, letter_a, letter_z, line_feed, space, tab, underscore}
 use Rattle.xpath_part.specs.declared.symbols.Token.{Token}
 use Rattle.xpath_part.specs.declared.symbols.Token.TheVariants.{Name, Literal, Number}
 

@@ -3,15 +3,12 @@ use Rattle.std.specs.Prelude.{ℕ, ◌==◌, not, nat_lt, List, [], ◌∷◌, �
 use Rattle.std.specs.List.{flat_map, list_any, slice_split}
 use Rattle.std.specs.Option.{option_to_list}
 use Rattle.std.specs.Str.{bytes_eq}
+use Rattle.host_core.specs.Characters.{space}
 use Rattle.yang_text.specs.Declarations.{Declaration, keyword, argument, line}
 use Rattle.yang_text.specs.declared.errors.ModelWhy.TheVariants.{BadArgument, UnknownName, TooMany}
 use Rattle.yang_scope.specs.declared.faults.Fault.{Fault}
 use Rattle.yang_faults.specs.Duplicates.{Given, given_twice}
 use Rattle.yang_faults.specs.Sentences.{fault_on}
-
--- what stands between the names of a key
-abbrev pub space : ℕ
-space = 32
 
 -- how many names a key may have
 abbrev pub most_key_leaves : ℕ

@@ -6,7 +6,8 @@ use Rattle.std.proofs.lemmas.List.Elements.{All-nil, All-cons, All-head, All-tai
 use Rattle.yang_text.specs.Declarations.{Declaration, declare, Block, no_more, more, declarations, block, weight, block_weight, total_weight}
 use Rattle.yang_scope.specs.Modules.{Module, module_in, modules_in, modules_of}
 use Rattle.yang_scope.specs.Statements.{is_keyword, children_of, each_from}
-use Rattle.yang_must.specs.Spots.{containers_in, containers_of, tables_of, shapes_of, is_shape}
+use Rattle.yang_scope.specs.Nodes.{is_shape}
+use Rattle.yang_must.specs.Spots.{containers_in, containers_of, tables_of, shapes_of}
 use Rattle.yang_model.specs.Sizes.{IsSmall, most_files, most_statements}
 
 light_block : (b : Block) (n : ℕ) → block_weight b ≤ n → All (λ d. weight d ≤ n) (declarations b)

@@ -3,6 +3,7 @@ use Rattle.std.specs.Prelude.{ℕ, ◌||◌, Bool, List, map, codes, filter, Opt
 use Rattle.std.specs.List.{find}
 use Rattle.yang_text.specs.Declarations.{Declaration, block}
 use Rattle.yang_scope.specs.Modules.{Module}
+use Rattle.yang_scope.specs.Nodes.{is_shape}
 use Rattle.yang_scope.specs.Paths.{is_named}
 use Rattle.yang_scope.specs.Statements.{is_keyword, children_of, each_from}
 
@@ -41,10 +42,6 @@ containers_of modules = each_from containers_in 0 modules
 -- the containers of the tables in one of a module
 abbrev pub tables_of : Declaration → List Declaration
 tables_of d = children_of (codes "container") d
-
--- a list or a fixed container
-abbrev pub is_shape : Declaration → Bool
-is_shape d = is_keyword (codes "list") d || is_keyword (codes "container") d
 
 -- the lists and fixed containers in a table's container
 abbrev pub shapes_of : Declaration → List Declaration

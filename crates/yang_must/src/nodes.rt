@@ -4,7 +4,8 @@ ghost use Rattle.yang_text.specs.Declarations.{Declaration};
 ghost use Rattle.yang_text.specs.Statements.{declaration};
 ghost use Rattle.yang_scope.specs.Paths.{is_named};
 ghost use Rattle.yang_scope.specs.Statements.{is_keyword};
-ghost use Rattle.yang_must.specs.Spots.{is_leaf, is_shape, leaves_of, shapes_of, tables_of};
+ghost use Rattle.yang_scope.specs.Nodes.{is_shape};
+ghost use Rattle.yang_must.specs.Spots.{is_leaf, leaves_of, shapes_of, tables_of};
 
 use host_core::Memory;
 use std::alloc::Global;

@@ -6,6 +6,7 @@ use Rattle.std.specs.Char.{len_utf8}
 use Rattle.std.proofs.lemmas.Bool.{true≢false}
 use Rattle.std.proofs.lemmas.List.{length-append}
 use Rattle.std.proofs.lemmas.Str.{chars-nil, chars-append, chars_past_char, IsUtf8-past_char, IsUtf8-take, IsCharBoundary-at_seam, length-encode}
+use Rattle.host_core.specs.Characters.{close_parenthesis}
 use Rattle.yang_pattern.specs.declared.letters.Letter.{Letter}
 use Rattle.yang_pattern.specs.declared.symbols.Quantifier.{Quantifier}
 use Rattle.yang_pattern.specs.declared.symbols.Token.{Token}
@@ -15,7 +16,6 @@ use Rattle.yang_pattern.specs.declared.tokens.Mode.TheVariants.{Outside}
 use Rattle.yang_pattern.specs.declared.tokens.Step.{Step}
 use Rattle.yang_pattern.specs.declared.faults.Standing.{Standing}
 use Rattle.yang_pattern.specs.declared.faults.Scan.{Scan}
-use Rattle.yang_pattern.specs.Characters.{close_group}
 use Rattle.yang_pattern.specs.Errors.{IsFaultFree}
 use Rattle.yang_pattern.specs.Letters.{letters_from, letter_of}
 use Rattle.yang_pattern.specs.Lexing.{lex, advance}
@@ -48,11 +48,11 @@ stand_times cs b q None n outer e h = absurd (h refl)
 stand_times cs b q (Some a) n outer e h = record { groups = e; atom = λ x. absurd (true≢false (sym x)) }
 
 -- the open groups are closed
-close_letters : (n : ℕ) → letters_from false (replicate n close_group) ≡ Some (replicate n (plain close_group))
+close_letters : (n : ℕ) → letters_from false (replicate n close_parenthesis) ≡ Some (replicate n (plain close_parenthesis))
 close_letters zero = refl
-close_letters (suc n) = ap (λ o. option_map (λ (ls : List Letter). plain close_group ∷ ls) o) (close_letters n)
+close_letters (suc n) = ap (λ o. option_map (λ (ls : List Letter). plain close_parenthesis ∷ ls) o) (close_letters n)
 
-close_tokens : (n : ℕ) → lex Outside (replicate n (plain close_group)) ≡ Some (replicate n Close)
+close_tokens : (n : ℕ) → lex Outside (replicate n (plain close_parenthesis)) ≡ Some (replicate n Close)
 close_tokens zero = refl
 close_tokens (suc n) = ap (λ o. option_map (λ (ts : List Token). Close ∷ ts) o) (close_tokens n)
 
@@ -64,8 +64,8 @@ pub whole_begins : (cs : List ℕ) (scan : Scan) → scan.after_backslash ≡ fa
 whole_begins cs scan after outside is =
     let l = is.lexed in
     let n = length l.progress.outer in
-    let rest = replicate n close_group in
-    let ends = replicate n (plain close_group) in
+    let rest = replicate n close_parenthesis in
+    let ends = replicate n (plain close_parenthesis) in
     let closes = replicate n Close in
     let letters : letters_from false (cs ++ rest) ≡ Some (is.letters ++ ends) =
     is.reads rest

@@ -1,9 +1,9 @@
 -- The items of a class (RFC 7950, section 9.4.5, and XML Schema, appendix F), letter by letter.
 use Rattle.std.specs.Prelude.{ℕ, ◌==◌, nat_le, Bool, true, List, [], ◌∷◌, ◌++◌, Option, Some, None, if◌then◌else◌}
+use Rattle.host_core.specs.Characters.{circumflex, hyphen, open_bracket}
 use Rattle.yang_pattern.specs.declared.letters.Letter.{Letter}
 use Rattle.yang_pattern.specs.declared.classes.Item.{Item}
 use Rattle.yang_pattern.specs.declared.classes.Item.TheVariants.{Start, Negated, Done, Bound, Range, Dash}
-use Rattle.yang_pattern.specs.Characters.{hyphen, open_bracket, circumflex}
 
 -- a dash: first or last it means itself, between two bounds it makes a range
 abbrev pub dash_at : Bool → List (ℕ × ℕ) → Item → Option (Bool × List (ℕ × ℕ) × Item)

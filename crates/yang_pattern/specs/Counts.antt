@@ -1,12 +1,12 @@
 -- The numbers of a quantifier, letter by letter.
 use Rattle.std.specs.Prelude.{ℕ, ◌+◌, ◌-◌, ◌*◌, ◌==◌, ◌&&◌, nat_le, Option, Some, None, option_map, if◌then◌else◌}
+use Rattle.host_core.specs.Characters.{comma, decimal_base, digit_nine, digit_zero}
 use Rattle.yang_pattern.specs.declared.letters.Letter.{Letter}
 use Rattle.yang_pattern.specs.declared.symbols.Quantifier.{Quantifier}
 use Rattle.yang_pattern.specs.declared.symbols.Quantifier.TheVariants.{AtLeast, Between}
 use Rattle.yang_pattern.specs.declared.counts.OpenCount.{OpenCount}
 use Rattle.yang_pattern.specs.declared.counts.OpenCount.TheVariants.{First, Second}
-use Rattle.yang_pattern.specs.Characters.{comma, digit_zero, digit_nine}
-use Rattle.yang_pattern.specs.Limits.{decimal_base, greatest_count}
+use Rattle.yang_pattern.specs.Limits.{greatest_count}
 
 -- a decimal with one digit more: no leading zero, and at most 255
 abbrev pub with_digit : Option ℕ → ℕ → Option ℕ

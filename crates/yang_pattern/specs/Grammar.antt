@@ -1,15 +1,13 @@
 -- How texts spell patterns (RFC 7950, section 9.4.5, and XML Schema part 2, appendix F, in a profile).
 use Rattle.std.specs.Prelude.{◌≡◌, ◌≢◌, ℕ, ◌+◌, ◌≤◌, ◌==◌, ◌||◌, not, ◌⊎◌, Bool, true, false, IsTrue, List, [], ◌∷◌, ◌++◌, map, Some, ◌/◌, ◌%◌, nat_lt, if◌then◌else◌}
+use Rattle.host_core.specs.Characters.{backslash, bar, carriage_return, circumflex, close_brace, close_bracket, close_parenthesis, comma, decimal_base, digit_zero, full_stop, hyphen, line_feed, open_brace, open_bracket, open_parenthesis, plus, question_mark, star}
 use Rattle.yang_pattern.specs.declared.letters.Letter.{Letter}
 use Rattle.yang_pattern.specs.declared.symbols.Quantifier.{Quantifier}
 use Rattle.yang_pattern.specs.declared.symbols.Quantifier.TheVariants.{OneOrMore, AtLeast, Between}
 use Rattle.yang_pattern.specs.declared.symbols.Token.{Token}
 use Rattle.yang_pattern.specs.declared.symbols.Token.TheVariants.{Open, Close, Bar, Times, Symbol}
 use Rattle.yang_pattern.specs.Escapes.{escaped_character}
-use Rattle.yang_pattern.specs.Characters.{line_feed, carriage_return, open_group, close_group, bar, star, plus, question_mark}
-use Rattle.yang_pattern.specs.Characters.{full_stop, backslash, comma, hyphen, circumflex, open_bracket, close_bracket, open_brace, close_brace}
-use Rattle.yang_pattern.specs.Characters.{digit_zero}
-use Rattle.yang_pattern.specs.Limits.{decimal_base, three_digits, greatest_count}
+use Rattle.yang_pattern.specs.Limits.{three_digits, greatest_count}
 
 -- a letter's characters: one other than a backslash, or a backslash and what it escapes
 abbrev pub IsLetter : Bool → ℕ → List ℕ → Type 0
@@ -30,7 +28,7 @@ plain c = record { character = c; escaped = false }
 abbrev pub is_special : ℕ → Bool
 is_special c =
     c == full_stop || c == question_mark || c == star || c == plus
-    || c == open_brace || c == close_brace || c == open_group || c == close_group
+    || c == open_brace || c == close_brace || c == open_parenthesis || c == close_parenthesis
     || c == open_bracket || c == close_bracket || c == bar
 
 -- an escape or a character that isn't special: itself
@@ -129,8 +127,8 @@ IsQuantifier (Between n m) ls =
 
 -- the letters of a token
 abbrev pub IsToken : Token → List Letter → Type 0
-IsToken Open ls = ls ≡ plain open_group ∷ []
-IsToken Close ls = ls ≡ plain close_group ∷ []
+IsToken Open ls = ls ≡ plain open_parenthesis ∷ []
+IsToken Close ls = ls ≡ plain close_parenthesis ∷ []
 IsToken Bar ls = ls ≡ plain bar ∷ []
 IsToken (Times q) ls = IsQuantifier q ls
 IsToken (Symbol y) ls = IsSingle y ls ⊎ (IsAny y ls ⊎ IsClass y ls)

@@ -1,8 +1,8 @@
 -- How the letters of a text are read, character by character.
 use Rattle.std.specs.Prelude.{ℕ, ◌==◌, ◌&&◌, not, Bool, true, false, List, [], ◌∷◌, Option, Some, None, option_map, option_and_then, if◌then◌else◌}
+use Rattle.host_core.specs.Characters.{backslash}
 use Rattle.yang_pattern.specs.declared.letters.Letter.{Letter}
 use Rattle.yang_pattern.specs.Escapes.{escaped_character}
-use Rattle.yang_pattern.specs.Characters.{backslash}
 
 -- a character, which may stand behind a backslash
 abbrev pub letter_of : Bool → ℕ → Option Letter

@@ -1,5 +1,6 @@
 -- The tokens of a list of letters.
 use Rattle.std.specs.Prelude.{ℕ, ◌==◌, ◌||◌, ◌&&◌, not, Bool, true, false, List, [], ◌∷◌, ◌++◌, Option, Some, None, option_map, option_and_then, option_to_list, if◌then◌else◌}
+use Rattle.host_core.specs.Characters.{bar, carriage_return, close_brace, close_bracket, close_parenthesis, full_stop, line_feed, open_brace, open_bracket, open_parenthesis, plus, question_mark, star}
 use Rattle.yang_pattern.specs.declared.letters.Letter.{Letter}
 use Rattle.yang_pattern.specs.declared.symbols.Quantifier.TheVariants.{OneOrMore, AtLeast, Between}
 use Rattle.yang_pattern.specs.declared.symbols.Token.{Token}
@@ -11,8 +12,6 @@ use Rattle.yang_pattern.specs.declared.counts.OpenCount.TheVariants.{First}
 use Rattle.yang_pattern.specs.declared.tokens.Mode.{Mode}
 use Rattle.yang_pattern.specs.declared.tokens.Mode.TheVariants.{Outside, Class, Count}
 use Rattle.yang_pattern.specs.declared.tokens.Step.{Step}
-use Rattle.yang_pattern.specs.Characters.{line_feed, carriage_return, open_group, close_group, bar, star, plus, question_mark}
-use Rattle.yang_pattern.specs.Characters.{full_stop, open_bracket, close_bracket, open_brace, close_brace}
 use Rattle.yang_pattern.specs.Classes.{class_with, class_close}
 use Rattle.yang_pattern.specs.Counts.{count_with, count_close}
 
@@ -27,8 +26,8 @@ any = (true, (line_feed, line_feed) ∷ (carriage_return, carriage_return) ∷ [
 -- a character that is a token
 abbrev pub token_at : ℕ → Token
 token_at c =
-    if c == open_group then Open
-    else if c == close_group then Close
+    if c == open_parenthesis then Open
+    else if c == close_parenthesis then Close
     else if c == bar then Bar
     else if c == star then Times (AtLeast 0)
     else if c == plus then Times OneOrMore

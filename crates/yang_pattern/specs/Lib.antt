@@ -1,5 +1,4 @@
 -- What public clauses cite.
-pub mod Characters
 pub mod Decided
 pub mod Errors
 pub mod Escapes

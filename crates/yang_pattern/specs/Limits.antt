@@ -13,10 +13,6 @@ deepest_group = 32
 abbrev pub greatest_count : ℕ
 greatest_count = 255
 
--- how many digits there are
-abbrev pub decimal_base : ℕ
-decimal_base = 10
-
 -- the least number of three digits
 abbrev pub three_digits : ℕ
 three_digits = 100

@@ -1,5 +1,5 @@
 -- The types that are built in (RFC 7950, section 9; RFC 6991), in a profile.
-use Rattle.std.specs.Prelude.{ℕ, ℤ, pos, negsuc, Bool, List, [], ◌∷◌, Option, Some, None, codes, option_map, if◌then◌else◌}
+use Rattle.std.specs.Prelude.{ℕ, ◌-◌, ◌^◌, ℤ, pos, negsuc, Bool, List, [], ◌∷◌, Option, Some, None, codes, option_map, if◌then◌else◌}
 use Rattle.std.specs.List.{list_any}
 use Rattle.std.specs.Str.{bytes_eq}
 use Rattle.yang_types.specs.declared.types.Bounds.{Bounds}
@@ -25,30 +25,6 @@ is_built_in_type s = list_any (λ t. bytes_eq t s) built_in_types
 abbrev within : ℤ → ℤ → Option Bounds
 within low high = Some (record { low = low; high = high })
 
-abbrev most_in_int8 : ℕ
-most_in_int8 = 127
-
-abbrev most_in_int16 : ℕ
-most_in_int16 = 32767
-
-abbrev most_in_int32 : ℕ
-most_in_int32 = 2147483647
-
-abbrev most_in_int64 : ℕ
-most_in_int64 = 9223372036854775807
-
-abbrev most_in_uint8 : ℕ
-most_in_uint8 = 255
-
-abbrev most_in_uint16 : ℕ
-most_in_uint16 = 65535
-
-abbrev most_in_uint32 : ℕ
-most_in_uint32 = 4294967295
-
-abbrev most_in_uint64 : ℕ
-most_in_uint64 = 18446744073709551615
-
 -- from the number below the negated greatest one to that
 abbrev signed_up_to : ℕ → Option Bounds
 signed_up_to greatest = within (negsuc greatest) (pos greatest)
@@ -60,14 +36,14 @@ up_to greatest = within (pos 0) (pos greatest)
 -- the integer types (RFC 7950, section 9.2)
 abbrev pub integers_named : List ℕ → Option Bounds
 integers_named s =
-    if bytes_eq s (codes "int8") then signed_up_to most_in_int8
-    else if bytes_eq s (codes "int16") then signed_up_to most_in_int16
-    else if bytes_eq s (codes "int32") then signed_up_to most_in_int32
-    else if bytes_eq s (codes "int64") then signed_up_to most_in_int64
-    else if bytes_eq s (codes "uint8") then up_to most_in_uint8
-    else if bytes_eq s (codes "uint16") then up_to most_in_uint16
-    else if bytes_eq s (codes "uint32") then up_to most_in_uint32
-    else if bytes_eq s (codes "uint64") then up_to most_in_uint64
+    if bytes_eq s (codes "int8") then signed_up_to (2 ^ 7 - 1)
+    else if bytes_eq s (codes "int16") then signed_up_to (2 ^ 15 - 1)
+    else if bytes_eq s (codes "int32") then signed_up_to (2 ^ 31 - 1)
+    else if bytes_eq s (codes "int64") then signed_up_to (2 ^ 63 - 1)
+    else if bytes_eq s (codes "uint8") then up_to (2 ^ 8 - 1)
+    else if bytes_eq s (codes "uint16") then up_to (2 ^ 16 - 1)
+    else if bytes_eq s (codes "uint32") then up_to (2 ^ 32 - 1)
+    else if bytes_eq s (codes "uint64") then up_to (2 ^ 64 - 1)
     else None
 
 -- the built-in types of the profile

@@ -1,33 +1,7 @@
 -- Identifiers (RFC 7950, section 6.2).
 use Rattle.std.specs.Prelude.{ℕ, ◌==◌, ◌&&◌, ◌||◌, nat_le, Bool, false, List, [], ◌∷◌}
 use Rattle.std.specs.List.{list_all}
-
-abbrev underscore : ℕ
-underscore = 95
-
-abbrev dash : ℕ
-dash = 45
-
-abbrev dot : ℕ
-dot = 46
-
-abbrev first_capital : ℕ
-first_capital = 65
-
-abbrev last_capital : ℕ
-last_capital = 90
-
-abbrev first_small : ℕ
-first_small = 97
-
-abbrev last_small : ℕ
-last_small = 122
-
-abbrev first_digit : ℕ
-first_digit = 48
-
-abbrev last_digit : ℕ
-last_digit = 57
+use Rattle.host_core.specs.Characters.{capital_a, capital_z, digit_nine, digit_zero, full_stop, hyphen, letter_a, letter_z, underscore}
 
 -- a character in a range
 abbrev pub is_between : ℕ → ℕ → ℕ → Bool
@@ -35,11 +9,11 @@ is_between low high c = nat_le low c && nat_le c high
 
 -- an ASCII letter
 abbrev pub is_letter : ℕ → Bool
-is_letter c = is_between first_capital last_capital c || is_between first_small last_small c
+is_letter c = is_between capital_a capital_z c || is_between letter_a letter_z c
 
 -- an ASCII digit
 abbrev pub is_digit : ℕ → Bool
-is_digit c = is_between first_digit last_digit c
+is_digit c = is_between digit_zero digit_nine c
 
 -- a letter or `_`
 abbrev pub begins_identifier : ℕ → Bool
@@ -47,7 +21,7 @@ begins_identifier c = is_letter c || c == underscore
 
 -- letters, digits, `_`, `-` and `.`
 abbrev pub continues_identifier : ℕ → Bool
-continues_identifier c = begins_identifier c || is_digit c || c == dash || c == dot
+continues_identifier c = begins_identifier c || is_digit c || c == hyphen || c == full_stop
 
 -- RFC 7950, section 6.2
 abbrev pub is_identifier : List ℕ → Bool

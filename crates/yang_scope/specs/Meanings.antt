@@ -3,6 +3,7 @@ use Rattle.std.specs.Prelude.{ℕ, suc, zero, ◌==◌, ◌^◌, Bool, List, Opt
 use Rattle.std.specs.Option.{option_map_or}
 use Rattle.std.specs.List.{list_any, before_first, after_first}
 use Rattle.std.specs.Str.{bytes_eq}
+use Rattle.host_core.specs.Characters.{colon}
 use Rattle.yang_text.specs.Declarations.{Declaration, argument, block}
 use Rattle.yang_scope.specs.Bases.{is_built_in_type, base_named, inet_named, yang_named}
 use Rattle.yang_scope.specs.Modules.{Module, module_entries, typedef_entries, prefix_entries}
@@ -13,9 +14,6 @@ use Rattle.yang_scope.specs.declared.meanings.Meaning.{Meaning}
 use Rattle.yang_scope.specs.declared.meanings.Meaning.TheVariants.{Ends, Goes, Nothing}
 use Rattle.yang_scope.specs.declared.meanings.Space.{Space}
 use Rattle.yang_scope.specs.declared.meanings.Space.TheVariants.{Files, Inet, Yang, Nowhere}
-
-abbrev colon : ℕ
-colon = 58
 
 -- a character between a prefix and a name
 abbrev pub is_colon : ℕ → Bool

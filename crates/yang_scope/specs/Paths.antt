@@ -3,18 +3,13 @@ use Rattle.std.specs.Prelude.{ℕ, suc, ◌==◌, ◌&&◌, Bool, true, false, L
 use Rattle.std.specs.List.{list_any, list_all, find, before_first, after_first}
 use Rattle.std.specs.Option.{option_map_or}
 use Rattle.std.specs.Str.{bytes_eq}
+use Rattle.host_core.specs.Characters.{slash, space}
 use Rattle.yang_text.specs.Declarations.{Declaration, argument, block}
 use Rattle.yang_scope.specs.Identifiers.{is_identifier}
 use Rattle.yang_scope.specs.Meanings.{is_colon, prefix_giver}
 use Rattle.yang_scope.specs.Modules.{Module}
 use Rattle.yang_scope.specs.Pieces.{pieces}
 use Rattle.yang_scope.specs.Statements.{is_keyword, first_child}
-
-abbrev slash : ℕ
-slash = 47
-
-abbrev space : ℕ
-space = 32
 
 abbrev path_steps : ℕ
 path_steps = 4

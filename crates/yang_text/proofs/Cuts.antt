@@ -7,7 +7,8 @@ use Rattle.std.proofs.lemmas.Bool.Decides.{nat_tests}
 use Rattle.std.proofs.lemmas.List.{drop_more, drop_all, length-drop, length-append}
 use Rattle.std.proofs.lemmas.List.Elements.{All-from_recursion}
 use Rattle.std.proofs.lemmas.Str.{IsCharBoundary-start, IsCharBoundary-end, IsCharBoundary-before_ascii, IsCharBoundary-after_ascii}
-use Rattle.yang_text.specs.Bytes.{feed, is_blank, is_escapable, ends_word, double_quote, single_quote, star, slash, semicolon, backslash, open_brace, close_brace}
+use Rattle.host_core.specs.Characters.{backslash, close_brace, double_quote, line_feed, open_brace, semicolon, single_quote, slash, star}
+use Rattle.yang_text.specs.Bytes.{is_blank, is_escapable, ends_word}
 use Rattle.yang_text.specs.Lexing.{lex, tokens, advance, window, next_line, open_fault, brings, blames, word, outside, outside_signs, in_line, in_block, in_single, in_double}
 use Rattle.yang_text.specs.Texts.{IsWithin, IsCut}
 use Rattle.yang_text.specs.declared.lexing.Kind.{Kind}
@@ -134,7 +135,7 @@ outside_holds text P w places shows here =
 line_holds : (text : List ℕ) (P : ℕ → Type 0) (w : Window) → HasPlaces text P → Shows text w → StepHolds text P (w.at + 1) (in_line w)
 unfolding Keeps
 line_holds text P w places shows =
-    split (StepHolds text P (w.at + 1)) (nat_eq w.byte feed) _ _ (λ e. record { token = tt; mode = after_low text P w places shows (low w.byte 10 e (omega arith)) }) (λ e. record { token = tt; mode = tt })
+    split (StepHolds text P (w.at + 1)) (nat_eq w.byte line_feed) _ _ (λ e. record { token = tt; mode = after_low text P w places shows (low w.byte 10 e (omega arith)) }) (λ e. record { token = tt; mode = tt })
 
 block_holds : (text : List ℕ) (P : ℕ → Type 0) (w : Window) (l : ℕ) → HasPlaces text P → Shows text w → StepHolds text P (w.at + 1) (in_block l w)
 unfolding Keeps
@@ -206,13 +207,13 @@ window_shows text at line b bs e =
     let more : drop at text ≡ get_or text at 0 ∷ drop (at + 1) text = drop_more text at 0 inside in
     (inside, cc, cc)
 
-first_of_rest : (text : List ℕ) (at : ℕ) (bs : List ℕ) → drop at text ≡ bs → at < length text → get_or text at 0 ≡ slice_index_or bs 0 feed
+first_of_rest : (text : List ℕ) (at : ℕ) (bs : List ℕ) → drop at text ≡ bs → at < length text → get_or text at 0 ≡ slice_index_or bs 0 line_feed
 first_of_rest text at bs e h =
     let more : drop at text ≡ get_or text at 0 ∷ drop (at + 1) text = drop_more text at 0 h in
-    ap (λ xs. slice_index_or xs 0 feed) (sym more ∙ e)
+    ap (λ xs. slice_index_or xs 0 line_feed) (sym more ∙ e)
 
-none_of_rest : (text : List ℕ) (at : ℕ) (bs : List ℕ) → drop at text ≡ bs → at ≡ length text → slice_index_or bs 0 feed ≡ 10
-none_of_rest text at bs e h = ap (λ xs. slice_index_or xs 0 feed) (sym e ∙ drop_all at text (omega arith))
+none_of_rest : (text : List ℕ) (at : ℕ) (bs : List ℕ) → drop at text ≡ bs → at ≡ length text → slice_index_or bs 0 line_feed ≡ 10
+none_of_rest text at bs e h = ap (λ xs. slice_index_or xs 0 line_feed) (sym e ∙ drop_all at text (omega arith))
 
 lex_holds : (text : List ℕ) (P : ℕ → Type 0) (bs : List ℕ) (mode : Mode) (at line : ℕ) → HasPlaces text P → drop at text ≡ bs → at ≤ length text → Keeps text P mode at → AllByRecursion (HoldsAround P) (lex mode at line bs)
 unfolding lex

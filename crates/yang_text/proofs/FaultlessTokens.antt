@@ -3,7 +3,7 @@ use Rattle.std.proofs.Common.{◌≡◌, ◌<◌, ◌+◌, ◌-◌, ◌⊎◌, �
 use Rattle.std.proofs.lemmas.Bool.Decides.{nat_tests}
 use Rattle.std.proofs.lemmas.List.{append-nil, nil_from_length}
 use Rattle.yang_text.specs.Building.{Level, Progress, nothing, build, step_by, joined_by, join, argument_of, statement_of, with_block, finish}
-use Rattle.yang_text.specs.Bytes.{plus, is_keyword}
+use Rattle.yang_text.specs.Bytes.{is_keyword}
 use Rattle.yang_text.specs.Declarations.{Declaration, block_of}
 use Rattle.yang_text.specs.Faults.{faults_from, fault_at, refusal, phase_after, depth_after, class_of, class_by, begins_with_plus}
 use Rattle.yang_text.specs.Grammar.{IsQuoted, AreParts, AreMoreParts, IsArgument, IsName, IsStatement, AreStatements}
@@ -20,6 +20,7 @@ use Rattle.yang_text.specs.declared.lexing.Kind.{Kind}
 use Rattle.yang_text.specs.declared.lexing.Kind.TheVariants.{Word, Single, Double, Semicolon, Open, Close, Bad}
 use Rattle.yang_text.specs.declared.lexing.Token.{Token}
 use Rattle.std.specs.List.{AllByRecursion}
+use Rattle.host_core.specs.Characters.{plus}
 use Rattle.yang_text.proofs.Spellings.{with_head}
 use Rattle.yang_text.proofs.TextPieces.{IsSound}
 

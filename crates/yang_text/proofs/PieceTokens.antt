@@ -2,7 +2,8 @@
 use Rattle.std.proofs.Common.{◌≡◌, ◌+◌, ℕ, Bool, true, false, cond, List, [], ◌∷◌, ◌++◌, length, option_to_list, slice_index_or, refl, sym, ap, ◌∙◌, append_assoc, arith, nat_eq, inl, inr, not, ◌&&◌, ◌||◌}
 use Rattle.std.proofs.lemmas.Bool.Decides.{nat_tests}
 use Rattle.std.proofs.lemmas.List.{length-append}
-use Rattle.yang_text.specs.Bytes.{feed, double_quote, single_quote, star, slash, semicolon, backslash, open_brace, close_brace, is_blank, is_word_byte, is_comment_sign, is_escapable, ends_word}
+use Rattle.host_core.specs.Characters.{backslash, close_brace, double_quote, line_feed, open_brace, semicolon, single_quote, slash, star}
+use Rattle.yang_text.specs.Bytes.{is_blank, is_word_byte, is_comment_sign, is_escapable, ends_word}
 use Rattle.yang_text.specs.Lexing.{lex, advance, window, next_line, open_fault, quiet, brings, blames, outside, outside_signs, in_line, in_block, in_single, in_double}
 use Rattle.yang_text.specs.Lexing as lexing
 use Rattle.yang_text.specs.Pieces.{Piece, blank, line_comment, block_comment, word, single, double, end_sign, open_sign, close_sign, spelling, text_of, Lacks, EndsLine, IsComment, ends_run, IsRun, IsQuotable, IsFit, AreFit, token_of, feeds, tokens_of}
@@ -31,21 +32,21 @@ take_else true x y e = absurd (cc)
 moves : (mode : Mode) (at line : ℕ) (n m : ℕ) (bs : List ℕ) (a l : ℕ) → a ≡ at + n → l ≡ line + m → lex mode a l bs ≡ lex mode (at + n) (line + m) bs
 moves mode at line n m bs a l e f = ap (λ x. lex mode x l bs) e ∙ ap (λ y. lex mode (at + n) y bs) f
 
-line_on : (line b : ℕ) → (nat_eq b feed ≡ false) → next_line line b ≡ line
-line_on line b e = take_else (nat_eq b feed) _ _ e
+line_on : (line b : ℕ) → (nat_eq b line_feed ≡ false) → next_line line b ≡ line
+line_on line b e = take_else (nat_eq b line_feed) _ _ e
 
 feeds_one : (b : ℕ) (bs : List ℕ) (line : ℕ) → next_line line b + feeds bs ≡ line + feeds (b ∷ bs)
-feeds_one b bs line = by_test (nat_eq b feed) line (feeds bs)
+feeds_one b bs line = by_test (nat_eq b line_feed) line (feeds bs)
   where
     by_test : (x : Bool) (l n : ℕ) → cond x (l + 1) l + n ≡ l + (cond x 1 0 + n)
     by_test true l n = omega arith
     by_test false l n = omega arith
 
 -- up to the end of the line
-line_run : (c after : List ℕ) (at line : ℕ) → Lacks feed c → lex Line at line (c ++ after) ≡ lex Line (at + length c) line after
+line_run : (c after : List ℕ) (at line : ℕ) → Lacks line_feed c → lex Line at line (c ++ after) ≡ lex Line (at + length c) line after
 line_run [] after at line h = ap (λ a. lex Line a line after) (let e : at ≡ at + 0 = omega arith in e)
 line_run (b ∷ c) after at line (n, h) =
-    byte_step Line at line b (c ++ after) (quiet Line) (take_else (nat_eq b feed) _ _ n)
+    byte_step Line at line b (c ++ after) (quiet Line) (take_else (nat_eq b line_feed) _ _ n)
     ∙ ap (λ l. lex Line (at + 1) l (c ++ after)) (line_on line b n)
     ∙ line_run c after (at + 1) line h
     ∙ ap (λ a. lex Line a line after) (let e : at + 1 + length c ≡ at + length (b ∷ c) = omega arith in e)
@@ -55,7 +56,7 @@ unfolding lex
 line_end [] at line h = refl
 line_end (b ∷ bs) at line h = ap (λ x. lex Line at line (x ∷ bs)) h ∙ sym (ap (λ x. lex Outside at line (x ∷ bs)) h)
 
-lacks_feeds : (c : List ℕ) → Lacks feed c → feeds c ≡ 0
+lacks_feeds : (c : List ℕ) → Lacks line_feed c → feeds c ≡ 0
 lacks_feeds [] h = refl
 lacks_feeds (b ∷ c) (n, h) = grind (arith, nat_tests, n, lacks_feeds c h)
 
@@ -96,16 +97,16 @@ goes_on b next e =
     let (line, block) = and_or (nat_eq b slash) (nat_eq next slash) (nat_eq next star) slashes in
     record { blank = white; double = quotes; single = apostrophe; end = end; opening = opening; closing = closing; line = line; block = block; stray = stray }
 
-no_feed : (b : ℕ) → is_blank b ≡ false → nat_eq b feed ≡ false
-no_feed b e = (or_false (nat_eq b 32 || nat_eq b 9 || nat_eq b 13) (nat_eq b feed) e).1
+no_feed : (b : ℕ) → is_blank b ≡ false → nat_eq b line_feed ≡ false
+no_feed b e = (or_false (nat_eq b 32 || nat_eq b 9 || nat_eq b 13) (nat_eq b line_feed) e).1
 
 word_begins : (at line b : ℕ) (bs : List ℕ) → ends_run (b ∷ bs) ≡ false → advance Outside (window at line (b ∷ bs)) ≡ lexing.word at (window at line (b ∷ bs))
 word_begins at line b bs e =
-    let g = goes_on b (slice_index_or bs 0 feed) e in
+    let g = goes_on b (slice_index_or bs 0 line_feed) e in
     take_else (is_blank b) _ _ g.blank ∙ take_else (nat_eq b semicolon) _ _ g.end ∙ take_else (nat_eq b open_brace) _ _ g.opening ∙ take_else (nat_eq b close_brace) _ _ g.closing
     ∙ take_else (nat_eq b double_quote) _ _ g.double ∙ take_else (nat_eq b single_quote) _ _ g.single
-    ∙ take_else (nat_eq b slash && nat_eq (slice_index_or bs 0 feed) slash) _ _ g.line ∙ take_else (nat_eq b slash && nat_eq (slice_index_or bs 0 feed) star) _ _ g.block
-    ∙ take_else (nat_eq b star && nat_eq (slice_index_or bs 0 feed) slash) _ _ g.stray
+    ∙ take_else (nat_eq b slash && nat_eq (slice_index_or bs 0 line_feed) slash) _ _ g.line ∙ take_else (nat_eq b slash && nat_eq (slice_index_or bs 0 line_feed) star) _ _ g.block
+    ∙ take_else (nat_eq b star && nat_eq (slice_index_or bs 0 line_feed) slash) _ _ g.stray
 
 -- a token, and what follows it
 abbrev ends : Kind → ℕ → ℕ → ℕ → ℕ → ℕ → List ℕ → List Token
@@ -125,15 +126,15 @@ run_tokens (c ∷ w) after b s at line (e, h) =
     ap (λ (x : Step). option_to_list x.token ++ lex x.mode (at + 1) line ((c ∷ w) ++ after)) (take_else (ends_run (c ∷ (w ++ after))) (brings kinds.Word line s (at + 1)) (quiet (Word s)) e)
     ∙ byte_step (Word s) (at + 1) line c (w ++ after) (lexing.word s (window (at + 1) line (c ∷ (w ++ after)))) refl
     ∙ ap (λ l. option_to_list (lexing.word s (window (at + 1) line (c ∷ (w ++ after)))).token ++ lex (lexing.word s (window (at + 1) line (c ∷ (w ++ after)))).mode (at + 1 + 1) l (w ++ after))
-    (line_on line c (no_feed c (goes_on c (slice_index_or (w ++ after) 0 feed) e).blank))
+    (line_on line c (no_feed c (goes_on c (slice_index_or (w ++ after) 0 line_feed) e).blank))
     ∙ run_tokens w after c s (at + 1) line h
     ∙ ends_at kinds.Word line s (at + 1 + 1 + length w) (at + 1 + length (c ∷ w)) (at + 1 + 1 + length w) (at + 1 + length (c ∷ w)) line line after (omega arith) (omega arith) refl
 
 word_feeds : (w after : List ℕ) → IsRun w after → feeds w ≡ 0
 word_feeds [] after h = refl
-word_feeds (b ∷ w) after (e, h) = grind (arith, nat_tests, no_feed b (goes_on b (slice_index_or (w ++ after) 0 feed) e).blank, word_feeds w after h)
+word_feeds (b ∷ w) after (e, h) = grind (arith, nat_tests, no_feed b (goes_on b (slice_index_or (w ++ after) 0 line_feed) e).blank, word_feeds w after h)
 
-first_of : (c x : List ℕ) (d : ℕ) → slice_index_or (c ++ d ∷ x) 0 feed ≡ slice_index_or c 0 d
+first_of : (c x : List ℕ) (d : ℕ) → slice_index_or (c ++ d ∷ x) 0 line_feed ≡ slice_index_or c 0 d
 first_of [] x d = refl
 first_of (b ∷ c) x d = refl
 
@@ -184,7 +185,7 @@ double_run (b ∷ c ∷ cs) false after l s at line (inl (e, h)) =
   where
     escapes : (b c : ℕ) (rest : List ℕ) (l s at line : ℕ) → b ≡ backslash → is_escapable c ≡ true → advance (Double l s) (window at line (b ∷ c ∷ rest)) ≡ quiet (Escape l s)
     escapes b c rest l s at line e h =
-        ap (λ x. in_double l s (record { at = at; line = line; byte = x; next = c; later = slice_index_or rest 0 feed })) e ∙ take_then (is_escapable c) _ _ h
+        ap (λ x. in_double l s (record { at = at; line = line; byte = x; next = c; later = slice_index_or rest 0 line_feed })) e ∙ take_then (is_escapable c) _ _ h
 
 feeds_append : (xs ys : List ℕ) → feeds (xs ++ ys) ≡ feeds xs + feeds ys
 feeds_append [] ys = omega arith
@@ -219,7 +220,7 @@ piece_tokens (word []) after at line (n, h) = absurd (n refl)
 piece_tokens (word (b ∷ w)) after at line (n, (e, h)) =
     byte_step Outside at line b (w ++ after) (lexing.word at (window at line (b ∷ (w ++ after)))) (word_begins at line b (w ++ after) e)
     ∙ ap (λ l. option_to_list (lexing.word at (window at line (b ∷ (w ++ after)))).token ++ lex (lexing.word at (window at line (b ∷ (w ++ after)))).mode (at + 1) l (w ++ after))
-    (line_on line b (no_feed b (goes_on b (slice_index_or (w ++ after) 0 feed) e).blank))
+    (line_on line b (no_feed b (goes_on b (slice_index_or (w ++ after) 0 line_feed) e).blank))
     ∙ run_tokens w after b at at line h
     ∙ ends_at kinds.Word line at (at + 1 + length w) (at + length (b ∷ w)) (at + 1 + length w) (at + length (b ∷ w)) line (line + feeds (b ∷ w)) after (omega arith) (omega arith) (omega (arith, word_feeds (b ∷ w) after (e, h)))
 piece_tokens (single c) after at line h =

@@ -2,8 +2,9 @@
 use Rattle.std.proofs.Common.{◌≡◌, ◌<◌, ◌+◌, ◌-◌, ◌⊎◌, ℕ, Bool, true, false, cond, List, [], ◌∷◌, ◌++◌, length, Option, Some, None, option_to_list, refl, sym, ap, ◌∙◌, append_assoc, arith, nat_eq, nat_lt, inl, inr}
 use Rattle.std.proofs.lemmas.Bool.Decides.{nat_tests}
 use Rattle.std.proofs.lemmas.List.{append-nil}
+use Rattle.host_core.specs.Characters.{plus}
 use Rattle.yang_text.specs.Building.{Level, Progress, build, step_by, joined_by, join, argument_of, statement_of, with_block}
-use Rattle.yang_text.specs.Bytes.{plus, is_keyword}
+use Rattle.yang_text.specs.Bytes.{is_keyword}
 use Rattle.yang_text.specs.Declarations.{Declaration, declare, Block, no_more, more, block_of, declarations}
 use Rattle.yang_text.specs.Faults.{faults_from, fault_at, refusal, phase_after, depth_after, class_of, class_by, word_class, begins_with_plus}
 use Rattle.yang_text.specs.Grammar.{IsWord, IsQuoted, AreParts, AreMoreParts, IsArgument, IsName, IsStatement, AreStatements}

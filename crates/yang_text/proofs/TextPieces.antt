@@ -2,7 +2,8 @@
 use Rattle.std.proofs.Common.{◌≡◌, ◌+◌, ℕ, Bool, true, false, cond, List, [], ◌∷◌, ◌++◌, Option, Some, None, option_to_list, slice_index_or, refl, sym, ap, ◌∙◌, append_assoc, arith, nat_eq, inl, inr, not, ◌&&◌, ◌||◌}
 use Rattle.std.specs.List.{AllByRecursion}
 use Rattle.std.proofs.lemmas.Bool.Decides.{nat_tests}
-use Rattle.yang_text.specs.Bytes.{feed, double_quote, single_quote, star, slash, semicolon, backslash, open_brace, close_brace, is_blank, is_escapable}
+use Rattle.host_core.specs.Characters.{backslash, close_brace, double_quote, line_feed, open_brace, semicolon, single_quote, slash, star}
+use Rattle.yang_text.specs.Bytes.{is_blank, is_escapable}
 use Rattle.yang_text.specs.Lexing.{lex, tokens, advance, window, next_line, open_fault, quiet, brings, blames, outside, outside_signs, in_line, in_block, in_single, in_double}
 use Rattle.yang_text.specs.Lexing as lexing
 use Rattle.yang_text.specs.Pieces.{Piece, blank, line_comment, block_comment, word, single, double, end_sign, open_sign, close_sign, spelling, text_of, Lacks, EndsLine, IsComment, ends_run, IsRun, IsQuotable, IsFit, AreFit, IsMadeOf}
@@ -22,13 +23,13 @@ Made bs = (ps : List Piece) × AreFit ps × (bs ≡ text_of ps)
 Has : Mode → List ℕ → Type 0
 Has Outside bs = (ps : List Piece) × AreFit ps × (bs ≡ text_of ps)
 Has (Word s) bs = ends_run bs ≡ false → (w : List ℕ) × (ps : List Piece) × (bs ≡ w ++ text_of ps) × IsRun w (text_of ps) × AreFit ps
-Has Line bs = (c : List ℕ) × (ps : List Piece) × (bs ≡ c ++ text_of ps) × Lacks feed c × EndsLine (text_of ps) × AreFit ps
-Has (Opens l) bs = slice_index_or bs 0 feed ≡ star → (c : List ℕ) × (ps : List Piece) × (bs ≡ star ∷ (c ++ star ∷ slash ∷ text_of ps)) × IsComment c × AreFit ps
+Has Line bs = (c : List ℕ) × (ps : List Piece) × (bs ≡ c ++ text_of ps) × Lacks line_feed c × EndsLine (text_of ps) × AreFit ps
+Has (Opens l) bs = slice_index_or bs 0 line_feed ≡ star → (c : List ℕ) × (ps : List Piece) × (bs ≡ star ∷ (c ++ star ∷ slash ∷ text_of ps)) × IsComment c × AreFit ps
 Has (Block l) bs = (c : List ℕ) × (ps : List Piece) × (bs ≡ c ++ star ∷ slash ∷ text_of ps) × IsComment c × AreFit ps
-Has Skip bs = slice_index_or bs 0 feed ≡ slash → (ps : List Piece) × (bs ≡ slash ∷ text_of ps) × AreFit ps
+Has Skip bs = slice_index_or bs 0 line_feed ≡ slash → (ps : List Piece) × (bs ≡ slash ∷ text_of ps) × AreFit ps
 Has (Single l s) bs = (c : List ℕ) × (ps : List Piece) × (bs ≡ c ++ single_quote ∷ text_of ps) × Lacks single_quote c × AreFit ps
 Has (Double l s) bs = (c : List ℕ) × (ps : List Piece) × (bs ≡ c ++ double_quote ∷ text_of ps) × IsQuotable false c × AreFit ps
-Has (Escape l s) bs = is_escapable (slice_index_or bs 0 feed) ≡ true → (c : List ℕ) × (ps : List Piece) × (bs ≡ c ++ double_quote ∷ text_of ps) × IsQuotable true c × AreFit ps
+Has (Escape l s) bs = is_escapable (slice_index_or bs 0 line_feed) ≡ true → (c : List ℕ) × (ps : List Piece) × (bs ≡ c ++ double_quote ∷ text_of ps) × IsQuotable true c × AreFit ps
 
 -- a step that has no fault leads back
 Leads : Mode → ℕ → List ℕ → Step → Type 0
@@ -94,15 +95,15 @@ begins_run : (at line b : ℕ) (bs : List ℕ) → ends_run (b ∷ bs) ≡ false
 unfolding Leads Has
 begins_run at line b bs here = λ sound next. run_piece b bs (word_leads at line b at bs sound next here) here
 
-line_piece : (b : ℕ) (bs : List ℕ) → b ≡ slash → slice_index_or bs 0 feed ≡ slash → (c : List ℕ) × (ps : List Piece) × (bs ≡ c ++ text_of ps) × Lacks feed c × EndsLine (text_of ps) × AreFit ps
+line_piece : (b : ℕ) (bs : List ℕ) → b ≡ slash → slice_index_or bs 0 line_feed ≡ slash → (c : List ℕ) × (ps : List Piece) × (bs ≡ c ++ text_of ps) × Lacks line_feed c × EndsLine (text_of ps) × AreFit ps
     → (ps : List Piece) × AreFit ps × (b ∷ bs ≡ text_of ps)
-line_piece b bs hb hn ([], ps, e, lacks, end, fit) = absurd (no_line (text_of ps) end (ap (λ xs. slice_index_or xs 0 feed) (sym e) ∙ hn))
+line_piece b bs hb hn ([], ps, e, lacks, end, fit) = absurd (no_line (text_of ps) end (ap (λ xs. slice_index_or xs 0 line_feed) (sym e) ∙ hn))
   where
-    no_line : (xs : List ℕ) → EndsLine xs → slice_index_or xs 0 feed ≡ slash → ⊥
+    no_line : (xs : List ℕ) → EndsLine xs → slice_index_or xs 0 line_feed ≡ slash → ⊥
     no_line [] h k = omega (arith, k)
     no_line (x ∷ xs) h k = omega (arith, h, k)
 line_piece b bs hb hn (x ∷ c, ps, e, lacks, end, fit) =
-    let hx : x ≡ slash = ap (λ xs. slice_index_or xs 0 feed) (sym e) ∙ hn in
+    let hx : x ≡ slash = ap (λ xs. slice_index_or xs 0 line_feed) (sym e) ∙ hn in
     (line_comment c ∷ ps, ((lacks.1, end), fit), cons_is b slash bs (slash ∷ (c ++ text_of ps)) hb (e ∙ ap (λ y. y ∷ (c ++ text_of ps)) hx))
 
 block_piece : (b : ℕ) (bs : List ℕ) → b ≡ slash → (c : List ℕ) × (ps : List Piece) × (bs ≡ star ∷ (c ++ star ∷ slash ∷ text_of ps)) × IsComment c × AreFit ps → (ps : List Piece) × AreFit ps × (b ∷ bs ≡ text_of ps)
@@ -113,7 +114,7 @@ signs_lead : (at line b : ℕ) (bs : List ℕ) → is_blank b ≡ false → nat_
     → Leads Outside b bs (outside_signs (window at line (b ∷ bs)))
 unfolding Leads Has
 signs_lead at line b bs h1 h2 h3 h4 h5 h6 =
-    let n : ℕ = slice_index_or bs 0 feed in
+    let n : ℕ = slice_index_or bs 0 line_feed in
     split (Leads Outside b bs) (nat_eq b slash && nat_eq n slash) _ _
     (λ e. let (eb, en) = both_true _ _ e in λ _ next. line_piece b bs (eq_is b 47 eb) (eq_is n 47 en) next)
     (λ k1. split (Leads Outside b bs) (nat_eq b slash && nat_eq n star) _ _
@@ -151,21 +152,21 @@ outside_leads at line b bs =
 line_leads : (at line b : ℕ) (bs : List ℕ) → Leads Line b bs (in_line (window at line (b ∷ bs)))
 unfolding Leads Has
 line_leads at line b bs =
-    split (Leads Line b bs) (nat_eq b feed) _ _
+    split (Leads Line b bs) (nat_eq b line_feed) _ _
     (λ e. λ _ (ps, fit, made). let is : b ≡ 10 = eq_is b 10 e in ([], blank b ∷ ps, ap (λ xs. b ∷ xs) made, tt, is, (ap is_blank is, fit)))
     (λ e. λ _ (c, ps, made, lacks, end, fit). (b ∷ c, ps, ap (λ xs. b ∷ xs) made, (e, lacks), end, fit))
 
-first_of : (c x : List ℕ) (d : ℕ) → slice_index_or (c ++ d ∷ x) 0 feed ≡ slice_index_or c 0 d
+first_of : (c x : List ℕ) (d : ℕ) → slice_index_or (c ++ d ∷ x) 0 line_feed ≡ slice_index_or c 0 d
 first_of [] x d = refl
 first_of (b ∷ c) x d = refl
 
 block_leads : (at line b l : ℕ) (bs : List ℕ) → Leads (Block l) b bs (in_block l (window at line (b ∷ bs)))
 unfolding Leads Has
 block_leads at line b l bs =
-    split (Leads (Block l) b bs) (nat_eq b star && nat_eq (slice_index_or bs 0 feed) slash) _ _
-    (λ e. let (eb, en) = both_true _ _ e in λ _ next. closed (eq_is b 42 eb) (next (eq_is (slice_index_or bs 0 feed) 47 en)))
+    split (Leads (Block l) b bs) (nat_eq b star && nat_eq (slice_index_or bs 0 line_feed) slash) _ _
+    (λ e. let (eb, en) = both_true _ _ e in λ _ next. closed (eq_is b 42 eb) (next (eq_is (slice_index_or bs 0 line_feed) 47 en)))
     (λ e. λ _ (c, ps, made, comment, fit).
-    (b ∷ c, ps, ap (λ xs. b ∷ xs) made, (ap (λ n. nat_eq b star && nat_eq n slash) (sym (first_of c (slash ∷ text_of ps) star) ∙ ap (λ xs. slice_index_or xs 0 feed) (sym made)) ∙ e, comment), fit))
+    (b ∷ c, ps, ap (λ xs. b ∷ xs) made, (ap (λ n. nat_eq b star && nat_eq n slash) (sym (first_of c (slash ∷ text_of ps) star) ∙ ap (λ xs. slice_index_or xs 0 line_feed) (sym made)) ∙ e, comment), fit))
   where
     closed : b ≡ star → (ps : List Piece) × (bs ≡ slash ∷ text_of ps) × AreFit ps → (c : List ℕ) × (ps : List Piece) × (b ∷ bs ≡ c ++ star ∷ slash ∷ text_of ps) × IsComment c × AreFit ps
     closed hb (ps, made, fit) = ([], ps, cons_is b star bs (slash ∷ text_of ps) hb made, tt, fit)
@@ -184,7 +185,7 @@ double_leads at line b l s bs =
     (λ e. λ _ (ps, fit, made). ([], ps, cons_is b double_quote bs (text_of ps) (eq_is b 34 e) made, tt, fit))
     (λ q. split (Leads (Double l s) b bs) (not (nat_eq b backslash)) _ _
     (λ e. λ _ (c, ps, made, quotable, fit). (b ∷ c, ps, ap (λ xs. b ∷ xs) made, inr (not_true _ e, q, quotable), fit))
-    (λ e. split (Leads (Double l s) b bs) (is_escapable (slice_index_or bs 0 feed)) _ _
+    (λ e. split (Leads (Double l s) b bs) (is_escapable (slice_index_or bs 0 line_feed)) _ _
     (λ x. λ _ next. escaped (eq_is b 92 (not_false _ e)) (next x))
     (λ x. λ sound _. absurd (sound.0 refl))))
   where

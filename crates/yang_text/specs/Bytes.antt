@@ -1,62 +1,11 @@
 -- Bytes of a YANG text (RFC 7950, section 6.1.3 and 6.2), in this profile.
 use Rattle.std.specs.Prelude.{ℕ, ◌==◌, ◌||◌, ◌&&◌, not, Bool, false, List, [], ◌∷◌, nat_le, if◌then◌else◌}
 use Rattle.std.specs.List.{list_all}
-
--- a line feed
-abbrev pub feed : ℕ
-feed = 10
-
--- `"`
-abbrev pub double_quote : ℕ
-double_quote = 34
-
--- `'`
-abbrev pub single_quote : ℕ
-single_quote = 39
-
--- `*`
-abbrev pub star : ℕ
-star = 42
-
--- `+`
-abbrev pub plus : ℕ
-plus = 43
-
--- `/`
-abbrev pub slash : ℕ
-slash = 47
-
--- `;`
-abbrev pub semicolon : ℕ
-semicolon = 59
-
--- `\`
-abbrev pub backslash : ℕ
-backslash = 92
-
--- `{`
-abbrev pub open_brace : ℕ
-open_brace = 123
-
--- `}`
-abbrev pub close_brace : ℕ
-close_brace = 125
-
--- a space
-abbrev pub space : ℕ
-space = 32
-
--- a tab
-abbrev pub tab : ℕ
-tab = 9
-
--- a carriage return
-abbrev pub return : ℕ
-return = 13
+use Rattle.host_core.specs.Characters.{backslash, capital_a, capital_z, carriage_return, close_brace, colon, digit_nine, digit_zero, double_quote, full_stop, hyphen, letter_a, letter_n, letter_t, letter_z, line_feed, open_brace, semicolon, single_quote, slash, space, star, tab, underscore}
 
 -- space, tab, carriage return, line feed
 abbrev pub is_blank : ℕ → Bool
-is_blank b = b == space || b == tab || b == return || b == feed
+is_blank b = b == space || b == tab || b == carriage_return || b == line_feed
 
 -- what an unquoted text may hold
 abbrev pub is_word_byte : ℕ → Bool
@@ -72,14 +21,6 @@ is_comment_sign b next =
 abbrev pub ends_word : ℕ → ℕ → Bool
 ends_word next later = not (is_word_byte next) || is_comment_sign next later
 
--- `n`
-abbrev pub letter_n : ℕ
-letter_n = 110
-
--- `t`
-abbrev pub letter_t : ℕ
-letter_t = 116
-
 -- behind a backslash: `n`, `t`, a double quote or a backslash
 abbrev pub is_escapable : ℕ → Bool
 is_escapable b = b == letter_n || b == letter_t || b == double_quote || b == backslash
@@ -87,7 +28,7 @@ is_escapable b = b == letter_n || b == letter_t || b == double_quote || b == bac
 -- what an escape stands for
 abbrev pub escape_meaning : ℕ → ℕ
 escape_meaning b =
-    if b == letter_n then feed
+    if b == letter_n then line_feed
     else (if b == letter_t then tab
     else b)
 
@@ -95,54 +36,14 @@ escape_meaning b =
 abbrev pub is_between : ℕ → ℕ → ℕ → Bool
 is_between first last b = nat_le first b && nat_le b last
 
--- `A`
-abbrev pub upper_a : ℕ
-upper_a = 65
-
--- `Z`
-abbrev pub upper_z : ℕ
-upper_z = 90
-
--- `a`
-abbrev pub lower_a : ℕ
-lower_a = 97
-
--- `z`
-abbrev pub lower_z : ℕ
-lower_z = 122
-
--- `0`
-abbrev pub digit_zero : ℕ
-digit_zero = 48
-
--- `9`
-abbrev pub digit_nine : ℕ
-digit_nine = 57
-
--- `:`
-abbrev pub colon : ℕ
-colon = 58
-
--- `_`
-abbrev pub underscore : ℕ
-underscore = 95
-
--- `-`
-abbrev pub hyphen : ℕ
-hyphen = 45
-
--- `.`
-abbrev pub dot : ℕ
-dot = 46
-
 -- what begins an identifier: a letter of ASCII or an underscore
 abbrev pub is_letter : ℕ → Bool
-is_letter b = is_between upper_a upper_z b || is_between lower_a lower_z b || b == underscore
+is_letter b = is_between capital_a capital_z b || is_between letter_a letter_z b || b == underscore
 
 -- of an identifier behind its first byte, or a colon
 abbrev pub is_name_byte : ℕ → Bool
 is_name_byte b =
-    is_letter b || is_between digit_zero digit_nine b || b == hyphen || b == dot || b == colon
+    is_letter b || is_between digit_zero digit_nine b || b == hyphen || b == full_stop || b == colon
 
 -- an identifier, or one with colons, which is the keyword of an extension
 abbrev pub is_keyword : List ℕ → Bool

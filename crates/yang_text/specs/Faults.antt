@@ -11,7 +11,8 @@
 -- An unterminated comment or quoted text, an invalid escape and a stray `*/` are BadToken and leave all as it was.
 use Rattle.std.specs.Prelude.{◌≡◌, ◌<◌, ◌≤◌, ◌⊎◌, ℕ, ◌+◌, ◌-◌, ◌==◌, ◌||◌, ◌&&◌, nat_lt, nat_le, Bool, false, List, [], ◌∷◌, ◌++◌, length, Option, Some, None, option_map, option_to_list, if◌then◌else◌}
 use Rattle.std.specs.List.{AllByRecursion}
-use Rattle.yang_text.specs.Bytes.{plus, is_keyword}
+use Rattle.host_core.specs.Characters.{plus}
+use Rattle.yang_text.specs.Bytes.{is_keyword}
 use Rattle.yang_text.specs.Limits.{most_open}
 use Rattle.yang_text.specs.Texts.{bytes_of}
 use Rattle.yang_text.specs.Whys.{why_number}

@@ -1,6 +1,7 @@
 -- How tokens spell statements (RFC 7950, sections 6.1.3 and 6.3).
 use Rattle.std.specs.Prelude.{◌≡◌, ◌≢◌, ◌⊎◌, ◌<◌, ◌+◌, ℕ, true, List, [], ◌∷◌, ◌++◌, Option, Some, None, IsUtf8}
-use Rattle.yang_text.specs.Bytes.{plus, is_keyword}
+use Rattle.host_core.specs.Characters.{plus}
+use Rattle.yang_text.specs.Bytes.{is_keyword}
 use Rattle.yang_text.specs.Declarations.{Declaration, declare, Block, no_more, more, block_of}
 use Rattle.yang_text.specs.Limits.{most_open}
 use Rattle.yang_text.specs.Pieces.{Piece, IsMadeOf, tokens_of}

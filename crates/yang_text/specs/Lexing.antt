@@ -1,6 +1,7 @@
 -- The tokens of a text, byte by byte.
 use Rattle.std.specs.Prelude.{ℕ, ◌+◌, ◌==◌, ◌&&◌, not, List, [], ◌∷◌, ◌++◌, Option, Some, None, option_to_list, slice_index_or, if◌then◌else◌}
-use Rattle.yang_text.specs.Bytes.{feed, double_quote, single_quote, star, slash, semicolon, backslash, open_brace, close_brace, is_blank, is_escapable, ends_word}
+use Rattle.host_core.specs.Characters.{backslash, close_brace, double_quote, line_feed, open_brace, semicolon, single_quote, slash, star}
+use Rattle.yang_text.specs.Bytes.{is_blank, is_escapable, ends_word}
 use Rattle.yang_text.specs.declared.lexing.Kind.{Kind}
 use Rattle.yang_text.specs.declared.lexing.Kind.TheVariants as kinds
 use Rattle.yang_text.specs.declared.lexing.Token.{Token}
@@ -58,7 +59,7 @@ outside w =
 
 -- a byte of a comment up to the end of the line
 abbrev pub in_line : Window → Step
-in_line w = if w.byte == feed then quiet Outside else quiet Line
+in_line w = if w.byte == line_feed then quiet Outside else quiet Line
 
 -- a byte of a comment in stars
 abbrev pub in_block : ℕ → Window → Step
@@ -108,16 +109,16 @@ open_fault (Escape line start) at = bad_at line at
 
 -- lines are counted by line feeds
 abbrev pub next_line : ℕ → ℕ → ℕ
-next_line line byte = if byte == feed then line + 1 else line
+next_line line byte = if byte == line_feed then line + 1 else line
 
 -- the first of the bytes with its place, as if line feeds followed the text
 abbrev pub window : ℕ → ℕ → List ℕ → Window
 window at line bytes = record {
   at = at;
   line = line;
-  byte = slice_index_or bytes 0 feed;
-  next = slice_index_or bytes 1 feed;
-  later = slice_index_or bytes 2 feed;
+  byte = slice_index_or bytes 0 line_feed;
+  next = slice_index_or bytes 1 line_feed;
+  later = slice_index_or bytes 2 line_feed;
 }
 
 -- the tokens of the rest of a text

@@ -1,7 +1,8 @@
 -- How a text is made of pieces (RFC 7950, sections 6.1.1 to 6.1.3): white space, comments, words, quoted texts
 -- and signs.
 use Rattle.std.specs.Prelude.{◌≡◌, ◌≢◌, ◌⊎◌, ◌+◌, ◌==◌, ◌&&◌, ℕ, Bool, true, false, List, [], ◌∷◌, ◌++◌, length, slice_index_or, if◌then◌else◌, Option, Some, None, option_to_list}
-use Rattle.yang_text.specs.Bytes.{feed, double_quote, single_quote, star, slash, semicolon, backslash, open_brace, close_brace, is_blank, is_escapable, ends_word}
+use Rattle.host_core.specs.Characters.{backslash, close_brace, double_quote, line_feed, open_brace, semicolon, single_quote, slash, star}
+use Rattle.yang_text.specs.Bytes.{is_blank, is_escapable, ends_word}
 use Rattle.yang_text.specs.declared.lexing.Kind.{Kind}
 use Rattle.yang_text.specs.declared.lexing.Kind.TheVariants as kinds
 use Rattle.yang_text.specs.declared.lexing.Token.{Token}
@@ -50,7 +51,7 @@ Lacks c (b ∷ bs) = ((b == c) ≡ false) × Lacks c bs
 -- the line ends here, or the text does
 abbrev pub EndsLine : List ℕ → Type 0
 EndsLine [] = Unit {0}
-EndsLine (b ∷ bs) = b ≡ feed
+EndsLine (b ∷ bs) = b ≡ line_feed
 
 -- no `*/` begins in a comment, which a star follows
 abbrev pub IsComment : List ℕ → Type 0
@@ -59,7 +60,7 @@ IsComment (b ∷ c) = ((b == star && slice_index_or c 0 star == slash) ≡ false
 
 -- an unquoted run doesn't go on with these bytes: a byte of another kind, a comment sign, or the end
 abbrev pub ends_run : List ℕ → Bool
-ends_run bytes = ends_word (slice_index_or bytes 0 feed) (slice_index_or bytes 1 feed)
+ends_run bytes = ends_word (slice_index_or bytes 0 line_feed) (slice_index_or bytes 1 line_feed)
 
 -- an unquoted run goes on as far as it can
 abbrev pub IsRun : List ℕ → List ℕ → Type 0
@@ -78,7 +79,7 @@ IsQuotable false (b ∷ bs) =
 -- the piece may stand before these bytes
 abbrev pub IsFit : Piece → List ℕ → Type 0
 IsFit (blank b) after = is_blank b ≡ true
-IsFit (line_comment c) after = Lacks feed c × EndsLine after
+IsFit (line_comment c) after = Lacks line_feed c × EndsLine after
 IsFit (block_comment c) after = IsComment c
 IsFit (word w) after = (w ≢ []) × IsRun w after
 IsFit (single c) after = Lacks single_quote c
@@ -116,7 +117,7 @@ token_of close_sign at line = token kinds.Close line at (at + 1)
 -- how many lines end in the bytes
 abbrev pub feeds : List ℕ → ℕ
 feeds [] = 0
-feeds (b ∷ bs) = (if b == feed then 1 else 0) + feeds bs
+feeds (b ∷ bs) = (if b == line_feed then 1 else 0) + feeds bs
 
 -- the tokens of pieces from a position and a line on
 abbrev pub tokens_of : ℕ → ℕ → List Piece → List Token

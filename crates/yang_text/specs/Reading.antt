@@ -2,8 +2,8 @@
 use Rattle.std.specs.Prelude.{ℕ, ◌+◌, ◌==◌, List, [], ◌∷◌, ◌++◌, option_to_list, take, fold, count_by, Option, Some, None, Result, Ok, Err, if◌then◌else◌}
 use Rattle.std.specs.Str.{is_utf8}
 use Rattle.std.specs.Str.Lossy.{utf8_valid_len}
+use Rattle.host_core.specs.Characters.{line_feed}
 use Rattle.yang_text.specs.Building.{built}
-use Rattle.yang_text.specs.Bytes.{feed}
 use Rattle.yang_text.specs.Declarations.{Declaration}
 use Rattle.yang_text.specs.Faults.{lower_of, faults_from}
 use Rattle.yang_text.specs.Lexing.{tokens}
@@ -13,7 +13,7 @@ use Rattle.yang_text.specs.declared.faults.Phase.TheVariants.{Due}
 
 -- lines are counted from 1 by line feeds
 abbrev pub line_at : List ℕ → ℕ → ℕ
-line_at text at = count_by (λ b. b == feed) (take at text) + 1
+line_at text at = count_by (λ b. b == line_feed) (take at text) + 1
 
 -- the first byte that is part of no character
 abbrev pub utf8_fault : List ℕ → Option Fault

@@ -1,7 +1,8 @@
 -- What tokens hold.
 use Rattle.std.specs.Prelude.{ℕ, ◌==◌, ◌≤◌, Bool, true, false, List, [], ◌∷◌, length, slice_range, if◌then◌else◌}
 use Rattle.std.specs.Str.{IsCharBoundary}
-use Rattle.yang_text.specs.Bytes.{backslash, escape_meaning}
+use Rattle.host_core.specs.Characters.{backslash}
+use Rattle.yang_text.specs.Bytes.{escape_meaning}
 use Rattle.yang_text.specs.declared.lexing.Kind.{Kind}
 use Rattle.yang_text.specs.declared.lexing.Kind.TheVariants.{Word, Single, Double, Semicolon, Open, Close, Bad}
 use Rattle.yang_text.specs.declared.lexing.Token.{Token}

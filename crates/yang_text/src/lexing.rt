@@ -1,7 +1,8 @@
 //! The tokens of a text: words, quoted texts and signs.
 ghost use Rattle.std.specs.Prelude.{◌≡◌, ◌+◌, ◌^◌, ◌<◌, ◌≤◌, ◌++◌, length, drop, option_to_list, slice_index_or, All, IfOk, OnOk, IsUtf8};
+ghost use Rattle.host_core.specs.Characters.{line_feed};
 ghost use Rattle.yang_text.specs.Texts.{IsWithin, IsCut};
-ghost use Rattle.yang_text.specs.Bytes.{is_blank, is_word_byte, is_comment_sign, is_escapable, ends_word, feed};
+ghost use Rattle.yang_text.specs.Bytes.{is_blank, is_word_byte, is_comment_sign, is_escapable, ends_word};
 ghost use Rattle.yang_text.specs.Lexing.{quiet, sign, word, outside, outside_signs, in_line, in_block, in_single, in_double, advance, open_fault, next_line, window, tokens};
 
 use std::alloc::{AllocError, Global};
@@ -306,7 +307,7 @@ fn open_fault(mode: Mode, at: usize) -> Option<Token>
 
 /// The byte at a position, or a line feed behind the text.
 fn byte_at(bytes: &[u8], at: usize) -> u8
-    ensures { result ≡ slice_index_or bytes.now at feed }
+    ensures { result ≡ slice_index_or bytes.now at line_feed }
 {
     match bytes.get(at) {
         Some(byte) => *byte,

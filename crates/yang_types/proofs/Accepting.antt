@@ -7,15 +7,15 @@ use Rattle.std.specs.List.{join_with_byte}
 use Rattle.std.specs.Str.Parse.{AllDigits}
 use Rattle.std.proofs.lemmas.Int.{ints}
 use Rattle.std.proofs.lemmas.List.Elements.{All-nil, All-cons, All-head, All-tail}
+use Rattle.host_core.specs.Characters.{colon, digit_zero, full_stop, hyphen, plus, slash}
 use Rattle.yang_pattern.specs.Decided.{IsDecided}
 use Rattle.yang_pattern.specs.Language.{MatchesText}
 use Rattle.yang_pattern.proofs.Decisions.{Told, like, both, either, implied, at_most, same_number, same_text, up_to, split, all, some, among, told_by}
 use Rattle.yang_types.specs.declared.types.Bounds.{Bounds}
 use Rattle.yang_types.specs.declared.types.Builtin.{Builtin}
 use Rattle.yang_types.specs.declared.types.Builtin.TheVariants.{Ipv4Address, Ipv6Address, IpAddress, Ipv4Prefix, Ipv6Prefix, IpPrefix, MacAddress}
-use Rattle.yang_types.specs.Characters.{plus, minus, dot, colon, slash, double_colon, zero_digit}
 use Rattle.yang_types.specs.Numbers.{IsDecimal, decimal, HasSign, IsNumber, IsWithin, IsWithinAny, IsNumberWithin, IsPlainNumber}
-use Rattle.yang_types.specs.Addresses.{AreJoined, IsOctet, IsGroup, IsPair, IsIpv4Address, IsShortened, IsIpv6Address, IsIpv4Length, IsIpv6Length, IsPrefixOf, IsBuiltin}
+use Rattle.yang_types.specs.Addresses.{double_colon, AreJoined, IsOctet, IsGroup, IsPair, IsIpv4Address, IsShortened, IsIpv6Address, IsIpv4Length, IsIpv6Length, IsPrefixOf, IsBuiltin}
 use Rattle.yang_types.specs.Accepts.{Accepts, AcceptsAny, char_count}
 use Rattle.yang_types.specs.DataType.{DataType, text, number, length_within, value_within, matching, one_of, truth, builtin, leafref, union, DataTypes, no_types, type_and}
 
@@ -66,21 +66,21 @@ module _ (P : ℤ → Type 0) (told : (v : ℤ) → Told (P v)) where
       like to (λ h. from h.0 h.1.0 h.1.1 h.1.2 h.2)
       (either (both (decimal_told s) (told (pos (decimal s))))
       (either (behind_told plus Written (λ ds. both (decimal_told ds) (told (pos (decimal ds)))) s)
-      (behind_told minus Negated (λ ds. both (decimal_told ds) (told (neg_ℤ (pos (decimal ds))))) s)))
+      (behind_told hyphen Negated (λ ds. both (decimal_told ds) (told (neg_ℤ (pos (decimal ds))))) s)))
     where
-      to : Written s ⊎ (Behind plus Written s ⊎ Behind minus Negated s) → (v : ℤ) × IsNumber s v × P v
+      to : Written s ⊎ (Behind plus Written s ⊎ Behind hyphen Negated s) → (v : ℤ) × IsNumber s v × P v
       to (inl h) = (pos (decimal s), (s, h.0, inl (refl, refl)), h.1)
       to (inr (inl h)) =
           let (ds, e, w) = behind_is plus Written s h in
           (pos (decimal ds), (ds, w.0, inr (inl (e, refl))), w.1)
       to (inr (inr h)) =
-          let (ds, e, w) = behind_is minus Negated s h in
+          let (ds, e, w) = behind_is hyphen Negated s h in
           (neg_ℤ (pos (decimal ds)), (ds, w.0, inr (inr (e, refl))), w.1)
 
-      from : (v : ℤ) (ds : List ℕ) → IsDecimal ds → HasSign s ds v → P v → Written s ⊎ (Behind plus Written s ⊎ Behind minus Negated s)
+      from : (v : ℤ) (ds : List ℕ) → IsDecimal ds → HasSign s ds v → P v → Written s ⊎ (Behind plus Written s ⊎ Behind hyphen Negated s)
       from v ds d (inl (e, is)) p = inl (subst Written (sym e) (d, subst P is p))
       from v ds d (inr (inl (e, is))) p = inr (inl (behind_from plus Written s ds e (d, subst P is p)))
-      from v ds d (inr (inr (e, is))) p = inr (inr (behind_from minus Negated s ds e (d, subst P is p)))
+      from v ds d (inr (inr (e, is))) p = inr (inr (behind_from hyphen Negated s ds e (d, subst P is p)))
 
 within_any_told : (v : ℤ) (parts : List Bounds) → Told (IsWithinAny v parts)
 within_any_told v parts = some (IsWithin v) (within_told v) parts
@@ -91,7 +91,7 @@ number_within_told s b = number_told (λ v. IsWithin v b) (λ v. within_told v b
 plain_number_told : (most : ℕ) (s : List ℕ) → Told (IsPlainNumber most s)
 plain_number_told most s =
     like (λ h. (h.0, h.1.0, h.1.1)) (λ h. (h.0, (h.1, h.2)))
-    (both (decimal_told s) (both (implied (same_number (slice_index s 0) zero_digit) (same_number (length s) 1)) (at_most (decimal s) most)))
+    (both (decimal_told s) (both (implied (same_number (slice_index s 0) digit_zero) (same_number (length s) 1)) (at_most (decimal s) most)))
 
 -- addresses
 hexdigit_told : (c : ℕ) → Told (IsAsciiHexdigit c)
@@ -145,7 +145,7 @@ module _ (P : List ℕ → Type 0) (told : (s : List ℕ) → Told (P s)) (c : �
       (λ x y. both (told x) (behind_told c (AreJoined P c (suc n)) (joined_told (suc n)) y)) s)
 
 ipv4_told : (s : List ℕ) → Told (IsIpv4Address s)
-ipv4_told s = joined_told IsOctet (plain_number_told 255) dot 4 s
+ipv4_told s = joined_told IsOctet (plain_number_told 255) full_stop 4 s
 
 -- a double colon between so many groups and so many
 abbrev Sides : ℕ → ℕ → List ℕ → Type 0

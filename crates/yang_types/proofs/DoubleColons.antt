@@ -5,9 +5,9 @@ use Rattle.std.proofs.lemmas.List.Elements.{All-head, All-tail, All-nil, All-wea
 use Rattle.std.proofs.lemmas.List.Splits.{slice_split-cons_yes, slice_split-cons_no}
 use Rattle.std.proofs.lemmas.Bool.Decides.{eqb_tells}
 use Rattle.std.specs.Option.{is_some}
+use Rattle.host_core.specs.Characters.{colon}
 use Rattle.yang_types.specs.declared.addresses.Part.TheVariants.{Group}
-use Rattle.yang_types.specs.Characters.{colon, double_colon}
-use Rattle.yang_types.specs.Addresses.{AreJoined, IsGroup, IsShortened, IsIpv6Address}
+use Rattle.yang_types.specs.Addresses.{double_colon, AreJoined, IsGroup, IsShortened, IsIpv6Address}
 use Rattle.yang_types.specs.Parts.{ArePartsOf, IsCountOf}
 use Rattle.yang_types.proofs.PartLemmas.{stand_apart}
 use Rattle.yang_types.proofs.PartJoins.{StandsApart, cut, is_same, joined_cut}

@@ -7,9 +7,9 @@ use Rattle.std.specs.Str.Parse.{AllDigits}
 use Rattle.std.proofs.lemmas.Str.Parse.{digit_at}
 use Rattle.std.proofs.lemmas.Str.Pattern.{IsSplitOnceResult, split_after, split_parts}
 use Rattle.std.proofs.lemmas.List.Elements.{All-head, All-tail, All-nil, All-cons, All-append, All-weaker, All-get_or, All-from_get_or}
+use Rattle.host_core.specs.Characters.{colon, slash}
 use Rattle.yang_types.specs.declared.addresses.Part.{Part}
 use Rattle.yang_types.specs.declared.addresses.Part.TheVariants.{Octet, Group, Pair}
-use Rattle.yang_types.specs.Characters.{slash, colon}
 use Rattle.yang_types.specs.Parts.{IsPart, separator_of, ArePartsOf}
 use Rattle.yang_types.specs.Addresses.{IsPrefixOf, IsIpv4Address, IsIpv6Address}
 

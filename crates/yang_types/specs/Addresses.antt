@@ -1,11 +1,11 @@
 -- Addresses, prefixes and MAC addresses (RFC 6991, sections 3 and 4, without zones and without IPv4
 -- addresses within IPv6 ones).
-use Rattle.std.specs.Prelude.{◌≡◌, ◌⊎◌, ℕ, ◌+◌, ◌≤◌, List, ◌∷◌, ◌++◌, length, All}
+use Rattle.std.specs.Prelude.{◌≡◌, ◌⊎◌, ℕ, ◌+◌, ◌≤◌, List, [], ◌∷◌, ◌++◌, length, All}
 use Rattle.std.specs.List.{join_with_byte}
 use Rattle.std.specs.Char.{IsAsciiHexdigit}
+use Rattle.host_core.specs.Characters.{colon, full_stop, slash}
 use Rattle.yang_types.specs.declared.types.Builtin.{Builtin}
 use Rattle.yang_types.specs.declared.types.Builtin.TheVariants.{Ipv4Address, Ipv6Address, IpAddress, Ipv4Prefix, Ipv6Prefix, IpPrefix, MacAddress}
-use Rattle.yang_types.specs.Characters.{dot, colon, slash, double_colon}
 use Rattle.yang_types.specs.Numbers.{IsDecimal, decimal, IsPlainNumber}
 
 -- so many parts, each of which is a P, joined by a character
@@ -44,7 +44,11 @@ IsPair s = All IsAsciiHexdigit s × (length s ≡ 2)
 
 -- four numbers joined by dots
 abbrev pub IsIpv4Address : List ℕ → Type 0
-IsIpv4Address s = AreJoined IsOctet dot 4 s
+IsIpv4Address s = AreJoined IsOctet full_stop 4 s
+
+-- `::`
+abbrev pub double_colon : List ℕ
+double_colon = colon ∷ colon ∷ []
 
 -- at most seven groups, with one double colon for the groups of zero that are left out
 abbrev pub IsShortened : List ℕ → Type 0

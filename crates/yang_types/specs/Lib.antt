@@ -1,7 +1,6 @@
 -- What public clauses cite.
 pub mod Accepts
 pub mod Addresses
-pub mod Characters
 pub mod DataType
 pub mod DataTypes
 pub mod Numbers

@@ -1,12 +1,8 @@
 -- Decimal numbers (RFC 7950, section 9.2.1), and the bounds round them.
 use Rattle.std.specs.Prelude.{◌≡◌, ◌⊎◌, ℕ, ◌≤◌, ◌≤ℤ◌, ℤ, pos, neg_ℤ, List, ◌∷◌, length, Any, slice_index}
 use Rattle.std.specs.Str.Parse.{IsNumeral, digits_value}
+use Rattle.host_core.specs.Characters.{decimal_base, digit_zero, hyphen, plus}
 use Rattle.yang_types.specs.declared.types.Bounds.{Bounds}
-use Rattle.yang_types.specs.Characters.{plus, minus, zero_digit}
-
--- how many digits there are
-abbrev pub decimal_base : ℕ
-decimal_base = 10
 
 -- one or more decimal digits
 abbrev pub IsDecimal : List ℕ → Type 0
@@ -21,7 +17,7 @@ abbrev pub HasSign : List ℕ → List ℕ → ℤ → Type 0
 HasSign s digits value =
     ((s ≡ digits) × (value ≡ pos (decimal digits)))
     ⊎ ((s ≡ plus ∷ digits) × (value ≡ pos (decimal digits)))
-    ⊎ ((s ≡ minus ∷ digits) × (value ≡ neg_ℤ (pos (decimal digits))))
+    ⊎ ((s ≡ hyphen ∷ digits) × (value ≡ neg_ℤ (pos (decimal digits))))
 
 -- a text that is a number: an optional sign and one or more digits
 abbrev pub IsNumber : List ℕ → ℤ → Type 0
@@ -46,4 +42,4 @@ IsNumberWithinAny s parts = Any (IsNumberWithin s) parts
 -- a number without sign and leading zeros, of at most `most`
 abbrev pub IsPlainNumber : ℕ → List ℕ → Type 0
 IsPlainNumber most s =
-    IsDecimal s × (slice_index s 0 ≡ zero_digit → length s ≡ 1) × (decimal s ≤ most)
+    IsDecimal s × (slice_index s 0 ≡ digit_zero → length s ≡ 1) × (decimal s ≤ most)

@@ -1,8 +1,8 @@
 -- The parts of an address, by their kinds.
 use Rattle.std.specs.Prelude.{◌≡◌, ℕ, List}
+use Rattle.host_core.specs.Characters.{colon, full_stop}
 use Rattle.yang_types.specs.declared.addresses.Part.{Part}
 use Rattle.yang_types.specs.declared.addresses.Part.TheVariants.{Octet, Group, Pair}
-use Rattle.yang_types.specs.Characters.{dot, colon}
 use Rattle.yang_types.specs.Addresses.{AreJoined, IsOctet, IsGroup, IsPair}
 
 -- the grammar of each kind
@@ -13,7 +13,7 @@ IsPart Pair s = IsPair s
 
 -- the character that joins them
 abbrev pub separator_of : Part → ℕ
-separator_of Octet = dot
+separator_of Octet = full_stop
 separator_of Group = colon
 separator_of Pair = colon
 

@@ -2,9 +2,9 @@
 use Rattle.std.proofs.Common.{◌≡◌, ◌==◌, ℕ, Bool, true, false, cond, List, [], ◌∷◌, length, Option, Some, None, codes, refl, ap, ◌∙◌}
 use Rattle.std.specs.Prelude.{ℤ}
 use Rattle.std.specs.Str.{bytes_eq}
+use Rattle.host_core.specs.Characters.{bar, full_stop}
 use Rattle.yang_types.specs.declared.types.Bounds.{Bounds}
 use Rattle.yang_scope.specs.Pieces.{pieces}
-use Rattle.yang_values.specs.Characters.{dot, bar}
 use Rattle.yang_values.specs.Numbers.{bound_number}
 use Rattle.yang_values.specs.Parts.{lowest, highest, between, bound, part_of, part, with_next, all_given, parts}
 
@@ -52,5 +52,5 @@ all_given-too f g (x ∷ xs) too = with_next-too (f x) (g x) (all_given f xs) (a
 -- parts told without values
 pub parts_without : (values : List Bounds) (s : List ℕ) (found : List Bounds) → parts [] s ≡ Some found → parts values s ≡ Some found
 parts_without values s found is =
-    let too : GivesToo (parts [] s) (parts values s) = all_given-too (part []) (part values) (pieces bar s) (λ p. part_of-too values (pieces dot p)) in
+    let too : GivesToo (parts [] s) (parts values s) = all_given-too (part []) (part values) (pieces bar s) (λ p. part_of-too values (pieces full_stop p)) in
     too.gives found is

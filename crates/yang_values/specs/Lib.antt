@@ -1,8 +1,8 @@
 -- What public clauses cite.
 pub mod BoundFaults
-pub mod Characters
 pub mod Circles
 pub mod Defaults
+pub mod Limits
 pub mod Numbers
 pub mod Parts
 pub mod Targets

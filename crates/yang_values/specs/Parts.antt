@@ -5,9 +5,9 @@ use Rattle.std.specs.Int.{int_max, int_min}
 use Rattle.std.specs.List.{fold, flat_map}
 use Rattle.std.specs.Option.{option_to_list}
 use Rattle.std.specs.Str.{bytes_eq}
+use Rattle.host_core.specs.Characters.{bar, full_stop}
 use Rattle.yang_scope.specs.Pieces.{pieces}
 use Rattle.yang_types.specs.declared.types.Bounds.{Bounds}
-use Rattle.yang_values.specs.Characters.{dot, bar}
 use Rattle.yang_values.specs.Numbers.{bound_number}
 
 -- the lower one of a number so far and the bounds of a part
@@ -51,7 +51,7 @@ part_of values _ = None
 
 -- a part of a length or a range
 abbrev pub part : List Bounds → List ℕ → Option Bounds
-part values s = part_of values (pieces dot s)
+part values s = part_of values (pieces full_stop s)
 
 -- one more, where both are there
 abbrev pub with_next : {X : Type 0} → Option X → Option (List X) → Option (List X)

@@ -1,27 +1,19 @@
 -- What a leafref's path leads to, as a key part of a shape of a table (RFC 7950, section 9.9.2).
 use Rattle.std.specs.Prelude.{ℕ, suc, ◌==◌, ◌&&◌, ◌||◌, not, Bool, List, [], ◌∷◌, length, filter, Option, Some, None, codes, option_and_then, if◌then◌else◌}
 use Rattle.std.specs.Str.{bytes_eq}
+use Rattle.host_core.specs.Characters.{slash, space}
 use Rattle.yang_text.specs.Declarations.{Declaration, argument, block}
 use Rattle.yang_types.specs.declared.types.Target.{Target}
 use Rattle.yang_scope.specs.Modules.{Module}
+use Rattle.yang_scope.specs.Nodes.{is_shape}
 use Rattle.yang_scope.specs.Paths.{Placed, step_name, is_named, child_named, container_named}
 use Rattle.yang_scope.specs.Pieces.{pieces}
 use Rattle.yang_scope.specs.Statements.{is_keyword, first_child}
-
-abbrev slash : ℕ
-slash = 47
-
-abbrev space : ℕ
-space = 32
 
 -- the place of the first element that passes, where the first of all has a place
 abbrev pub place_from : {X : Type 0} → (X → Bool) → ℕ → List X → Option ℕ
 place_from test place [] = None
 place_from test place (x ∷ xs) = if test x then Some place else place_from test (suc place) xs
-
--- a list or a fixed container of a table
-abbrev pub is_shape : Declaration → Bool
-is_shape d = is_keyword (codes "list") d || is_keyword (codes "container") d
 
 -- the list of a name
 abbrev pub is_list_named : List ℕ → Declaration → Bool

@@ -12,7 +12,7 @@ use Rattle.yang_scope.specs.declared.bases.Base.{Base}
 use Rattle.yang_scope.specs.declared.bases.Base.TheVariants.{Text, Number}
 use Rattle.yang_scope.specs.declared.meanings.Meaning.{Meaning}
 use Rattle.yang_scope.specs.declared.meanings.Meaning.TheVariants.{Ends, Goes, Nothing}
-use Rattle.yang_values.specs.Characters.{least, greatest}
+use Rattle.yang_values.specs.Limits.{least, greatest}
 use Rattle.yang_values.specs.Parts.{parts, common}
 
 -- more type statements than files can have

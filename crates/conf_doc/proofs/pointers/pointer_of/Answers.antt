@@ -1,5 +1,6 @@
 use Rattle.std.proofs.Common.{◌∷◌, ◌++◌, sym, ap, ◌∙◌, take_all}
-use Rattle.conf_doc.specs.Pointer.{escaped, pointer, slash}
+use Rattle.host_core.specs.Characters.{slash}
+use Rattle.conf_doc.specs.Pointer.{escaped, pointer}
 use Rattle.conf_doc.proofs.Escapes.{pointer-more}
 use Rattle.conf_doc.proofs.Lists.{take_step}
 use Rattle.conf_doc.proofs.pointers.pointer_of.Goals as goal

@@ -1,5 +1,5 @@
 use Rattle.std.proofs.Common.{◌≡◌, ◌+◌, ◌<◌, ◌^◌, ◌∷◌, [], length, ap, arith, subst, length-append}
-use Rattle.plan_texts.specs.Lines.{feed}
+use Rattle.host_core.specs.Characters.{line_feed}
 use Rattle.plan_texts.specs.Moves.{IsStepIn}
 use Rattle.plan_texts.proofs.PlanLines.{missing, moves_more, no_step, other_end, steps_more}
 use Rattle.plan_texts.proofs.reading.read_steps.Goals as goal
@@ -43,7 +43,7 @@ loop-number-preserved c =
           inv.count push;
       count = omega (arith, ap length push, length-append ms (mv ∷ []), inv.count);
       moves = moves_more ms new mv push inv.moves step.0;
-      short = omega (arith, ap length c.in-Some.ensures.1, length-append line (feed ∷ after), inv.short);
+      short = omega (arith, ap length c.in-Some.ensures.1, length-append line (line_feed ∷ after), inv.short);
     }
 
 pub returns-in-Other : goal.returns-in-Other

@@ -2,7 +2,7 @@ use Rattle.std.proofs.Common.{rules, ◌++◌, [], ◌∷◌, map, sym, ap, ◌�
 use Rattle.std.specs.List.{filter}
 use Rattle.yang_text.specs.Statements.{declaration}
 use Rattle.yang_scope.proofs.Tables.{take_end}
-use Rattle.yang_must.specs.Spots.{is_shape}
+use Rattle.yang_scope.specs.Nodes.{is_shape}
 use Rattle.yang_scope.proofs.Finding.{filter-next}
 use Rattle.yang_must.proofs.nodes.shapes_in.Goals as goal
 

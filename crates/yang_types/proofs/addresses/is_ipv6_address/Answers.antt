@@ -1,6 +1,6 @@
 use Rattle.std.proofs.Common.{inl, inr}
 use Rattle.std.proofs.lemmas.Str.Pattern.{split_text_parts}
-use Rattle.yang_types.specs.Characters.{double_colon}
+use Rattle.yang_types.specs.Addresses.{double_colon}
 use Rattle.yang_types.proofs.DoubleColons.{not_shortened, shortened_fails, shortened_decided}
 use Rattle.yang_types.proofs.addresses.is_ipv6_address.Goals as goal
 

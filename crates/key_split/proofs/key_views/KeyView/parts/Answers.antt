@@ -1,7 +1,8 @@
 use Rattle.std.proofs.Common.{◌∙◌, ap, lit<, length}
 use Rattle.std.proofs.lemmas.Iterator.Consumers.{count_from_yields_List}
 use Rattle.std.proofs.lemmas.Iterator.Splits.{YieldsList-from_str_split}
-use Rattle.key_split.specs.Key.{key_parts, bar}
+use Rattle.host_core.specs.Characters.{bar}
+use Rattle.key_split.specs.Key.{key_parts}
 use Rattle.key_split.proofs.key_views.KeyView.parts.Goals as goal
 
 pub returns : goal.returns

@@ -1,6 +1,6 @@
 use Rattle.std.proofs.Common.{ap, sym, ◌∙◌}
 use Rattle.std.specs.List.{filter}
-use Rattle.yang_must.specs.Spots.{is_shape}
+use Rattle.yang_scope.specs.Nodes.{is_shape}
 use Rattle.yang_scope.proofs.Blocks.{block-is}
 use Rattle.yang_must.proofs.nodes.TableNode.new.Goals as goal
 
