@@ -6,6 +6,7 @@ pub mod IntentAsked
 pub mod ModelFiles
 pub mod PatchAsked
 pub mod Preparing
+pub mod Reads
 pub mod RulesAsked
 pub mod ScopeForm
 pub mod ScopesForm

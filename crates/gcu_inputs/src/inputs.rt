@@ -1,10 +1,9 @@
 //! The bytes of an input.
-ghost use Rattle.std.specs.Prelude.{◌≡◌, ◌≤◌, IfOk, IfErr, length};
+ghost use Rattle.std.specs.Prelude.{◌≤◌, IfOk, IfErr, length};
 ghost use Rattle.host_core.specs.Answers.{Gives};
-ghost use Rattle.host_core.specs.Counts.{InputMayRise};
-ghost use Rattle.host_core.specs.Crashes.{Elapses, MayLeaveNow};
 ghost use Rattle.gcu_inputs.specs.ModelFiles.{bytes_asked, bytes_in, IsWithin};
 ghost use Rattle.gcu_inputs.specs.Preparing.{Finds, Refuses, RefusesAlways, refusal};
+ghost use Rattle.gcu_inputs.specs.Reads.{ReadsInputs};
 
 use gcu_output::Outcome;
 use host_core::{Host, HostError, Input, Sequence, Txt};
@@ -19,11 +18,8 @@ pub fn input_bytes<H: Host>(
 ) -> Result<Sequence<u8>, Outcome>
     ensures answer { Finds (H.told host.old) (λ v. v) result (bytes_asked path.now limit) }
     ensures few { IfOk result (λ v. length v ≤ limit) }
-    ensures told { H.told host.new ≡ H.told host.old }
-    ensures counts { InputMayRise (H.counts host.old) (H.counts host.new) }
+    ensures reads { ReadsInputs H.told H.counts H.moment H.left_since H.goes_on host.old host.new }
     ensures cause { IfErr result (Refuses (H.counts host.old) (H.counts host.new)) }
-    ensures time { Elapses H.moment H.left_since host.old host.new (MayLeaveNow (H.told host.new)) }
-    ensures goes { H.goes_on host.old host.new }
 {
     match host.input(alloc, path.as_str(), limit) {
         Ok(input) => bytes_of_input(alloc, path, limit, input),

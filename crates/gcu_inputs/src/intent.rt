@@ -1,12 +1,11 @@
 //! The file of a change under way: whether it is there, and the configuration that it holds.
-ghost use Rattle.std.specs.Prelude.{◌≡◌, ◌≤◌, IfErr, option_map};
+ghost use Rattle.std.specs.Prelude.{◌≤◌, IfErr, option_map};
 ghost use Rattle.host_core.specs.Answers.{Gives};
-ghost use Rattle.host_core.specs.Counts.{DiskMayRise};
-ghost use Rattle.host_core.specs.Crashes.{Elapses, MayLeaveNow};
 ghost use Rattle.host_core.specs.Names.{longest_plain_name};
 ghost use Rattle.conf_store.specs.Stored.{config_in};
 ghost use Rattle.gcu_inputs.specs.IntentAsked.{held_answer, intended_answer, intended_asked, intent_asked, interrupted, uninterrupted};
 ghost use Rattle.gcu_inputs.specs.Preparing.{Finds, Refuses, RefusesAlways, refusal};
+ghost use Rattle.gcu_inputs.specs.Reads.{ReadsFiles};
 
 use conf_doc::Config;
 use conf_store::{INTENT_FILE, LoadError, read_config};
@@ -18,11 +17,8 @@ use std::alloc::Global;
 pub fn test_uninterrupted<H: Host>(alloc: Global, host: &mut H) -> Result<(), Outcome>
     requires { longest_plain_name ≤ H.longest_name }
     ensures answer { Finds (H.told host.old) (λ u. u) result uninterrupted }
-    ensures told { H.told host.new ≡ H.told host.old }
-    ensures counts { DiskMayRise (H.counts host.old) (H.counts host.new) }
+    ensures reads { ReadsFiles H.told H.counts H.moment H.left_since H.goes_on host.old host.new }
     ensures cause { IfErr result (Refuses (H.counts host.old) (H.counts host.new)) }
-    ensures time { Elapses H.moment H.left_since host.old host.new (MayLeaveNow (H.told host.old)) }
-    ensures goes { H.goes_on host.old host.new }
 {
     let found = read_intent(alloc, host)?;
     if found.is_some() {
@@ -35,11 +31,8 @@ pub fn test_uninterrupted<H: Host>(alloc: Global, host: &mut H) -> Result<(), Ou
 pub fn test_interrupted<H: Host>(alloc: Global, host: &mut H) -> Result<(), Outcome>
     requires { longest_plain_name ≤ H.longest_name }
     ensures answer { Finds (H.told host.old) (λ u. u) result interrupted }
-    ensures told { H.told host.new ≡ H.told host.old }
-    ensures counts { DiskMayRise (H.counts host.old) (H.counts host.new) }
+    ensures reads { ReadsFiles H.told H.counts H.moment H.left_since H.goes_on host.old host.new }
     ensures cause { IfErr result (Refuses (H.counts host.old) (H.counts host.new)) }
-    ensures time { Elapses H.moment H.left_since host.old host.new (MayLeaveNow (H.told host.old)) }
-    ensures goes { H.goes_on host.old host.new }
 {
     let found = read_intent(alloc, host)?;
     if found.is_none() {
@@ -52,11 +45,8 @@ pub fn test_interrupted<H: Host>(alloc: Global, host: &mut H) -> Result<(), Outc
 pub fn intent_goal<H: Host>(alloc: Global, host: &mut H) -> Result<Config, Outcome>
     requires { longest_plain_name ≤ H.longest_name }
     ensures answer { Finds (H.told host.old) (λ c. c) result intended_asked }
-    ensures told { H.told host.new ≡ H.told host.old }
-    ensures counts { DiskMayRise (H.counts host.old) (H.counts host.new) }
+    ensures reads { ReadsFiles H.told H.counts H.moment H.left_since H.goes_on host.old host.new }
     ensures cause { IfErr result (Refuses (H.counts host.old) (H.counts host.new)) }
-    ensures time { Elapses H.moment H.left_since host.old host.new (MayLeaveNow (H.told host.old)) }
-    ensures goes { H.goes_on host.old host.new }
 {
     let found = read_intent(alloc, host)?;
     goal_found(alloc, found)
@@ -91,11 +81,8 @@ fn goal_in(alloc: Global, bytes: &[u8]) -> Result<Config, Outcome>
 pub fn read_intent<H: Host>(alloc: Global, host: &mut H) -> Result<Option<Vec<u8>>, Outcome>
     requires { longest_plain_name ≤ H.longest_name }
     ensures answer { Finds (H.told host.old) (option_map (λ v. v.items)) result intent_asked }
-    ensures told { H.told host.new ≡ H.told host.old }
-    ensures counts { DiskMayRise (H.counts host.old) (H.counts host.new) }
+    ensures reads { ReadsFiles H.told H.counts H.moment H.left_since H.goes_on host.old host.new }
     ensures cause { IfErr result (Refuses (H.counts host.old) (H.counts host.new)) }
-    ensures time { Elapses H.moment H.left_since host.old host.new (MayLeaveNow (H.told host.old)) }
-    ensures goes { H.goes_on host.old host.new }
 {
     match host.read(alloc, INTENT_FILE) {
         Ok(found) => Ok(found),

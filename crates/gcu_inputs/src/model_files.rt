@@ -1,13 +1,12 @@
 //! The texts of the models that the list of files names.
 ghost use Rattle.std.specs.Prelude.{◌≡◌, ◌≤◌, ◌+◌, IfErr, IfOk, length};
 ghost use Rattle.host_core.specs.Answers.{Gives};
-ghost use Rattle.host_core.specs.Counts.{InputMayRise};
-ghost use Rattle.host_core.specs.Crashes.{Elapses, MayLeaveNow};
 ghost use Rattle.model_list.specs.Lists.{most_files, paths_of};
 ghost use Rattle.yang_text.specs.Declarations.{total_weight};
 ghost use Rattle.yang_text.specs.Reading.{reading};
 ghost use Rattle.gcu_inputs.specs.ModelFiles.{paths_asked, files_asked, texts_in, texts_asked, text_answer, AreShort, AreSmall};
 ghost use Rattle.gcu_inputs.specs.Preparing.{Finds, Refuses, RefusesAlways, refusal};
+ghost use Rattle.gcu_inputs.specs.Reads.{ReadsInputs};
 
 use crate::inputs::input_bytes;
 use gcu_output::Outcome;
@@ -33,11 +32,8 @@ pub(crate) fn input_texts<H: Host>(alloc: Global, host: &mut H) -> Result<Texts,
     ensures answer { Finds (H.told host.old) (λ texts. texts) result texts_asked }
     ensures small { IfOk result AreSmall }
     ensures few { IfOk result (λ texts. length texts ≤ most_files) }
-    ensures told { H.told host.new ≡ H.told host.old }
-    ensures counts { InputMayRise (H.counts host.old) (H.counts host.new) }
+    ensures reads { ReadsInputs H.told H.counts H.moment H.left_since H.goes_on host.old host.new }
     ensures cause { IfErr result (Refuses (H.counts host.old) (H.counts host.new)) }
-    ensures time { Elapses H.moment H.left_since host.old host.new (MayLeaveNow (H.told host.new)) }
-    ensures goes { H.goes_on host.old host.new }
 {
     let paths = input_paths(alloc, host)?;
     let files = input_files(alloc, Sequence::new(alloc), paths.items(), host)?;
@@ -48,11 +44,8 @@ pub(crate) fn input_texts<H: Host>(alloc: Global, host: &mut H) -> Result<Texts,
 fn input_paths<H: Host>(alloc: Global, host: &mut H) -> Result<Names, Outcome>
     ensures answer { Finds (H.told host.old) (λ paths. paths) result paths_asked }
     ensures few { IfOk result (λ paths. length paths ≤ most_files) }
-    ensures told { H.told host.new ≡ H.told host.old }
-    ensures counts { InputMayRise (H.counts host.old) (H.counts host.new) }
+    ensures reads { ReadsInputs H.told H.counts H.moment H.left_since H.goes_on host.old host.new }
     ensures cause { IfErr result (Refuses (H.counts host.old) (H.counts host.new)) }
-    ensures time { Elapses H.moment H.left_since host.old host.new (MayLeaveNow (H.told host.new)) }
-    ensures goes { H.goes_on host.old host.new }
 {
     let path = Txt::new(alloc, "models.list")?;
     let bytes = input_bytes(alloc, &path, LIST_LIMIT, host)?;
@@ -90,11 +83,8 @@ fn input_files<H: Host>(
         (files_asked found paths.now) }
     ensures short { IfOk result AreShort }
     ensures many { IfOk result (λ files. length files ≡ length found + length paths.now) }
-    ensures told { H.told host.new ≡ H.told host.old }
-    ensures counts { InputMayRise (H.counts host.old) (H.counts host.new) }
+    ensures reads { ReadsInputs H.told H.counts H.moment H.left_since H.goes_on host.old host.new }
     ensures cause { IfErr result (Refuses (H.counts host.old) (H.counts host.new)) }
-    ensures time { Elapses H.moment H.left_since host.old host.new (MayLeaveNow (H.told host.new)) }
-    ensures goes { H.goes_on host.old host.new }
 {
     match paths {
         [] => Ok(found),

@@ -1,10 +1,9 @@
 //! The models of the folder's configuration.
-ghost use Rattle.std.specs.Prelude.{◌≡◌, ◌≤◌, IfErr, length};
-ghost use Rattle.host_core.specs.Counts.{InputMayRise};
-ghost use Rattle.host_core.specs.Crashes.{Elapses, MayLeaveNow};
+ghost use Rattle.std.specs.Prelude.{◌≤◌, IfErr, length};
 ghost use Rattle.model_list.specs.Lists.{most_files};
 ghost use Rattle.gcu_inputs.specs.ModelFiles.{AreModels, AreSmall, models_asked};
 ghost use Rattle.gcu_inputs.specs.Preparing.{Finds, IsRightBy, Refuses, RefusesAlways};
+ghost use Rattle.gcu_inputs.specs.Reads.{ReadsInputs};
 
 use crate::model_files::{Texts, input_texts};
 use gcu_output::Outcome;
@@ -15,11 +14,8 @@ use yang_model::{ModelError, Models, compile};
 /// The models that `models.list` and the files which it names have.
 pub fn input_models<H: Host>(alloc: Global, host: &mut H) -> Result<Models, Outcome>
     ensures answer { Finds (H.told host.old) (λ models. models) result models_asked }
-    ensures told { H.told host.new ≡ H.told host.old }
-    ensures counts { InputMayRise (H.counts host.old) (H.counts host.new) }
+    ensures reads { ReadsInputs H.told H.counts H.moment H.left_since H.goes_on host.old host.new }
     ensures cause { IfErr result (Refuses (H.counts host.old) (H.counts host.new)) }
-    ensures time { Elapses H.moment H.left_since host.old host.new (MayLeaveNow (H.told host.new)) }
-    ensures goes { H.goes_on host.old host.new }
 {
     let texts = input_texts(alloc, host)?;
     models_of(alloc, &texts)

@@ -1,12 +1,11 @@
 //! The patch that an input holds.
-ghost use Rattle.std.specs.Prelude.{◌≡◌, IfErr};
+ghost use Rattle.std.specs.Prelude.{IfErr};
 ghost use Rattle.host_core.specs.Answers.{Gives};
-ghost use Rattle.host_core.specs.Counts.{InputMayRise};
-ghost use Rattle.host_core.specs.Crashes.{Elapses, MayLeaveNow};
 ghost use Rattle.patch_core.specs.Operation.{operations};
 ghost use Rattle.patch_core.specs.Reading.{patch as patch_of};
 ghost use Rattle.gcu_inputs.specs.PatchAsked.{patch_asked, patch_in, patch_answer};
 ghost use Rattle.gcu_inputs.specs.Preparing.{Finds, Refuses, RefusesAlways, refusal};
+ghost use Rattle.gcu_inputs.specs.Reads.{ReadsInputs};
 
 use gcu_output::Outcome;
 use host_core::{Host, HostError, Input, Txt};
@@ -19,11 +18,8 @@ const PATCH_LIMIT: u64 = 1_048_576;
 /// The patch that an input holds.
 pub fn input_patch<H: Host>(alloc: Global, path: &Txt, host: &mut H) -> Result<Patch, Outcome>
     ensures answer { Finds (H.told host.old) operations result (patch_asked path.now) }
-    ensures told { H.told host.new ≡ H.told host.old }
-    ensures counts { InputMayRise (H.counts host.old) (H.counts host.new) }
+    ensures reads { ReadsInputs H.told H.counts H.moment H.left_since H.goes_on host.old host.new }
     ensures cause { IfErr result (Refuses (H.counts host.old) (H.counts host.new)) }
-    ensures time { Elapses H.moment H.left_since host.old host.new (MayLeaveNow (H.told host.new)) }
-    ensures goes { H.goes_on host.old host.new }
 {
     match host.input(alloc, path.as_str(), PATCH_LIMIT) {
         Ok(input) => patch_of_input(alloc, path, input),

@@ -1,12 +1,11 @@
 //! By what the moves of a plan are judged: the models, and the rules file.
-ghost use Rattle.std.specs.Prelude.{◌≡◌, IfErr, IfOk};
+ghost use Rattle.std.specs.Prelude.{IfErr, IfOk};
 ghost use Rattle.host_core.specs.Answers.{Gives};
-ghost use Rattle.host_core.specs.Counts.{InputMayRise};
-ghost use Rattle.host_core.specs.Crashes.{Elapses, MayLeaveNow};
 ghost use Rattle.move_core.specs.Contexts.{IsNamed};
 ghost use Rattle.move_core.specs.Named.{HasNames};
 ghost use Rattle.move_core.specs.RulesFile.{rules};
 ghost use Rattle.gcu_inputs.specs.Preparing.{Finds, Refuses, RefusesAlways, refusal};
+ghost use Rattle.gcu_inputs.specs.Reads.{ReadsInputs};
 ghost use Rattle.gcu_inputs.specs.RulesAsked.{ctx_asked, rules_answer, settings_asked};
 
 use crate::inputs::input_bytes;
@@ -23,11 +22,8 @@ const RULES_LIMIT: u64 = 1_048_576;
 pub fn input_ctx<H: Host>(alloc: Global, host: &mut H) -> Result<Ctx, Outcome>
     ensures answer { Finds (H.told host.old) (λ ctx. ctx) result ctx_asked }
     ensures named { IfOk result IsNamed }
-    ensures told { H.told host.new ≡ H.told host.old }
-    ensures counts { InputMayRise (H.counts host.old) (H.counts host.new) }
+    ensures reads { ReadsInputs H.told H.counts H.moment H.left_since H.goes_on host.old host.new }
     ensures cause { IfErr result (Refuses (H.counts host.old) (H.counts host.new)) }
-    ensures time { Elapses H.moment H.left_since host.old host.new (MayLeaveNow (H.told host.new)) }
-    ensures goes { H.goes_on host.old host.new }
 {
     let models = input_models(alloc, host)?;
     let settings = input_settings(alloc, host)?;
@@ -38,11 +34,8 @@ pub fn input_ctx<H: Host>(alloc: Global, host: &mut H) -> Result<Ctx, Outcome>
 fn input_settings<H: Host>(alloc: Global, host: &mut H) -> Result<Settings, Outcome>
     ensures answer { Finds (H.told host.old) (λ settings. settings) result settings_asked }
     ensures named { IfOk result HasNames }
-    ensures told { H.told host.new ≡ H.told host.old }
-    ensures counts { InputMayRise (H.counts host.old) (H.counts host.new) }
+    ensures reads { ReadsInputs H.told H.counts H.moment H.left_since H.goes_on host.old host.new }
     ensures cause { IfErr result (Refuses (H.counts host.old) (H.counts host.new)) }
-    ensures time { Elapses H.moment H.left_since host.old host.new (MayLeaveNow (H.told host.new)) }
-    ensures goes { H.goes_on host.old host.new }
 {
     let path = Txt::new(alloc, "rules.json")?;
     let bytes = input_bytes(alloc, &path, RULES_LIMIT, host)?;

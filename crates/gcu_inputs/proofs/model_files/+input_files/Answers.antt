@@ -22,4 +22,4 @@ returns-in_ok-push-in-len1-up-clause-answer g t c =
     (file_read told c.args.found c.path-item.result c.in_ok-bytes-in-len1-up.bytes rest c.input_files.result
     c.in_ok-bytes-in-len1-up.ensures.answer
     (subst (λ f. Finds told (λ files. files) c.input_files.result (files_asked f rest)) found
-    (rw c.in_ok-bytes-in-len1-up.ensures.told at c.input_files.ensures.answer)))
+    (rw c.in_ok-bytes-in-len1-up.ensures.reads.state at c.input_files.ensures.answer)))

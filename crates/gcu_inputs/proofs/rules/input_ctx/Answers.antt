@@ -12,9 +12,9 @@ returns-in_err-settings-clause-answer g c =
     let p = err_from_is_err_and c.from_residual-in_err-settings.result c.from_residual-in_err-settings.ensures.1 in
     rw (p.1, p.2)
     (no_ctx_settings (g.H.Host.told c.args.host.now) c.in_ok-models.models c.in_err-settings.field-0.0 c.in_ok-models.ensures.answer
-    (rw c.in_ok-models.ensures.told at c.in_err-settings.ensures.answer))
+    (rw c.in_ok-models.ensures.reads.state at c.in_err-settings.ensures.answer))
 
 pub returns-clause-answer : goal.returns-clause-answer
 returns-clause-answer g c =
     ctx_found (g.H.Host.told c.args.host.now) c.in_ok-models.models c.in_ok-settings.settings c.in_ok-models.ensures.answer
-    (rw c.in_ok-models.ensures.told at c.in_ok-settings.ensures.answer)
+    (rw c.in_ok-models.ensures.reads.state at c.in_ok-settings.ensures.answer)
