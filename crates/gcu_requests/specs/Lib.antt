@@ -1,7 +1,6 @@
 -- what public clauses cite
 pub mod Asked
 pub mod Checking
-pub mod Counts
 pub mod DemoAsked
 pub mod FileAsked
 pub mod IntentView

@@ -1,12 +1,10 @@
 //! Whether the stored configuration is valid by its models, and where it isn't.
-ghost use Rattle.std.specs.Prelude.{◌≡◌, ◌≤◌, IfErr, IfOk, Ok};
-ghost use Rattle.host_core.specs.Counts.{NoneFell};
-ghost use Rattle.host_core.specs.Crashes.{Elapses, MayLeaveNow};
+ghost use Rattle.std.specs.Prelude.{◌≤◌, IfErr, IfOk, Ok};
 ghost use Rattle.host_core.specs.Names.{longest_plain_name};
 ghost use Rattle.gcu_inputs.specs.Preparing.{Finds, IsRightBy, Refuses, RefusesAlways};
+ghost use Rattle.gcu_inputs.specs.Reads.{OnlyReads};
 ghost use Rattle.gcu_inputs.specs.StoredAsked.{stored_asked};
 ghost use Rattle.gcu_requests.specs.Checking.{IsJudged, check_asked, judging_asked};
-ghost use Rattle.gcu_requests.specs.Counts.{IsQuiet};
 ghost use Rattle.gcu_requests.specs.Request.{check as check_of};
 
 use crate::judging::{End, invalid};
@@ -23,12 +21,8 @@ pub fn judge_stored<H: Host>(alloc: Global, host: &mut H) -> Result<Config, Outc
     requires { longest_plain_name ≤ H.longest_name }
     ensures answer { Finds (H.told host.old) (λ _. check_of) result check_asked }
     ensures stored { IfOk result (λ c. Finds (H.told host.old) (λ _. c) (Ok c) stored_asked) }
-    ensures told { H.told host.new ≡ H.told host.old }
-    ensures counts { NoneFell (H.counts host.old) (H.counts host.new) }
-    ensures quiet { IsQuiet (H.counts host.old) (H.counts host.new) }
+    ensures reads { OnlyReads H.told H.counts H.moment H.left_since H.goes_on host.old host.new }
     ensures cause { IfErr result (Refuses (H.counts host.old) (H.counts host.new)) }
-    ensures time { Elapses H.moment H.left_since host.old host.new (MayLeaveNow (H.told host.old)) }
-    ensures goes { H.goes_on host.old host.new }
 {
     test_uninterrupted(alloc, host)?;
     judge_folder(alloc, host)
@@ -39,12 +33,8 @@ fn judge_folder<H: Host>(alloc: Global, host: &mut H) -> Result<Config, Outcome>
     requires { longest_plain_name ≤ H.longest_name }
     ensures answer { Finds (H.told host.old) (λ _. check_of) result judging_asked }
     ensures stored { IfOk result (λ c. Finds (H.told host.old) (λ _. c) (Ok c) stored_asked) }
-    ensures told { H.told host.new ≡ H.told host.old }
-    ensures counts { NoneFell (H.counts host.old) (H.counts host.new) }
-    ensures quiet { IsQuiet (H.counts host.old) (H.counts host.new) }
+    ensures reads { OnlyReads H.told H.counts H.moment H.left_since H.goes_on host.old host.new }
     ensures cause { IfErr result (Refuses (H.counts host.old) (H.counts host.new)) }
-    ensures time { Elapses H.moment H.left_since host.old host.new (MayLeaveNow (H.told host.old)) }
-    ensures goes { H.goes_on host.old host.new }
 {
     let models = input_models(alloc, host)?;
     let config = read_config(alloc, host)?;

@@ -1,10 +1,9 @@
 //! The goal of `gcu rollback NAME`: the configuration that a checkpoint holds.
 ghost use Rattle.std.specs.Prelude.{◌≡◌, ◌≤◌, true, IfErr};
-ghost use Rattle.host_core.specs.Counts.{DiskMayRise};
-ghost use Rattle.host_core.specs.Crashes.{Elapses, MayLeaveNow};
 ghost use Rattle.host_core.specs.Names.{longest_plain_name};
 ghost use Rattle.checkpoints.specs.Names.{is_good_name as is_name};
 ghost use Rattle.gcu_inputs.specs.Preparing.{Finds, Refuses};
+ghost use Rattle.gcu_inputs.specs.Reads.{ReadsFiles};
 ghost use Rattle.gcu_requests.specs.PointAsked.{held_asked};
 
 use checkpoints::{PointError, load};
@@ -22,11 +21,8 @@ pub(crate) fn checkpoint_goal<H: Host>(
     requires longest { longest_plain_name ≤ H.longest_name }
     requires named { is_name name.now ≡ true }
     ensures answer { Finds (H.told host.old) (λ c. c) result (held_asked name.now) }
-    ensures told { H.told host.new ≡ H.told host.old }
-    ensures counts { DiskMayRise (H.counts host.old) (H.counts host.new) }
+    ensures reads { ReadsFiles H.told H.counts H.moment H.left_since H.goes_on host.old host.new }
     ensures cause { IfErr result (Refuses (H.counts host.old) (H.counts host.new)) }
-    ensures time { Elapses H.moment H.left_since host.old host.new (MayLeaveNow (H.told host.old)) }
-    ensures goes { H.goes_on host.old host.new }
 {
     match load(alloc, host, name.as_str()) {
         Ok(config) => Ok(config),

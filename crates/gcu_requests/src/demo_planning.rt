@@ -1,11 +1,9 @@
 //! What a plan between the two configurations of a demonstration needs.
-ghost use Rattle.std.specs.Prelude.{◌≡◌, ◌≤◌, IfErr, IfOk};
-ghost use Rattle.host_core.specs.Counts.{NoneFell};
-ghost use Rattle.host_core.specs.Crashes.{Elapses, MayLeaveNow};
+ghost use Rattle.std.specs.Prelude.{◌≤◌, IfErr, IfOk};
 ghost use Rattle.host_core.specs.Names.{longest_plain_name};
 ghost use Rattle.move_core.specs.Contexts.{IsNamed};
 ghost use Rattle.gcu_inputs.specs.Preparing.{Finds, Found, Refuses, RefusesAlways};
-ghost use Rattle.gcu_requests.specs.Counts.{IsQuiet};
+ghost use Rattle.gcu_inputs.specs.Reads.{OnlyReads};
 ghost use Rattle.gcu_requests.specs.DemoAsked.{demo_planning_asked, generated_asked, generating_asked};
 ghost use Rattle.gcu_requests.specs.ReadPlannings.{HasNothingToFold, IsReadyToSearch, planning_of};
 
@@ -28,12 +26,8 @@ pub fn prepare_demo<H: Host>(alloc: Global, size: Demo, host: &mut H) -> Result<
         (demo_planning_asked size.seed size.ports) }
     ensures ready { IfOk result IsReadyToSearch }
     ensures made { IfOk result (λ p. HasNothingToFold p.stored) }
-    ensures told { H.told host.new ≡ H.told host.old }
-    ensures counts { NoneFell (H.counts host.old) (H.counts host.new) }
-    ensures quiet { IsQuiet (H.counts host.old) (H.counts host.new) }
+    ensures reads { OnlyReads H.told H.counts H.moment H.left_since H.goes_on host.old host.new }
     ensures cause { IfErr result (Refuses (H.counts host.old) (H.counts host.new)) }
-    ensures time { Elapses H.moment H.left_since host.old host.new (MayLeaveNow (H.told host.old)) }
-    ensures goes { H.goes_on host.old host.new }
 {
     test_uninterrupted(alloc, host)?;
     read_demo(alloc, size, host)
@@ -45,12 +39,8 @@ fn read_demo<H: Host>(alloc: Global, size: Demo, host: &mut H) -> Result<Plannin
         (generating_asked size.seed size.ports) }
     ensures ready { IfOk result IsReadyToSearch }
     ensures made { IfOk result (λ p. HasNothingToFold p.stored) }
-    ensures told { H.told host.new ≡ H.told host.old }
-    ensures counts { NoneFell (H.counts host.old) (H.counts host.new) }
-    ensures quiet { IsQuiet (H.counts host.old) (H.counts host.new) }
+    ensures reads { OnlyReads H.told H.counts H.moment H.left_since H.goes_on host.old host.new }
     ensures cause { IfErr result (Refuses (H.counts host.old) (H.counts host.new)) }
-    ensures time { Elapses H.moment H.left_since host.old host.new (MayLeaveNow (H.told host.old)) }
-    ensures goes { H.goes_on host.old host.new }
 {
     let ctx = input_ctx(alloc, host)?;
     generate(alloc, ctx, size)

@@ -1,12 +1,11 @@
 //! The goal of `gcu replace FILE`: the configuration that an input holds.
-ghost use Rattle.std.specs.Prelude.{◌≡◌, IfErr};
+ghost use Rattle.std.specs.Prelude.{IfErr};
 ghost use Rattle.host_core.specs.Answers.{Gives};
-ghost use Rattle.host_core.specs.Counts.{InputMayRise};
-ghost use Rattle.host_core.specs.Crashes.{Elapses, MayLeaveNow};
 ghost use Rattle.conf_doc.specs.Reading.{reading};
 ghost use Rattle.conf_doc.specs.Shaping.{shaping};
 ghost use Rattle.conf_doc.specs.Trees.{document};
 ghost use Rattle.gcu_inputs.specs.Preparing.{Finds, Refuses, RefusesAlways, refusal};
+ghost use Rattle.gcu_inputs.specs.Reads.{ReadsInputs};
 ghost use Rattle.gcu_requests.specs.FileAsked.{config_answer, config_found, document_answer, file_asked};
 
 use conf_doc::{Config, ReadError, ShapeError, Tree, config_of_tree, read_tree};
@@ -21,11 +20,8 @@ const FILE_LIMIT: u64 = 4_194_304;
 /// The configuration that the input at a path holds.
 pub(crate) fn file_goal<H: Host>(alloc: Global, path: &Txt, host: &mut H) -> Result<Config, Outcome>
     ensures answer { Finds (H.told host.old) (λ c. c) result (file_asked path.now) }
-    ensures told { H.told host.new ≡ H.told host.old }
-    ensures counts { InputMayRise (H.counts host.old) (H.counts host.new) }
+    ensures reads { ReadsInputs H.told H.counts H.moment H.left_since H.goes_on host.old host.new }
     ensures cause { IfErr result (Refuses (H.counts host.old) (H.counts host.new)) }
-    ensures time { Elapses H.moment H.left_since host.old host.new (MayLeaveNow (H.told host.new)) }
-    ensures goes { H.goes_on host.old host.new }
 {
     let bytes = input_bytes(alloc, path, FILE_LIMIT, host)?;
     find_config(alloc, path, bytes.items())

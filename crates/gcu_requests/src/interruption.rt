@@ -1,11 +1,10 @@
 //! `gcu status`: whether a change was stopped, and how far it is.
 ghost use Rattle.std.specs.Prelude.{◌≡◌, ◌≤◌, IfErr, IfOk, IfSome, option_map};
-ghost use Rattle.host_core.specs.Counts.{DiskMayRise};
-ghost use Rattle.host_core.specs.Crashes.{Elapses, MayLeaveNow};
 ghost use Rattle.host_core.specs.Names.{longest_plain_name};
 ghost use Rattle.conf_store.specs.Stored.{config_in};
 ghost use Rattle.gcu_output.specs.declared.outcomes.Outcome.TheVariants.{Memory as no_memory};
 ghost use Rattle.gcu_inputs.specs.Preparing.{Finds, Refuses};
+ghost use Rattle.gcu_inputs.specs.Reads.{ReadsFiles};
 ghost use Rattle.gcu_requests.specs.InterruptionAsked.{intent_holding, intent_of, status_asked};
 ghost use Rattle.gcu_requests.specs.IntentView.{CountsIn, status_request};
 
@@ -27,11 +26,8 @@ pub struct Status {
 pub fn read_status<H: Host>(alloc: Global, host: &mut H) -> Result<Status, Outcome>
     requires { longest_plain_name ≤ H.longest_name }
     ensures answer { Finds (H.told host.old) status_request result status_asked }
-    ensures told { H.told host.new ≡ H.told host.old }
-    ensures counts { DiskMayRise (H.counts host.old) (H.counts host.new) }
+    ensures reads { ReadsFiles H.told H.counts H.moment H.left_since H.goes_on host.old host.new }
     ensures cause { IfErr result (Refuses (H.counts host.old) (H.counts host.new)) }
-    ensures time { Elapses H.moment H.left_since host.old host.new (MayLeaveNow (H.told host.old)) }
-    ensures goes { H.goes_on host.old host.new }
 {
     let steps = read_steps(alloc, host)?;
     let found = read_intent(alloc, host)?;
@@ -43,11 +39,8 @@ pub fn read_status<H: Host>(alloc: Global, host: &mut H) -> Result<Status, Outco
 fn read_steps<H: Host>(alloc: Global, host: &mut H) -> Result<u32, Outcome>
     requires { longest_plain_name ≤ H.longest_name }
     ensures answer { IfSome (H.told host.old) (λ s. CountsIn s result) }
-    ensures told { H.told host.new ≡ H.told host.old }
-    ensures counts { DiskMayRise (H.counts host.old) (H.counts host.new) }
+    ensures reads { ReadsFiles H.told H.counts H.moment H.left_since H.goes_on host.old host.new }
     ensures cause { IfErr result (Refuses (H.counts host.old) (H.counts host.new)) }
-    ensures time { Elapses H.moment H.left_since host.old host.new (MayLeaveNow (H.told host.old)) }
-    ensures goes { H.goes_on host.old host.new }
 {
     match count_steps(alloc, host) {
         Ok(count) => Ok(count),

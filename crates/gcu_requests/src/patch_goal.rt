@@ -1,14 +1,13 @@
 //! The goal of `gcu apply-patch PATCH`: what the patch makes of the start.
-ghost use Rattle.std.specs.Prelude.{◌≡◌, IfErr};
+ghost use Rattle.std.specs.Prelude.{IfErr};
 ghost use Rattle.host_core.specs.Answers.{Gives};
-ghost use Rattle.host_core.specs.Counts.{InputMayRise};
-ghost use Rattle.host_core.specs.Crashes.{Elapses, MayLeaveNow};
 ghost use Rattle.conf_doc.specs.Shaping.{shaping};
 ghost use Rattle.conf_doc.specs.Trees.{document};
 ghost use Rattle.patch_core.specs.Operation.{operations};
 ghost use Rattle.plan_options.specs.Targets.{patched};
 ghost use Rattle.gcu_inputs.specs.PatchAsked.{target, target_shape};
 ghost use Rattle.gcu_inputs.specs.Preparing.{Finds, Refuses, RefusesAlways, refusal};
+ghost use Rattle.gcu_inputs.specs.Reads.{ReadsInputs};
 ghost use Rattle.gcu_requests.specs.PlanAsked.{made_asked};
 
 use conf_doc::{Config, ShapeError, Tree, config_of_tree, tree_of};
@@ -27,11 +26,8 @@ pub(crate) fn patch_goal<H: Host>(
 ) -> Result<Config, Outcome>
     ensures answer { Finds (H.told host.old) (λ c. c) result
         (made_asked (patched path.now) start.now) }
-    ensures told { H.told host.new ≡ H.told host.old }
-    ensures counts { InputMayRise (H.counts host.old) (H.counts host.new) }
+    ensures reads { ReadsInputs H.told H.counts H.moment H.left_since H.goes_on host.old host.new }
     ensures cause { IfErr result (Refuses (H.counts host.old) (H.counts host.new)) }
-    ensures time { Elapses H.moment H.left_since host.old host.new (MayLeaveNow (H.told host.new)) }
-    ensures goes { H.goes_on host.old host.new }
 {
     let patch = input_patch(alloc, path, host)?;
     patch_start(alloc, &patch, start)

@@ -1,14 +1,12 @@
 //! `gcu check-plan PATCH PLAN`: whether an input holds a plan for a patch, and where it doesn't.
-ghost use Rattle.std.specs.Prelude.{◌≡◌, ◌≤◌, ◌<◌, IfErr, IfOk, length};
-ghost use Rattle.host_core.specs.Counts.{InputMayRise, NoneFell};
-ghost use Rattle.host_core.specs.Crashes.{Elapses, MayLeaveNow};
+ghost use Rattle.std.specs.Prelude.{◌≤◌, ◌<◌, IfErr, IfOk, length};
 ghost use Rattle.host_core.specs.Names.{longest_plain_name};
 ghost use Rattle.plan_check.specs.Checks.{most_steps};
 ghost use Rattle.plan_options.specs.Options.{default_budget};
 ghost use Rattle.plan_options.specs.Targets.{patched};
 ghost use Rattle.plan_texts.specs.PlanTexts.{most_bytes};
 ghost use Rattle.gcu_inputs.specs.Preparing.{Finds, IsRightBy, Refuses, RefusesAlways};
-ghost use Rattle.gcu_requests.specs.Counts.{IsQuiet};
+ghost use Rattle.gcu_inputs.specs.Reads.{OnlyReads, ReadsInputs};
 ghost use Rattle.gcu_requests.specs.PlanAsked.{planning_asked};
 ghost use Rattle.gcu_requests.specs.PlanCheckAsked.{IsAccepted, IsPlanIn, check_plan_asked, moves_asked};
 ghost use Rattle.gcu_requests.specs.ReadPlannings.{IsReadyToSearch, planning_of};
@@ -36,12 +34,8 @@ pub fn judge_plan<H: Host>(
     requires { longest_plain_name ≤ H.longest_name }
     ensures answer { Finds (H.told host.old) accept_plan result
         (check_plan_asked patch.now plan.now) }
-    ensures told { H.told host.new ≡ H.told host.old }
-    ensures counts { NoneFell (H.counts host.old) (H.counts host.new) }
-    ensures quiet { IsQuiet (H.counts host.old) (H.counts host.new) }
+    ensures reads { OnlyReads H.told H.counts H.moment H.left_since H.goes_on host.old host.new }
     ensures cause { IfErr result (Refuses (H.counts host.old) (H.counts host.new)) }
-    ensures time { Elapses H.moment H.left_since host.old host.new (MayLeaveNow (H.told host.old)) }
-    ensures goes { H.goes_on host.old host.new }
 {
     let planning = prepare_patch(alloc, patch, host)?;
     let moves = input_plan(alloc, plan, host)?;
@@ -54,12 +48,8 @@ fn prepare_patch<H: Host>(alloc: Global, patch: &Txt, host: &mut H) -> Result<Pl
     ensures answer { Finds (H.told host.old) planning_of result
         (planning_asked (patched patch.now) default_budget) }
     ensures ready { IfOk result IsReadyToSearch }
-    ensures told { H.told host.new ≡ H.told host.old }
-    ensures counts { NoneFell (H.counts host.old) (H.counts host.new) }
-    ensures quiet { IsQuiet (H.counts host.old) (H.counts host.new) }
+    ensures reads { OnlyReads H.told H.counts H.moment H.left_since H.goes_on host.old host.new }
     ensures cause { IfErr result (Refuses (H.counts host.old) (H.counts host.new)) }
-    ensures time { Elapses H.moment H.left_since host.old host.new (MayLeaveNow (H.told host.old)) }
-    ensures goes { H.goes_on host.old host.new }
 {
     let target = Target {
         source: Source::Patch,
@@ -72,11 +62,8 @@ fn prepare_patch<H: Host>(alloc: Global, patch: &Txt, host: &mut H) -> Result<Pl
 fn input_plan<H: Host>(alloc: Global, path: &Txt, host: &mut H) -> Result<Plan, Outcome>
     ensures answer { Finds (H.told host.old) (λ ms. ms) result (moves_asked path.now) }
     ensures few { IfOk result (λ ms. length ms < most_steps) }
-    ensures told { H.told host.new ≡ H.told host.old }
-    ensures counts { InputMayRise (H.counts host.old) (H.counts host.new) }
+    ensures reads { ReadsInputs H.told H.counts H.moment H.left_since H.goes_on host.old host.new }
     ensures cause { IfErr result (Refuses (H.counts host.old) (H.counts host.new)) }
-    ensures time { Elapses H.moment H.left_since host.old host.new (MayLeaveNow (H.told host.new)) }
-    ensures goes { H.goes_on host.old host.new }
 {
     let bytes = input_bytes(alloc, path, PLAN_LIMIT, host)?;
     plan_in(alloc, path, bytes.items())

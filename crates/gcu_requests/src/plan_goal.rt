@@ -2,14 +2,12 @@
 //! all commands that plan but for where the target comes from, which has a file of its own for each of them.
 ghost use Rattle.std.specs.Prelude.{◌≡◌, ◌≤◌, true, IfErr, IfOk, OnOk};
 ghost use Rattle.host_core.specs.Answers.{Gives};
-ghost use Rattle.host_core.specs.Counts.{NoneFell};
-ghost use Rattle.host_core.specs.Crashes.{Elapses, MayLeaveNow};
 ghost use Rattle.host_core.specs.Names.{longest_plain_name};
 ghost use Rattle.move_core.specs.Contexts.{AgreeElsewhere, IsValidIn};
 ghost use Rattle.checkpoints.specs.Names.{is_good_name as is_name};
 ghost use Rattle.plan_options.specs.Views.{target_view};
 ghost use Rattle.gcu_inputs.specs.Preparing.{Finds, Found, IsRightBy, Refuses, RefusesAlways, refusal};
-ghost use Rattle.gcu_requests.specs.Counts.{IsQuiet};
+ghost use Rattle.gcu_inputs.specs.Reads.{OnlyReads};
 ghost use Rattle.gcu_requests.specs.PlanAsked.{HasKeys, IsElsewhereAs, goal_asked, judged_asked, made_asked, target_answer};
 ghost use Rattle.gcu_requests.specs.ReadPlannings.{HasGoodName};
 ghost use Rattle.gcu_requests.specs.PointAsked.{name_answer};
@@ -69,12 +67,8 @@ pub(crate) fn read_goal<H: Host>(
         (goal_asked (target_view target.entry) ctx.now start.now) }
     ensures valid { IfOk result (IsValidIn ctx.now) }
     ensures elsewhere { IfOk result (AgreeElsewhere ctx.now start.now) }
-    ensures told { H.told host.new ≡ H.told host.old }
-    ensures counts { NoneFell (H.counts host.old) (H.counts host.new) }
-    ensures quiet { IsQuiet (H.counts host.old) (H.counts host.new) }
+    ensures reads { OnlyReads H.told H.counts H.moment H.left_since H.goes_on host.old host.new }
     ensures cause { IfErr result (Refuses (H.counts host.old) (H.counts host.new)) }
-    ensures time { Elapses H.moment H.left_since host.old host.new (MayLeaveNow (H.told host.old)) }
-    ensures goes { H.goes_on host.old host.new }
 {
     let goal = make_goal(alloc, target, start, host)?;
     judge_goal(alloc, ctx, start, goal)
@@ -108,12 +102,8 @@ fn make_goal<H: Host>(
     requires named { HasGoodName (target_view target) }
     ensures answer { Finds (H.told host.old) (λ c. c) result
         (made_asked (target_view target.entry) start.now) }
-    ensures told { H.told host.new ≡ H.told host.old }
-    ensures counts { NoneFell (H.counts host.old) (H.counts host.new) }
-    ensures quiet { IsQuiet (H.counts host.old) (H.counts host.new) }
+    ensures reads { OnlyReads H.told H.counts H.moment H.left_since H.goes_on host.old host.new }
     ensures cause { IfErr result (Refuses (H.counts host.old) (H.counts host.new)) }
-    ensures time { Elapses H.moment H.left_since host.old host.new (MayLeaveNow (H.told host.old)) }
-    ensures goes { H.goes_on host.old host.new }
 {
     match target.source {
         Source::Patch => patch_goal(alloc, target.word, start, host),

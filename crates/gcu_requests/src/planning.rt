@@ -1,8 +1,6 @@
 //! What a command that plans needs.
 ghost use Rattle.std.specs.Prelude.{◌≡◌, ◌≤◌, ◌<◌, IfErr, IfOk, IfSome};
 ghost use Rattle.std.specs.List.{AllPass};
-ghost use Rattle.host_core.specs.Counts.{DiskMayRise, NoneFell};
-ghost use Rattle.host_core.specs.Crashes.{Elapses, MayLeaveNow};
 ghost use Rattle.host_core.specs.Names.{longest_plain_name};
 ghost use Rattle.conf_doc.specs.WellFormed.{IsConfig};
 ghost use Rattle.conf_store.specs.Files.{is_step_name};
@@ -12,7 +10,7 @@ ghost use Rattle.plan_options.specs.Views.{target_view};
 ghost use Rattle.gcu_output.specs.declared.outcomes.Outcome.TheVariants.{CurrentInvalid as current_invalid};
 ghost use Rattle.gcu_inputs.specs.IntentAsked.{gate_asked};
 ghost use Rattle.gcu_inputs.specs.Preparing.{Finds, IsRightBy, Refuses, RefusesAlways};
-ghost use Rattle.gcu_requests.specs.Counts.{IsQuiet};
+ghost use Rattle.gcu_inputs.specs.Reads.{OnlyReads, ReadsFiles};
 ghost use Rattle.gcu_requests.specs.PlanAsked.{IsValidOr, needs_asked, planning_asked, start_asked};
 ghost use Rattle.gcu_requests.specs.ReadPlannings.{HasGoodName, IsReadyToSearch, planning_of};
 
@@ -53,12 +51,8 @@ pub fn prepare<H: Host>(
     ensures budget { IfOk result (λ p. p.budget ≡ budget) }
     ensures stands { IfOk result
         (λ p. IfSome (H.told host.old) (λ s. StandsFor p.stored s.files)) }
-    ensures told { H.told host.new ≡ H.told host.old }
-    ensures counts { NoneFell (H.counts host.old) (H.counts host.new) }
-    ensures quiet { IsQuiet (H.counts host.old) (H.counts host.new) }
+    ensures reads { OnlyReads H.told H.counts H.moment H.left_since H.goes_on host.old host.new }
     ensures cause { IfErr result (Refuses (H.counts host.old) (H.counts host.new)) }
-    ensures time { Elapses H.moment H.left_since host.old host.new (MayLeaveNow (H.told host.old)) }
-    ensures goes { H.goes_on host.old host.new }
 {
     test_gate(alloc, target, host)?;
     read_needs(alloc, target, budget, host)
@@ -69,11 +63,8 @@ fn test_gate<H: Host>(alloc: Global, target: Target<'_>, host: &mut H) -> Result
     requires { longest_plain_name ≤ H.longest_name }
     ensures answer { Finds (H.told host.old) (λ u. u) result
         (gate_asked (target_view target.entry)) }
-    ensures told { H.told host.new ≡ H.told host.old }
-    ensures counts { DiskMayRise (H.counts host.old) (H.counts host.new) }
+    ensures reads { ReadsFiles H.told H.counts H.moment H.left_since H.goes_on host.old host.new }
     ensures cause { IfErr result (Refuses (H.counts host.old) (H.counts host.new)) }
-    ensures time { Elapses H.moment H.left_since host.old host.new (MayLeaveNow (H.told host.old)) }
-    ensures goes { H.goes_on host.old host.new }
 {
     match target.source {
         Source::Patch | Source::File | Source::Checkpoint => test_uninterrupted(alloc, host),
@@ -97,12 +88,8 @@ fn read_needs<H: Host>(
     ensures budget { IfOk result (λ p. p.budget ≡ budget) }
     ensures stands { IfOk result
         (λ p. IfSome (H.told host.old) (λ s. StandsFor p.stored s.files)) }
-    ensures told { H.told host.new ≡ H.told host.old }
-    ensures counts { NoneFell (H.counts host.old) (H.counts host.new) }
-    ensures quiet { IsQuiet (H.counts host.old) (H.counts host.new) }
+    ensures reads { OnlyReads H.told H.counts H.moment H.left_since H.goes_on host.old host.new }
     ensures cause { IfErr result (Refuses (H.counts host.old) (H.counts host.new)) }
-    ensures time { Elapses H.moment H.left_since host.old host.new (MayLeaveNow (H.told host.old)) }
-    ensures goes { H.goes_on host.old host.new }
 {
     let ctx = input_ctx(alloc, host)?;
     let stored = read_start(alloc, &ctx, host)?;
@@ -124,11 +111,8 @@ pub(crate) fn read_start<H: Host>(alloc: Global, ctx: &Ctx, host: &mut H) -> Res
     ensures names { IfOk result (λ what. AllPass is_step_name what.steps) }
     ensures formed { IfOk result (λ what. IsConfig what.config) }
     ensures valid { IfOk result (λ what. IsValidIn ctx.now what.config) }
-    ensures told { H.told host.new ≡ H.told host.old }
-    ensures counts { DiskMayRise (H.counts host.old) (H.counts host.new) }
+    ensures reads { ReadsFiles H.told H.counts H.moment H.left_since H.goes_on host.old host.new }
     ensures cause { IfErr result (Refuses (H.counts host.old) (H.counts host.new)) }
-    ensures time { Elapses H.moment H.left_since host.old host.new (MayLeaveNow (H.told host.old)) }
-    ensures goes { H.goes_on host.old host.new }
 {
     let what = read_folder(alloc, host)?;
     judge_start(alloc, ctx, what)

@@ -1,13 +1,11 @@
 //! `gcu preview PATCH`: what the patch would make of the stored configuration.
-ghost use Rattle.std.specs.Prelude.{◌≡◌, ◌≤◌, IfErr};
+ghost use Rattle.std.specs.Prelude.{◌≤◌, IfErr};
 ghost use Rattle.host_core.specs.Answers.{Gives};
-ghost use Rattle.host_core.specs.Counts.{NoneFell};
-ghost use Rattle.host_core.specs.Crashes.{Elapses, MayLeaveNow};
 ghost use Rattle.host_core.specs.Names.{longest_plain_name};
 ghost use Rattle.conf_doc.specs.Trees.{document};
 ghost use Rattle.patch_core.specs.Operation.{operations};
 ghost use Rattle.gcu_inputs.specs.Preparing.{Finds, Refuses, RefusesAlways, refusal};
-ghost use Rattle.gcu_requests.specs.Counts.{IsQuiet};
+ghost use Rattle.gcu_inputs.specs.Reads.{OnlyReads};
 ghost use Rattle.gcu_requests.specs.Trees.{document_shape, patched_document, preview_document, target_document};
 
 use crate::stored_tree::read_stored;
@@ -23,12 +21,8 @@ use std::alloc::Global;
 pub fn preview<H: Host>(alloc: Global, path: &Txt, host: &mut H) -> Result<Tree, Outcome>
     requires { longest_plain_name ≤ H.longest_name }
     ensures answer { Finds (H.told host.old) document result (preview_document path.now) }
-    ensures told { H.told host.new ≡ H.told host.old }
-    ensures counts { NoneFell (H.counts host.old) (H.counts host.new) }
-    ensures quiet { IsQuiet (H.counts host.old) (H.counts host.new) }
+    ensures reads { OnlyReads H.told H.counts H.moment H.left_since H.goes_on host.old host.new }
     ensures cause { IfErr result (Refuses (H.counts host.old) (H.counts host.new)) }
-    ensures time { Elapses H.moment H.left_since host.old host.new (MayLeaveNow (H.told host.old)) }
-    ensures goes { H.goes_on host.old host.new }
 {
     test_uninterrupted(alloc, host)?;
     patch_stored(alloc, path, host)
@@ -38,12 +32,8 @@ pub fn preview<H: Host>(alloc: Global, path: &Txt, host: &mut H) -> Result<Tree,
 fn patch_stored<H: Host>(alloc: Global, path: &Txt, host: &mut H) -> Result<Tree, Outcome>
     requires { longest_plain_name ≤ H.longest_name }
     ensures answer { Finds (H.told host.old) document result (patched_document path.now) }
-    ensures told { H.told host.new ≡ H.told host.old }
-    ensures counts { NoneFell (H.counts host.old) (H.counts host.new) }
-    ensures quiet { IsQuiet (H.counts host.old) (H.counts host.new) }
+    ensures reads { OnlyReads H.told H.counts H.moment H.left_since H.goes_on host.old host.new }
     ensures cause { IfErr result (Refuses (H.counts host.old) (H.counts host.new)) }
-    ensures time { Elapses H.moment H.left_since host.old host.new (MayLeaveNow (H.told host.old)) }
-    ensures goes { H.goes_on host.old host.new }
 {
     let start = read_stored(alloc, host)?;
     let patch = input_patch(alloc, path, host)?;

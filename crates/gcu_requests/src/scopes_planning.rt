@@ -1,8 +1,7 @@
 //! What a change of several scopes needs: models, rules and patch once, and the start and the goal of each
 //! scope.
 ghost use Rattle.std.specs.Prelude.{◌≡◌, ◌≤◌, ◌⊎◌, ℕ, IfErr, IfOk, IfSome, map};
-ghost use Rattle.host_core.specs.Counts.{DiskMayRise, NoneFell};
-ghost use Rattle.host_core.specs.Crashes.{Elapses, MayLeaveNow};
+ghost use Rattle.host_core.specs.Counts.{DiskMayRise};
 ghost use Rattle.host_core.specs.Names.{longest_plain_name, longest_scoped_name};
 ghost use Rattle.host_core.specs.State.{settled};
 ghost use Rattle.conf_store.specs.Folds.{StandsFor};
@@ -13,7 +12,7 @@ ghost use Rattle.scopes.specs.Views.{seen, seen_files};
 ghost use Rattle.gcu_output.specs.declared.outcomes.Outcome.TheVariants.{Memory as no_memory};
 ghost use Rattle.gcu_inputs.specs.Asking.{follows, of_each};
 ghost use Rattle.gcu_inputs.specs.Preparing.{Finds, Found, Refuses, RefusesAlways};
-ghost use Rattle.gcu_requests.specs.Counts.{IsQuiet};
+ghost use Rattle.gcu_inputs.specs.Reads.{ReadsFiles, ReadsMayRise};
 ghost use Rattle.gcu_requests.specs.ScopesAsked.{part_asked, patched_asked, patched_ends as ends_asked, patched_goal, refusal_of, scopes_asked, split_answer};
 ghost use Rattle.gcu_requests.specs.ScopesPlannings.{AreInOrder, AreReady, IsReadyBetween, IsRefusalOf, IsStill, StandsInEach, plan_in, plans_of, scope_planning};
 
@@ -68,8 +67,7 @@ pub fn prepare_scopes<H: Host>(
         (λ all. IfSome (H.told host.old) (StandsInEach all.scopes)) }
     ensures order { IfOk result (λ all. AreInOrder all.scopes) }
     ensures still { IsStill H.told H.moment H.left_since host.old host.new }
-    ensures counts { NoneFell (H.counts host.old) (H.counts host.new) }
-    ensures quiet { IsQuiet (H.counts host.old) (H.counts host.new) }
+    ensures counts { ReadsMayRise (H.counts host.old) (H.counts host.new) }
     ensures cause { IfErr result (Refuses (H.counts host.old) (H.counts host.new)) }
     ensures goes { H.goes_on host.old host.new }
 {
@@ -195,11 +193,8 @@ fn read_ends<H: Host>(
     ensures ready { IfOk result (IsReadyBetween ctx.now) }
     ensures stands { IfOk result
         (λ e. IfSome (H.told host.old) (λ s. StandsFor e.stored s.files)) }
-    ensures told { H.told host.new ≡ H.told host.old }
-    ensures counts { DiskMayRise (H.counts host.old) (H.counts host.new) }
+    ensures reads { ReadsFiles H.told H.counts H.moment H.left_since H.goes_on host.old host.new }
     ensures cause { IfErr result (Refuses (H.counts host.old) (H.counts host.new)) }
-    ensures time { Elapses H.moment H.left_since host.old host.new (MayLeaveNow (H.told host.old)) }
-    ensures goes { H.goes_on host.old host.new }
 {
     test_uninterrupted(alloc, host)?;
     read_both(alloc, ctx, patch, host)
@@ -219,11 +214,8 @@ fn read_both<H: Host>(
     ensures ready { IfOk result (IsReadyBetween ctx.now) }
     ensures stands { IfOk result
         (λ e. IfSome (H.told host.old) (λ s. StandsFor e.stored s.files)) }
-    ensures told { H.told host.new ≡ H.told host.old }
-    ensures counts { DiskMayRise (H.counts host.old) (H.counts host.new) }
+    ensures reads { ReadsFiles H.told H.counts H.moment H.left_since H.goes_on host.old host.new }
     ensures cause { IfErr result (Refuses (H.counts host.old) (H.counts host.new)) }
-    ensures time { Elapses H.moment H.left_since host.old host.new (MayLeaveNow (H.told host.old)) }
-    ensures goes { H.goes_on host.old host.new }
 {
     let stored = read_start(alloc, ctx, host)?;
     patch_ends(alloc, ctx, patch, stored)

@@ -1,9 +1,8 @@
 //! The patches that a script of several operators names: each file is read once.
 ghost use Rattle.std.specs.Prelude.{◌≡◌, IfErr, IfOk, IsSome, option_map};
-ghost use Rattle.host_core.specs.Counts.{InputMayRise};
-ghost use Rattle.host_core.specs.Crashes.{Elapses, MayLeaveNow};
 ghost use Rattle.patch_core.specs.Operation.{operations};
 ghost use Rattle.gcu_inputs.specs.Preparing.{Finds, Refuses};
+ghost use Rattle.gcu_inputs.specs.Reads.{ReadsInputs};
 ghost use Rattle.gcu_requests.specs.ReadScripts.{AreFound, GoesOn, IsFound, patched_all};
 ghost use Rattle.gcu_requests.specs.SessionsAsked.{file_of, line_asked, patch_at, patches_asked, unread_asked};
 
@@ -56,11 +55,8 @@ pub(crate) fn input_patches<H: Host>(
         (patches_asked (patched_all found) lines.now) }
     ensures found { IfOk result (λ all. AreFound (patched_all all) lines.now) }
     ensures goes_on { IfOk result (λ all. GoesOn (patched_all found) (patched_all all)) }
-    ensures told { H.told host.new ≡ H.told host.old }
-    ensures counts { InputMayRise (H.counts host.old) (H.counts host.new) }
+    ensures reads { ReadsInputs H.told H.counts H.moment H.left_since H.goes_on host.old host.new }
     ensures cause { IfErr result (Refuses (H.counts host.old) (H.counts host.new)) }
-    ensures time { Elapses H.moment H.left_since host.old host.new (MayLeaveNow (H.told host.new)) }
-    ensures goes { H.goes_on host.old host.new }
 {
     match lines {
         [] => Ok(found),
@@ -82,11 +78,8 @@ fn input_of_line<H: Host>(
         (line_asked (patched_all found) (file_of line.now)) }
     ensures found { IfOk result (λ all. IsFound (patched_all all) line.now) }
     ensures goes_on { IfOk result (λ all. GoesOn (patched_all found) (patched_all all)) }
-    ensures told { H.told host.new ≡ H.told host.old }
-    ensures counts { InputMayRise (H.counts host.old) (H.counts host.new) }
+    ensures reads { ReadsInputs H.told H.counts H.moment H.left_since H.goes_on host.old host.new }
     ensures cause { IfErr result (Refuses (H.counts host.old) (H.counts host.new)) }
-    ensures time { Elapses H.moment H.left_since host.old host.new (MayLeaveNow (H.told host.new)) }
-    ensures goes { H.goes_on host.old host.new }
 {
     match file_of(line) {
         Some(path) => input_of_file(alloc, found, path, host),
@@ -105,11 +98,8 @@ fn input_of_file<H: Host>(
         (unread_asked (patched_all found) path.now (patch_at path.now (patched_all found))) }
     ensures found { IfOk result (λ all. IsSome (patch_at path.now (patched_all all))) }
     ensures goes_on { IfOk result (λ all. GoesOn (patched_all found) (patched_all all)) }
-    ensures told { H.told host.new ≡ H.told host.old }
-    ensures counts { InputMayRise (H.counts host.old) (H.counts host.new) }
+    ensures reads { ReadsInputs H.told H.counts H.moment H.left_since H.goes_on host.old host.new }
     ensures cause { IfErr result (Refuses (H.counts host.old) (H.counts host.new)) }
-    ensures time { Elapses H.moment H.left_since host.old host.new (MayLeaveNow (H.told host.new)) }
-    ensures goes { H.goes_on host.old host.new }
 {
     if patch_at(path, found.items()).is_some() {
         return Ok(found);

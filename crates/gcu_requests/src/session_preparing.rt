@@ -1,13 +1,11 @@
 //! What the script of several operators needs.
-ghost use Rattle.std.specs.Prelude.{◌≡◌, ◌≤◌, ◌<◌, IfErr, IfOk, IfSome, length};
+ghost use Rattle.std.specs.Prelude.{◌≤◌, ◌<◌, IfErr, IfOk, IfSome, length};
 ghost use Rattle.host_core.specs.Answers.{Gives};
-ghost use Rattle.host_core.specs.Counts.{InputMayRise, NoneFell};
-ghost use Rattle.host_core.specs.Crashes.{Elapses, MayLeaveNow};
 ghost use Rattle.host_core.specs.Names.{longest_plain_name};
 ghost use Rattle.conf_store.specs.Folds.{StandsFor};
 ghost use Rattle.session_scripts.specs.Scripts.{most_lines, script as script_of};
 ghost use Rattle.gcu_inputs.specs.Preparing.{Finds, Refuses, RefusesAlways, refusal};
-ghost use Rattle.gcu_requests.specs.Counts.{IsQuiet};
+ghost use Rattle.gcu_inputs.specs.Reads.{OnlyReads, ReadsInputs};
 ghost use Rattle.gcu_requests.specs.ReadScripts.{IsReadyToOperate, operating_of};
 ghost use Rattle.gcu_requests.specs.SessionsAsked.{operating_asked, script_answer, script_asked, script_needs_asked};
 
@@ -48,12 +46,8 @@ pub fn prepare_script<H: Host>(
     ensures ready { IfOk result IsReadyToOperate }
     ensures stands { IfOk result
         (λ p. IfSome (H.told host.old) (λ s. StandsFor p.stored s.files)) }
-    ensures told { H.told host.new ≡ H.told host.old }
-    ensures counts { NoneFell (H.counts host.old) (H.counts host.new) }
-    ensures quiet { IsQuiet (H.counts host.old) (H.counts host.new) }
+    ensures reads { OnlyReads H.told H.counts H.moment H.left_since H.goes_on host.old host.new }
     ensures cause { IfErr result (Refuses (H.counts host.old) (H.counts host.new)) }
-    ensures time { Elapses H.moment H.left_since host.old host.new (MayLeaveNow (H.told host.old)) }
-    ensures goes { H.goes_on host.old host.new }
 {
     test_uninterrupted(alloc, host)?;
     read_script_needs(alloc, path, budget, host)
@@ -73,12 +67,8 @@ fn read_script_needs<H: Host>(
     ensures ready { IfOk result IsReadyToOperate }
     ensures stands { IfOk result
         (λ p. IfSome (H.told host.old) (λ s. StandsFor p.stored s.files)) }
-    ensures told { H.told host.new ≡ H.told host.old }
-    ensures counts { NoneFell (H.counts host.old) (H.counts host.new) }
-    ensures quiet { IsQuiet (H.counts host.old) (H.counts host.new) }
+    ensures reads { OnlyReads H.told H.counts H.moment H.left_since H.goes_on host.old host.new }
     ensures cause { IfErr result (Refuses (H.counts host.old) (H.counts host.new)) }
-    ensures time { Elapses H.moment H.left_since host.old host.new (MayLeaveNow (H.told host.old)) }
-    ensures goes { H.goes_on host.old host.new }
 {
     let ctx = input_ctx(alloc, host)?;
     let stored = read_start(alloc, &ctx, host)?;
@@ -97,11 +87,8 @@ fn read_script_needs<H: Host>(
 fn input_script<H: Host>(alloc: Global, path: &Txt, host: &mut H) -> Result<Script, Outcome>
     ensures answer { Finds (H.told host.old) (λ lines. lines) result (script_asked path.now) }
     ensures few { IfOk result (λ lines. length lines ≤ most_lines) }
-    ensures told { H.told host.new ≡ H.told host.old }
-    ensures counts { InputMayRise (H.counts host.old) (H.counts host.new) }
+    ensures reads { ReadsInputs H.told H.counts H.moment H.left_since H.goes_on host.old host.new }
     ensures cause { IfErr result (Refuses (H.counts host.old) (H.counts host.new)) }
-    ensures time { Elapses H.moment H.left_since host.old host.new (MayLeaveNow (H.told host.new)) }
-    ensures goes { H.goes_on host.old host.new }
 {
     let bytes = input_bytes(alloc, path, SCRIPT_LIMIT, host)?;
     script_in(alloc, bytes.items())

@@ -1,6 +1,5 @@
-use Rattle.std.proofs.Common.{Ok, Err, refl}
+use Rattle.std.proofs.Common.{Ok, Err}
 use Rattle.std.proofs.lemmas.Result.{err_from_is_err_and}
-use Rattle.gcu_output.proofs.Elapsing.{elapses_unchanged}
 use Rattle.gcu_requests.proofs.ValidityFinding.{judged, no_config, no_models}
 use Rattle.gcu_requests.proofs.checking.judge_folder.Goals as goal
 
@@ -16,7 +15,7 @@ returns-in_err-config-clause-answer g c =
     let p = err_from_is_err_and c.from_residual-in_err-config.result c.from_residual-in_err-config.ensures.1 in
     rw (p.1, p.2)
     (no_config (g.H.Host.told c.args.host.now) c.in_ok-models.models c.in_err-config.field-0.0 c.in_ok-models.ensures.answer
-    (rw c.in_ok-models.ensures.told at c.in_err-config.ensures.answer))
+    (rw c.in_ok-models.ensures.reads.state at c.in_err-config.ensures.answer))
 
 -- the configuration isn't valid
 pub returns-in_err-judge-clause-answer : goal.returns-in_err-judge-clause-answer
@@ -24,35 +23,10 @@ returns-in_err-judge-clause-answer g c =
     let p = err_from_is_err_and c.from_residual-in_err-judge.result c.from_residual-in_err-judge.ensures.1 in
     rw (p.1, p.2)
     (judged (g.H.Host.told c.args.host.now) c.in_ok-models.models c.in_ok-config.config (Err c.in_err-judge.field-0.0) c.in_ok-models.ensures.answer
-    (rw c.in_ok-models.ensures.told at c.in_ok-config.ensures.answer) c.in_err-judge.ensures.answer c.in_err-judge.ensures.cause)
+    (rw c.in_ok-models.ensures.reads.state at c.in_ok-config.ensures.answer) c.in_err-judge.ensures.answer c.in_err-judge.ensures.cause)
 
 -- it is
 pub returns-clause-answer : goal.returns-clause-answer
 returns-clause-answer g c =
     judged (g.H.Host.told c.args.host.now) c.in_ok-models.models c.in_ok-config.config (Ok c.in_ok-config.config) c.in_ok-models.ensures.answer
-    (rw c.in_ok-models.ensures.told at c.in_ok-config.ensures.answer) c.in_ok-judge.ensures.answer tt
-
--- ---- time
-
-pub returns-in_err-models-clause-time : goal.returns-in_err-models-clause-time
-returns-in_err-models-clause-time g c = rw c.input_models.ensures.told at c.input_models.ensures.time
-
-pub returns-in_err-config-clause-time : goal.returns-in_err-config-clause-time
-returns-in_err-config-clause-time g c =
-    elapses_unchanged g.H.Host.moment g.H.Host.left_since c.args.host.now c.input_models.new.host c.read_config.new.host
-    (g.H.Host.told c.input_models.new.host) (g.H.Host.told c.args.host.now) c.input_models.ensures.told c.input_models.ensures.time
-    (g.H.Host.told c.input_models.new.host) refl c.read_config.ensures.time
-
-pub returns-clause-time : goal.returns-clause-time
-returns-clause-time g c =
-    elapses_unchanged g.H.Host.moment g.H.Host.left_since c.args.host.now c.input_models.new.host c.read_config.new.host
-    (g.H.Host.told c.input_models.new.host) (g.H.Host.told c.args.host.now) c.input_models.ensures.told c.input_models.ensures.time
-    (g.H.Host.told c.input_models.new.host) refl c.read_config.ensures.time
-
-pub returns-in_err-config-clause-goes : goal.returns-in_err-config-clause-goes
-returns-in_err-config-clause-goes g c =
-    g.met.H.Host.continues c.args.host.now c.input_models.new.host c.read_config.new.host c.input_models.ensures.goes c.read_config.ensures.goes
-
-pub returns-clause-goes : goal.returns-clause-goes
-returns-clause-goes g c =
-    g.met.H.Host.continues c.args.host.now c.input_models.new.host c.read_config.new.host c.input_models.ensures.goes c.read_config.ensures.goes
+    (rw c.in_ok-models.ensures.reads.state at c.in_ok-config.ensures.answer) c.in_ok-judge.ensures.answer tt

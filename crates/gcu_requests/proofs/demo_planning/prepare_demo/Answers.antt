@@ -1,6 +1,4 @@
-use Rattle.std.proofs.Common.{refl}
 use Rattle.std.proofs.lemmas.Result.{err_from_is_err_and}
-use Rattle.gcu_output.proofs.Elapsing.{elapses_unchanged}
 use Rattle.gcu_inputs.specs.IntentAsked.{uninterrupted}
 use Rattle.gcu_requests.specs.DemoAsked.{generating_asked}
 use Rattle.gcu_requests.specs.ReadPlannings.{planning_of}
@@ -17,16 +15,4 @@ returns-in_err-test_uninterrupted-clause-answer g c =
 pub returns-clause-answer : goal.returns-clause-answer
 returns-clause-answer g c =
     gate_open planning_of (g.H.Host.told c.args.host.now) uninterrupted (generating_asked c.args.size.seed c.args.size.ports) c.read_demo.result c.in_ok-test_uninterrupted.ensures.answer
-    (rw c.test_uninterrupted.ensures.told at c.read_demo.ensures.answer)
-
--- ---- time
-
-pub returns-clause-time : goal.returns-clause-time
-returns-clause-time g c =
-    elapses_unchanged g.H.Host.moment g.H.Host.left_since c.args.host.now c.test_uninterrupted.new.host c.read_demo.new.host
-    (g.H.Host.told c.args.host.now) (g.H.Host.told c.args.host.now) refl c.test_uninterrupted.ensures.time
-    (g.H.Host.told c.test_uninterrupted.new.host) c.test_uninterrupted.ensures.told c.read_demo.ensures.time
-
-pub returns-clause-goes : goal.returns-clause-goes
-returns-clause-goes g c =
-    g.met.H.Host.continues c.args.host.now c.test_uninterrupted.new.host c.read_demo.new.host c.test_uninterrupted.ensures.goes c.read_demo.ensures.goes
+    (rw c.test_uninterrupted.ensures.reads.state at c.read_demo.ensures.answer)

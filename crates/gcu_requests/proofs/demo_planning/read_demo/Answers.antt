@@ -16,11 +16,3 @@ returns-clause-answer g c =
 
 pub returns-clause-cause : goal.returns-clause-cause
 returns-clause-cause g c = always_refuses c.generate.result (g.H.Host.counts c.args.host.now) (g.H.Host.counts c.input_ctx.new.host) c.generate.ensures.cause
-
--- ---- time
-
-pub returns-in_err-ctx-clause-time : goal.returns-in_err-ctx-clause-time
-returns-in_err-ctx-clause-time g c = rw c.input_ctx.ensures.told at c.input_ctx.ensures.time
-
-pub returns-clause-time : goal.returns-clause-time
-returns-clause-time g c = rw c.input_ctx.ensures.told at c.input_ctx.ensures.time

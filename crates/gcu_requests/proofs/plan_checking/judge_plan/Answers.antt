@@ -1,6 +1,4 @@
-use Rattle.std.proofs.Common.{refl, ◌∙◌}
 use Rattle.std.proofs.lemmas.Result.{err_from_is_err_and}
-use Rattle.gcu_output.proofs.Elapsing.{elapses_unchanged}
 use Rattle.gcu_inputs.proofs.Finding.{always_refuses}
 use Rattle.gcu_requests.proofs.PlanCheckFinding.{moves_judged, no_moves, no_planning}
 use Rattle.gcu_requests.proofs.plan_checking.judge_plan.Goals as goal
@@ -17,35 +15,13 @@ returns-in_err-moves-clause-answer g c =
     let p = err_from_is_err_and c.from_residual-in_err-moves.result c.from_residual-in_err-moves.ensures.1 in
     rw (p.1, p.2)
     (no_moves c.args.patch.now c.args.plan.now (g.H.Host.told c.args.host.now) c.in_ok-planning.planning c.in_err-moves.field-0.0 c.in_ok-planning.ensures.answer
-    (rw c.in_ok-planning.ensures.told at c.in_err-moves.ensures.answer))
+    (rw c.in_ok-planning.ensures.reads.state at c.in_err-moves.ensures.answer))
 
 -- they are judged
 pub returns-clause-answer : goal.returns-clause-answer
 returns-clause-answer g c =
     moves_judged c.args.patch.now c.args.plan.now (g.H.Host.told c.args.host.now) c.in_ok-planning.planning c.in_ok-moves.moves c.accept.result c.in_ok-planning.ensures.answer
-    (rw c.in_ok-planning.ensures.told at c.in_ok-moves.ensures.answer) c.accept.ensures.answer c.accept.ensures.cause
+    (rw c.in_ok-planning.ensures.reads.state at c.in_ok-moves.ensures.answer) c.accept.ensures.answer c.accept.ensures.cause
 
 pub returns-clause-cause : goal.returns-clause-cause
 returns-clause-cause g c = always_refuses c.accept.result (g.H.Host.counts c.args.host.now) (g.H.Host.counts c.input_plan.new.host) c.accept.ensures.cause
-
--- ---- time
-
-pub returns-in_err-moves-clause-time : goal.returns-in_err-moves-clause-time
-returns-in_err-moves-clause-time g c =
-    elapses_unchanged g.H.Host.moment g.H.Host.left_since c.args.host.now c.prepare_patch.new.host c.input_plan.new.host
-    (g.H.Host.told c.args.host.now) (g.H.Host.told c.args.host.now) refl c.prepare_patch.ensures.time
-    (g.H.Host.told c.input_plan.new.host) (c.input_plan.ensures.told ∙ c.prepare_patch.ensures.told) c.input_plan.ensures.time
-
-pub returns-clause-time : goal.returns-clause-time
-returns-clause-time g c =
-    elapses_unchanged g.H.Host.moment g.H.Host.left_since c.args.host.now c.prepare_patch.new.host c.input_plan.new.host
-    (g.H.Host.told c.args.host.now) (g.H.Host.told c.args.host.now) refl c.prepare_patch.ensures.time
-    (g.H.Host.told c.input_plan.new.host) (c.input_plan.ensures.told ∙ c.prepare_patch.ensures.told) c.input_plan.ensures.time
-
-pub returns-in_err-moves-clause-goes : goal.returns-in_err-moves-clause-goes
-returns-in_err-moves-clause-goes g c =
-    g.met.H.Host.continues c.args.host.now c.prepare_patch.new.host c.input_plan.new.host c.prepare_patch.ensures.goes c.input_plan.ensures.goes
-
-pub returns-clause-goes : goal.returns-clause-goes
-returns-clause-goes g c =
-    g.met.H.Host.continues c.args.host.now c.prepare_patch.new.host c.input_plan.new.host c.prepare_patch.ensures.goes c.input_plan.ensures.goes

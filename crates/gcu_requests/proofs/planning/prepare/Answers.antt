@@ -1,6 +1,4 @@
-use Rattle.std.proofs.Common.{refl}
 use Rattle.std.proofs.lemmas.Result.{err_from_is_err_and}
-use Rattle.gcu_output.proofs.Elapsing.{elapses_unchanged}
 use Rattle.plan_options.specs.Views.{target_view}
 use Rattle.gcu_inputs.specs.IntentAsked.{gate_asked}
 use Rattle.gcu_requests.specs.PlanAsked.{needs_asked}
@@ -18,16 +16,4 @@ returns-in_err-test_gate-clause-answer g c =
 pub returns-clause-answer : goal.returns-clause-answer
 returns-clause-answer g c =
     gate_open planning_of (g.H.Host.told c.args.host.now) (gate_asked (target_view c.args.target)) (needs_asked (target_view c.args.target) c.args.budget) c.read_needs.result c.in_ok-test_gate.ensures.answer
-    (rw c.test_gate.ensures.told at c.read_needs.ensures.answer)
-
--- ---- time
-
-pub returns-clause-time : goal.returns-clause-time
-returns-clause-time g c =
-    elapses_unchanged g.H.Host.moment g.H.Host.left_since c.args.host.now c.test_gate.new.host c.read_needs.new.host
-    (g.H.Host.told c.args.host.now) (g.H.Host.told c.args.host.now) refl c.test_gate.ensures.time
-    (g.H.Host.told c.test_gate.new.host) c.test_gate.ensures.told c.read_needs.ensures.time
-
-pub returns-clause-goes : goal.returns-clause-goes
-returns-clause-goes g c =
-    g.met.H.Host.continues c.args.host.now c.test_gate.new.host c.read_needs.new.host c.test_gate.ensures.goes c.read_needs.ensures.goes
+    (rw c.test_gate.ensures.reads.state at c.read_needs.ensures.answer)

@@ -1,7 +1,5 @@
 use Rattle.std.proofs.lemmas.Result.{err_from_is_err_and}
-use Rattle.std.proofs.Common.{refl}
 use Rattle.patch_core.specs.Operation.{operations}
-use Rattle.gcu_output.proofs.Elapsing.{elapses_unchanged}
 use Rattle.gcu_requests.proofs.ScopesFinding.{ends_free, no_ends}
 use Rattle.gcu_requests.proofs.scopes_planning.read_ends.Goals as goal
 
@@ -15,14 +13,4 @@ returns-in_err-test_uninterrupted-clause-answer g c = λ budget.
 pub returns-clause-answer : goal.returns-clause-answer
 returns-clause-answer g c = λ budget.
     ends_free c.args.ctx.now budget (operations c.args.patch.now) (g.H.Host.told c.args.host.now) tt c.read_both.result
-    c.in_ok-test_uninterrupted.ensures.answer (rw c.test_uninterrupted.ensures.told at c.read_both.ensures.answer budget)
-
-pub returns-clause-time : goal.returns-clause-time
-returns-clause-time g c =
-    elapses_unchanged g.H.Host.moment g.H.Host.left_since c.args.host.now c.test_uninterrupted.new.host c.read_both.new.host
-    (g.H.Host.told c.args.host.now) (g.H.Host.told c.args.host.now) refl c.test_uninterrupted.ensures.time
-    (g.H.Host.told c.test_uninterrupted.new.host) c.test_uninterrupted.ensures.told c.read_both.ensures.time
-
-pub returns-clause-goes : goal.returns-clause-goes
-returns-clause-goes g c =
-    g.met.H.Host.continues c.args.host.now c.test_uninterrupted.new.host c.read_both.new.host c.test_uninterrupted.ensures.goes c.read_both.ensures.goes
+    c.in_ok-test_uninterrupted.ensures.answer (rw c.test_uninterrupted.ensures.reads.state at c.read_both.ensures.answer budget)

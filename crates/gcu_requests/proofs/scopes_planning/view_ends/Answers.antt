@@ -16,6 +16,6 @@ pub returns-clause-still : goal.returns-clause-still
 returns-clause-still g c =
     still_viewed g.H.Host.told g.H.Host.moment g.H.Host.left_since c.args.part.now.scope c.new-view.result.scope c.read_ends.new.host.scope
     c.args.host.now c.new-view.result.host.now _ c.read_ends.new.host.host.now
-    c.new-view.ensures.scope c.read_ends.ensures.goes.1 c.new-view.ensures.host
-    (c.host-1.given.1 (sym (c.read_ends.ensures.goes.0 ∙ c.new-view.ensures.same_reference)))
-    c.requires.ready c.read_ends.ensures.told c.read_ends.ensures.time.nothing_else c.read_ends.ensures.goes.3
+    c.new-view.ensures.scope c.read_ends.ensures.reads.goes.1 c.new-view.ensures.host
+    (c.host-1.given.1 (sym (c.read_ends.ensures.reads.goes.0 ∙ c.new-view.ensures.same_reference)))
+    c.requires.ready c.read_ends.ensures.reads.state c.read_ends.ensures.reads.time.nothing_else c.read_ends.ensures.reads.goes.3

@@ -20,4 +20,4 @@ returns-in_ok-more-in-len1-up-clause-answer g t c =
     (ap (λ (l : ScriptLine). l ∷ rest) c.line-item.is ∙ first_and_others c.line-item.result c.args.lines.now c.in-len1-up.len_at_least)
     (line_found told c.args.found c.in_ok-more-in-len1-up.more c.line-item.result rest c.input_patches.result
     c.in_ok-more-in-len1-up.ensures.answer
-    (rw c.in_ok-more-in-len1-up.ensures.told at c.input_patches.ensures.answer))
+    (rw c.in_ok-more-in-len1-up.ensures.reads.state at c.input_patches.ensures.answer))

@@ -1,6 +1,4 @@
-use Rattle.std.proofs.Common.{refl}
 use Rattle.std.proofs.lemmas.Result.{err_from_is_err_and}
-use Rattle.gcu_output.proofs.Elapsing.{elapses_unchanged}
 use Rattle.gcu_inputs.specs.IntentAsked.{uninterrupted}
 use Rattle.gcu_requests.specs.ReadScripts.{operating_of}
 use Rattle.gcu_requests.specs.SessionsAsked.{script_needs_asked}
@@ -17,16 +15,4 @@ returns-in_err-test_uninterrupted-clause-answer g c =
 pub returns-clause-answer : goal.returns-clause-answer
 returns-clause-answer g c =
     gate_open operating_of (g.H.Host.told c.args.host.now) uninterrupted (script_needs_asked c.args.path.now c.args.budget) c.read_script_needs.result c.in_ok-test_uninterrupted.ensures.answer
-    (rw c.test_uninterrupted.ensures.told at c.read_script_needs.ensures.answer)
-
--- ---- time
-
-pub returns-clause-time : goal.returns-clause-time
-returns-clause-time g c =
-    elapses_unchanged g.H.Host.moment g.H.Host.left_since c.args.host.now c.test_uninterrupted.new.host c.read_script_needs.new.host
-    (g.H.Host.told c.args.host.now) (g.H.Host.told c.args.host.now) refl c.test_uninterrupted.ensures.time
-    (g.H.Host.told c.test_uninterrupted.new.host) c.test_uninterrupted.ensures.told c.read_script_needs.ensures.time
-
-pub returns-clause-goes : goal.returns-clause-goes
-returns-clause-goes g c =
-    g.met.H.Host.continues c.args.host.now c.test_uninterrupted.new.host c.read_script_needs.new.host c.test_uninterrupted.ensures.goes c.read_script_needs.ensures.goes
+    (rw c.test_uninterrupted.ensures.reads.state at c.read_script_needs.ensures.answer)
