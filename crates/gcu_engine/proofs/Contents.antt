@@ -6,10 +6,13 @@ use Rattle.host_core.specs.Answers.{◌>>=◌}
 use Rattle.host_core.specs.Inputs.{within}
 use Rattle.host_core.specs.State.{State}
 use Rattle.host_core.specs.declared.host_calls.Input.TheVariants.{TooBig as longer, Bytes}
+use Rattle.serde_json.specs.Data.{Data}
 use Rattle.conf_doc.specs.Configuration.{tree}
 use Rattle.conf_doc.specs.Document.{Document}
 use Rattle.conf_doc.specs.Reading as documents
-use Rattle.conf_doc.specs.Shaping.{shaping}
+use Rattle.conf_doc.specs.Reading.{Way, document_of, json, json_checked, kind_checked}
+use Rattle.conf_doc.specs.Shaping.{configuration, shape_checked, shaping}
+use Rattle.conf_doc.specs.Texts.{value}
 use Rattle.conf_doc.specs.declared.configuration.Config.{Config}
 use Rattle.conf_doc.specs.declared.errors.ReadError.{ReadError}
 use Rattle.conf_doc.specs.declared.errors.ReadError.TheVariants as read
@@ -45,7 +48,11 @@ use Rattle.gcu_inputs.specs.RulesAsked.{ctx_asked, rules_answer, rules_limit, ru
 use Rattle.gcu_requests.specs.FileAsked.{config_answer, document_answer, file_asked, file_limit}
 use Rattle.gcu_requests.specs.PlanAsked.{made_asked}
 use Rattle.gcu_requests.specs.PointAsked.{held_answer}
-use Rattle.gcu_engine.specs.Contents.{AreModelsIn, HoldFiles, Holds, HoldsConfig, HoldsIntent, IsContextIn, IsMade}
+use Rattle.gcu_engine.specs.Contents.{AreModelsIn, HoldFiles, Holds, IsContextIn, IsMade}
+use Rattle.gcu_engine.specs.Folder.{HoldsConfig}
+use Rattle.gcu_engine.proofs.Folders.{holds_config}
+use Rattle.gcu_engine.proofs.PatchResults.{patched_within}
+use Rattle.gcu_engine.proofs.PatchTexts.{operations_are_held, value_there}
 
 -- ---- bytes
 
@@ -158,6 +165,11 @@ shaped (Ok c) goal e = let same : c ≡ goal = cc in ap (λ (x : Config). Ok x) 
 shaped (Err (shape.Shape place)) goal e = absurd cc
 shaped (Err shape.Memory) goal e = absurd cc
 
+-- a document that is shaped as a configuration is one
+configuration_of : (r : Result Config Way) (goal : Config) → shape_checked r ≡ Ok goal → r ≡ Ok goal
+configuration_of (Ok c) goal e = let same : c ≡ goal = cc in ap (λ (x : Config). Ok x) same
+configuration_of (Err way) goal e = absurd cc
+
 applied : (r : Result Document ApplyError) (goal : Config) → patches.target_in r ≡ Ok goal → (d : Document) × (r ≡ Ok d) × (shaping d ≡ Ok goal)
 applied (Ok d) goal e = (d, refl, shaped (shaping d) goal e)
 applied (Err (failed.Failed index why)) goal e = absurd cc
@@ -187,11 +199,20 @@ document_read path (Err read.BadJson) goal e = absurd cc
 document_read path (Err (read.BadKind place)) goal e = absurd cc
 document_read path (Err read.Memory) goal e = absurd cc
 
-file_in : (path : List ℕ) (s : State) (goal : Config) → (file_asked path s).Gives (Ok goal) → HoldsConfig s path goal
+-- bytes that are read as a document are a JSON text of it
+kind_told : (r : Result Document Way) (d : Document) → kind_checked r ≡ Ok d → r ≡ Ok d
+kind_told (Ok x) d e = let same : x ≡ d = cc in ap (λ (y : Document). Ok y) same
+kind_told (Err way) d e = absurd cc
+
+json_told : (o : Option Data) (d : Document) → json_checked o ≡ Ok d → o ≡ Some (value d)
+json_told None d e = absurd cc
+json_told (Some x) d e = ap (λ (y : Data). Some y) (value_there x d (kind_told (document_of x) d e))
+
+file_in : (path : List ℕ) (s : State) (goal : Config) → (file_asked path s).Gives (Ok goal) → HoldsConfig s.inputs path goal
 file_in path s goal (inl never) = absurd never
 file_in path s goal (inr (bytes, found, e)) =
     let (d, is, shapes) = document_read path (documents.reading bytes) goal e in
-    (d, (bytes, bytes_found path file_limit s bytes found, is), shapes)
+    (bytes, d, bytes_found path file_limit s bytes found, json_told (json bytes) d is, configuration_of (configuration d) goal shapes)
 
 point_held : (name : List ℕ) (o : Option Held) (goal : Config) → held_answer name o ≡ Ok goal → o ≡ Some (Some goal)
 point_held name None goal e = absurd cc
@@ -202,11 +223,11 @@ config_held : (r : Result Config StoredWhy) (goal : Config) → intent_held r �
 config_held (Ok c) goal e = let same : c ≡ goal = cc in ap (λ (x : Config). Ok x) same
 config_held (Err why) goal e = absurd cc
 
-intent_in : (s : State) (goal : Config) → (intended_asked s).Gives (Ok goal) → HoldsIntent s goal
+intent_in : (s : State) (goal : Config) → (intended_asked s).Gives (Ok goal) → HoldsConfig s.files intent_file goal
 intent_in s goal (inl never) = absurd never
 intent_in s goal (inr (None, is, e)) = absurd cc
 intent_in s goal (inr (Some bytes, is, e)) =
-    let there : get s.files intent_file ≡ Some bytes = cc in (bytes, there, config_held (config_in bytes) goal e)
+    let there : get s.files intent_file ≡ Some bytes = cc in holds_config s.files intent_file bytes goal there (config_held (config_in bytes) goal e)
 
 -- the goal is what the target makes of the start
 pub target_made : (from : Target) (start : Config) (s : State) (goal : Config) → (made_asked from start s).Gives (Ok goal) → IsMade from s start goal
@@ -214,7 +235,7 @@ target_made (patched path) start s goal (inl never) = absurd never
 target_made (patched path) start s goal (inr (ops, found, e)) =
     let (bytes, at, reads) = patch_found (get s.inputs path) path ops found in
     let (d, is, shapes) = applied (apply ops (tree start)) goal e in
-    (ops, d, (bytes, at, reads), is, shapes)
+    (bytes, ops, d, at, (operations_are_held bytes ops).1 reads, patched_within ops (tree start) d is, configuration_of (configuration d) goal shapes)
 target_made (replaced path) start s goal h = file_in path s goal h
 target_made (rolled_back name) start s goal e = point_held name (get (points s.files) name) goal e
 target_made resumed start s goal h = intent_in s goal h

@@ -14,8 +14,10 @@ use Rattle.gcu_inputs.specs.Form.{Form, form}
 use Rattle.gcu_inputs.specs.Form as forms
 use Rattle.gcu_inputs.specs.Tasks.{Task, reach, run_script}
 use Rattle.gcu_engine.specs.Contents.{IsContextIn, IsMade}
+use Rattle.gcu_engine.specs.Folder.{StandForSame, Stores}
 use Rattle.gcu_engine.specs.Headline.{AddsPoint, HasNoOrder, HasWholePoints, IsUnacknowledged, IsChangeCommand, IsLastOrNext, IsTaskCommand, RemovesPoint}
 use Rattle.gcu_engine.proofs.CommandWords.{IsFormOf, IsPlanForm, form_words, plan_form}
+use Rattle.gcu_engine.proofs.Folders.{same_stands, stores_is}
 
 -- ---- by its form
 
@@ -92,17 +94,19 @@ order_by_words words s some lacks = record {
   none = lacks.none;
 }
   where
-    by : (from : Target) → (form words ≡ None) ⊎ (task_in (form words) ≡ Some (reach from)) → (stored s.files ≡ Ok lacks.start) × IsMade from s lacks.start lacks.goal
+    by : (from : Target) → (form words ≡ None) ⊎ (task_in (form words) ≡ Some (reach from)) → Stores s.files lacks.start × IsMade from s lacks.start lacks.goal
     by from (inl none) = absurd (some none)
-    by from (inr e) = subst (λ (o : Option Task). IfSome o (IsPlannedBy s lacks.start lacks.goal)) e lacks.planned
+    by from (inr e) =
+        let planned = subst (λ (o : Option Task). IfSome o (IsPlannedBy s lacks.start lacks.goal)) e lacks.planned in
+        ((stores_is s.files lacks.start).1 planned.0, planned.1)
 
 -- a command that does no task leaves what the folder stood for
-pub other_by_words : (words : List (List ℕ)) (s : State) (left : Left) → StandsAfter (form words) s left → ((task : Task) → ¬ IsChangeCommand task words) → stored left.files ≡ stored s.files
+pub other_by_words : (words : List (List ℕ)) (s : State) (left : Left) → StandsAfter (form words) s left → ((task : Task) → ¬ IsChangeCommand task words) → StandForSame s.files left.files
 other_by_words words s left stands none = by (form words) (form_words words) stands
   where
-    by : (f : Option Form) → IfSome f (IsFormOf words) → StandsAfter f s left → stored left.files ≡ stored s.files
+    by : (f : Option Form) → IfSome f (IsFormOf words) → StandsAfter f s left → StandForSame s.files left.files
     by (Some (forms.change task budget)) is h = absurd (none task is)
-    by other is h = h
+    by other is h = same_stands s.files left.files h
 
 pub points_by_words : (words : List (List ℕ)) (s : State) (files : Files) → PointsAfter (form words) s files → HasWholePoints words s files
 points_by_words words s files (inl same) = inl same
@@ -110,6 +114,6 @@ points_by_words words s files (inr one) = inr (by (form words) (form_words words
   where
     by : (f : Option Form) → IfSome f (IsFormOf words) → IsOneChange f s files → AddsPoint words s files ⊎ RemovesPoint words s files
     by (Some (forms.save_checkpoint name)) is (config, there, e) =
-        inl (record { name = name; config = config; words_are = is; stored_is = there; points_are = e })
+        inl (record { name = name; config = config; words_are = is; stands = (stores_is s.files config).1 there; points_are = e })
     by (Some (forms.delete_checkpoint name)) is e = inr (record { name = name; words_are = is; points_are = e })
     by other is never = absurd never

@@ -31,13 +31,15 @@ use Rattle.gcu_engine.specs.Answers.{Answers, IsDoneOutput, IsRefusal, IsUntouch
 use Rattle.gcu_engine.specs.Changing.{IsChangeFor, IsChanged, IsLastLine, acknowledged, begun}
 use Rattle.gcu_engine.specs.Crashes.{LeftByForm, LeftChanged, LeftEarly, LeftMeanwhile, LeftOf, LeftOfChange, LeftOfMigration, LeftWriting}
 use Rattle.gcu_engine.specs.Doing.{LeftToEarly}
+use Rattle.gcu_engine.specs.Folder.{Stores}
 use Rattle.gcu_engine.specs.Headline.{HasNoOrder, IsUnacknowledged, IsForeseen, IsHeadline, IsLastOrNext, IsQuiet, PrintsTask, StoresPoint, StoresTarget}
 use Rattle.gcu_engine.specs.Plannings.{IsUnsolved}
 use Rattle.gcu_engine.proofs.AcknowledgementCounts.{acked_is}
 use Rattle.gcu_engine.proofs.ChangeEnds.{is_last_line}
 use Rattle.gcu_engine.proofs.Changes.{some_is}
-use Rattle.gcu_engine.proofs.IntentRemovals.{begun_output, either_points, either_stored}
+use Rattle.gcu_engine.proofs.Folders.{same_stands, stores_is}
 use Rattle.gcu_engine.proofs.FormPromises.{IsOneChange, LacksOrder, PointsAfter, StandsAfter, change_of_words, order_by_words, other_by_words, points_by_words, task_in, task_of_words}
+use Rattle.gcu_engine.proofs.IntentRemovals.{begun_output, either_points, either_stored}
 use Rattle.gcu_engine.proofs.LastLines.{last_line_of, refusal_line, service_last_line}
 use Rattle.gcu_engine.proofs.PlanPrints.{change_prints, no_request, plan_prints, same_change, unknown_line, unknown_prints, untouched_output}
 use Rattle.gcu_engine.proofs.Requests.{IsRequestOf, change_given, requested}
@@ -135,10 +137,11 @@ stores from s now after output (planned p) is asks done =
       p.start,
       p.goal,
       is,
-      asks.start.stands,
+      (stores_is s.files p.start).1 asks.start.stands,
       asks.made,
-      ap stored files ∙ done.5.2.stands
-          ∙ ap (λ (x : Config). Ok (conf x c.moves (length c.moves))) done.2.start ∙ ap (λ (x : Config). Ok x) last,
+      (stores_is (printed output now).files p.goal).1
+          (ap stored files ∙ done.5.2.stands
+          ∙ ap (λ (x : Config). Ok (conf x c.moves (length c.moves))) done.2.start ∙ ap (λ (x : Config). Ok x) last),
     )
 
 finishes : (from : Target) (budget : ℕ) (s : State) (after : Option State) (old new : Counts) → Leaves (change_asked (reach from) budget s) s after old new Done → StoresTarget from s after
@@ -151,7 +154,7 @@ unknown_fails : (s : State) (after : Option State) (old new : Counts) → Leaves
 unknown_fails s after old new h = no_request s h.3.0 h.3.1
 
 rolls_back : (name : List ℕ) (s : State) (after : Option State) → StoresTarget (rolled_back name) s after → StoresPoint name s after
-rolls_back name s after (t, start, goal, is, stands, made, stored_is) = (t, goal, is, made, stored_is)
+rolls_back name s after (t, start, goal, is, stands, made, stores) = (t, goal, is, made, stores)
 
 -- ---- a refusal
 
@@ -227,7 +230,7 @@ early_before task budget s left clean (part, inl (now, answer, rest, says, same)
   rest = rest;
   text = inl (line_said task budget s now answer (part ++ rest) says);
   output = may.output;
-  stored_is = ap stored (settled_files s part left clean may);
+  stands = same_stands s.files left.files (ap stored (settled_files s part left clean may));
 }
 early_before task budget s left clean (part, inr (w, c, told, rest, given, fits, is), may) =
     let g = change_given task budget s (request.change w) given in
@@ -237,7 +240,7 @@ early_before task budget s left clean (part, inr (w, c, told, rest, given, fits,
       rest = rest;
       text = inr (right_work task s w c.moves told asks fits.work, is);
       output = may.output;
-      stored_is = ap stored (settled_files s part left clean may);
+      stands = same_stands s.files left.files (ap stored (settled_files s part left clean may));
     }
 
 -- so do words that are no command
@@ -247,15 +250,17 @@ unknown_before task s left clean (part, (now, answer, rest, says, same), inl may
   rest = rest;
   text = inl (unknown_line s now answer (part ++ rest) says).0;
   output = may.output;
-  stored_is = ap stored (settled_files s part left clean may);
+  stands = same_stands s.files left.files (ap stored (settled_files s part left clean may));
 }
 unknown_before task s left clean (part, front, inr (r, given, h)) = absurd (no_request s r given)
 
 -- the folder stands for one of the configurations
 at_start : (w : Work) (s : State) (c : Change) (told : List ℕ) → IsChangeFor w s c told → (k : ℕ) (left : Left) → StandAt c k left.files
-    → (stored left.files ≡ Ok (conf (start_of w) c.moves k)) ⊎ (stored left.files ≡ Ok (conf (start_of w) c.moves (suc k)))
-at_start w s c told fits k left (inl e) = inl (e ∙ ap (λ (x : Config). Ok (conf x c.moves k)) fits.start)
-at_start w s c told fits k left (inr e) = inr (e ∙ ap (λ (x : Config). Ok (conf x c.moves (suc k))) fits.start)
+    → Stores left.files (conf (start_of w) c.moves k) ⊎ Stores left.files (conf (start_of w) c.moves (suc k))
+at_start w s c told fits k left (inl e) =
+    inl ((stores_is left.files (conf (start_of w) c.moves k)).1 (e ∙ ap (λ (x : Config). Ok (conf x c.moves k)) fits.start))
+at_start w s c told fits k left (inr e) =
+    inr ((stores_is left.files (conf (start_of w) c.moves (suc k))).1 (e ∙ ap (λ (x : Config). Ok (conf x c.moves (suc k))) fits.start))
 
 changed_next : (task : Task) (s : State) (w : Work) (c : Change) (told : List ℕ) (left : Left) → IsWorkAsked task s w → IsChangeFor w s c told → LeftChanged c (begun told s) left
     → IsLastOrNext task s left
@@ -418,7 +423,7 @@ module _ {H : Type 0} (moment : H → ℕ) (left_since : H → ℕ → Left → 
         };
     refused = λ any clean left since.
         form_refused (form words) s left result (one words s) (foreseen (asked words s) s answers.0 before later result answers.1 answers.3 any) clean (crash.each left since);
-    kept = λ any clean left since. (keeps any).each left since clean;
+    kept = λ any clean left since. same_stands s.files left.files ((keeps any).each left since clean);
     quiet = λ any. quiet_is (asked words s) s answers.0 after answers.1 answers.2 before later result answers.3 any;
     finished = λ from is done. changes from (change_of_words (reach from) words is) done;
     rolled = λ name is done. rolls_back name s after (changes (rolled_back name) (change_of_words (reach (rolled_back name)) words is) done);

@@ -16,8 +16,10 @@ mod Deletions
 mod DemoSaying
 mod Elapsing
 mod FaultTexts
+mod Folders
 mod FormPromises
 mod Headlines
+mod IndexTexts
 mod Intending
 pub mod LastLines
 pub mod Lines
@@ -25,6 +27,8 @@ mod Listing
 mod MigrationEnding
 mod MigrationReadiness
 mod Naming
+mod PatchResults
+mod PatchTexts
 mod PlanCheckSaying
 mod PlanPrints
 mod PlanSaying

@@ -1,7 +1,10 @@
 -- A change that was stopped is resumed: nothing refuses it, and there is a plan.
 use Rattle.std.proofs.Common.{◌≡◌, inl, inr, ℕ, List, refl, sym, ap, subst, Option, Some, None, Result, Ok, Err, IfSome}
+use Rattle.std.specs.FinMap.{get}
 use Rattle.host_core.specs.Counts.{Counts, NoneRose}
 use Rattle.host_core.specs.State.{State}
+use Rattle.conf_store.specs.Files.{intent_file}
+use Rattle.conf_store.specs.Stored.{config_in}
 use Rattle.move_core.specs.Plans.{conf}
 use Rattle.plan_options.specs.Targets.{resumed}
 use Rattle.gcu_output.specs.declared.outcomes.Outcome.{Outcome}
@@ -19,6 +22,7 @@ use Rattle.gcu_requests.specs.WorkAsked.{change_asked}
 use Rattle.gcu_engine.specs.Answers.{Complete, Finishes}
 use Rattle.gcu_engine.specs.Plannings.{HasNone}
 use Rattle.gcu_engine.specs.Resuming.{IsResumed, IsStoppedIn, Resumes}
+use Rattle.gcu_engine.proofs.Folders.{config_of_held}
 use Rattle.gcu_engine.proofs.RightPlans.{way_valid}
 use Rattle.gcu_engine.proofs.OtherTables.{HaveModels, half_elsewhere, rest_reaches}
 
@@ -27,8 +31,12 @@ module _ (law : HaveModels) (budget : ℕ) (s : State) (h : IsStoppedIn s) where
   abbrev rest : Planning
   rest = record { ctx = h.ctx; start = conf h.start h.moves h.k; goal = h.goal; budget = budget }
 
+  -- the bytes of `intent`
+  abbrev held : (bytes : List ℕ) × (get s.files intent_file ≡ Some bytes) × (config_in bytes ≡ Ok h.goal)
+  held = config_of_held s.files intent_file h.goal h.intent
+
   gate_given : (interrupted s).Gives (Ok tt)
-  gate_given = inr (Some h.intent.0, ap (λ (o : Option (List ℕ)). Ok o) h.intent.1, refl)
+  gate_given = inr (Some held.0, ap (λ (o : Option (List ℕ)). Ok o) held.1, refl)
 
   start_given : (start_asked h.ctx s).Gives (Ok rest.start)
   start_given = inr (rest.start, ap stored_answer h.stands, (way_valid h.ctx h.goal h.start h.moves h.goal h.valid h.plan h.k, refl))
@@ -36,7 +44,7 @@ module _ (law : HaveModels) (budget : ℕ) (s : State) (h : IsStoppedIn s) where
   goal_given : (goal_asked resumed h.ctx rest.start s).Gives (Ok h.goal)
   goal_given = inr (
     h.goal,
-    inr (Some h.intent.0, ap (λ (o : Option (List ℕ)). Ok o) h.intent.1, ap held_answer h.intent.2),
+    inr (Some held.0, ap (λ (o : Option (List ℕ)). Ok o) held.1, ap held_answer held.2),
     inr (tt, half_elsewhere law h.ctx h.goal h.start h.moves h.goal h.plan h.elsewhere h.k, inr (tt, h.keys, (h.valid_goal, refl))),
   )
 

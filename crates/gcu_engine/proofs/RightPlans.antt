@@ -34,6 +34,7 @@ use Rattle.gcu_engine.specs.Headline.{IsGoal, IsRightWork, IsTextOf}
 use Rattle.gcu_engine.specs.Plannings.{IsPlanFor}
 use Rattle.gcu_engine.specs.Works.{IsWorkOf}
 use Rattle.gcu_engine.proofs.Contents.{context_in, target_made}
+use Rattle.gcu_engine.proofs.Folders.{stores_is}
 
 -- ---- what is asked
 
@@ -206,7 +207,7 @@ right_work task s w ms text is work = record {
   ctx = ctx_of w;
   read = (is_right task s w ms text is work).read;
   start = start_of w;
-  stands = (is_right task s w ms text is work).stands;
+  stands = (stores_is s.files (start_of w)).1 (is_right task s w ms text is work).stands;
   moves = ms;
   valid = (is_right task s w ms text is work).valid;
   allowed = (is_right task s w ms text is work).allowed;

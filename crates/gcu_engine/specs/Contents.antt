@@ -2,16 +2,8 @@
 use Rattle.std.specs.Prelude.{◌≡◌, ⊤, ℕ, List, [], ◌∷◌, codes, Some, Result, Ok}
 use Rattle.std.specs.FinMap.{get}
 use Rattle.host_core.specs.State.{State}
-use Rattle.conf_doc.specs.Configuration.{tree}
-use Rattle.conf_doc.specs.Document.{Document}
-use Rattle.conf_doc.specs.Reading as documents
-use Rattle.conf_doc.specs.Shaping.{shaping}
 use Rattle.conf_doc.specs.declared.configuration.Config.{Config}
 use Rattle.conf_store.specs.Files.{intent_file}
-use Rattle.conf_store.specs.Stored.{config_in}
-use Rattle.patch_core.specs.Apply.{apply}
-use Rattle.patch_core.specs.Operation.{Operation}
-use Rattle.patch_core.specs.Reading.{patch}
 use Rattle.model_list.specs.Lists.{paths_of}
 use Rattle.yang_text.specs.Declarations.{Declaration}
 use Rattle.yang_text.specs.Grammar.{Spells}
@@ -23,6 +15,7 @@ use Rattle.checkpoints.specs.Points.{points}
 use Rattle.move_core.specs.RulesFile.{rules}
 use Rattle.move_core.specs.declared.contexts.Ctx.{Ctx}
 use Rattle.plan_options.specs.Targets.{Target, patched, replaced, resumed, rolled_back}
+use Rattle.gcu_engine.specs.Folder.{HoldsConfig, HoldsPatch}
 
 -- the input at a path has bytes that are read as this
 abbrev pub Holds : {X E : Type 0} → State → List ℕ → (List ℕ → Result X E) → X → Type 0
@@ -56,26 +49,10 @@ pub record IsContextIn (s : State) (ctx : Ctx) : Type 0 where
 
 -- ---- the target
 
--- the document is that of a configuration
-abbrev pub HoldsConfig : State → List ℕ → Config → Type 0
-HoldsConfig s path config =
-    (d : Document) × Holds s path documents.reading d × (shaping d ≡ Ok config)
-
--- the patch at a path leads from one configuration to another, by RFC 6902
-abbrev pub Patches : State → List ℕ → Config → Config → Type 0
-Patches s path start goal =
-    (ops : List Operation) × (d : Document) × Holds s path patch ops
-    × (apply ops (tree start) ≡ Ok d) × (shaping d ≡ Ok goal)
-
--- `intent` holds the configuration
-abbrev pub HoldsIntent : State → Config → Type 0
-HoldsIntent s config =
-    (bytes : List ℕ) × (get s.files intent_file ≡ Some bytes) × (config_in bytes ≡ Ok config)
-
 -- what the target makes of a configuration: the patched one, that of a file, that of a checkpoint, or that of
 -- a change that was stopped
 abbrev pub IsMade : Target → State → Config → Config → Type 0
-IsMade (patched path) s start goal = Patches s path start goal
-IsMade (replaced path) s start goal = HoldsConfig s path goal
+IsMade (patched path) s start goal = HoldsPatch s.inputs path start goal
+IsMade (replaced path) s start goal = HoldsConfig s.inputs path goal
 IsMade (rolled_back name) s start goal = get (points s.files) name ≡ Some (Some goal)
-IsMade resumed s start goal = HoldsIntent s goal
+IsMade resumed s start goal = HoldsConfig s.files intent_file goal

@@ -8,14 +8,13 @@
 -- Of `replace`, `rollback` and `resume` the last configuration is that of the file, of the checkpoint and of
 -- `intent`. Of `sessions` the moves are what its operators commit. Where nothing is done, or the command is refused,
 -- the stored configuration after a crash is that of the beginning.
-use Rattle.std.specs.Prelude.{◌≡◌, ◌≢◌, ◌≤◌, ◌⊎◌, ℕ, suc, List, [], ◌∷◌, ◌++◌, codes, decimal, length, slice_get, Contains, Option, Some, Ok, ⊤}
+use Rattle.std.specs.Prelude.{◌≡◌, ◌≢◌, ◌≤◌, ◌⊎◌, ℕ, suc, List, [], ◌∷◌, ◌++◌, codes, decimal, length, slice_get, Contains, Option, Some, ⊤}
 use Rattle.std.specs.FinMap.{get}
 use Rattle.host_core.specs.Crashes.{Left}
 use Rattle.host_core.specs.State.{Files, State}
 use Rattle.conf_doc.specs.Texts.{line_feed}
 use Rattle.conf_doc.specs.declared.configuration.Config.{Config}
 use Rattle.conf_store.specs.Changes.{IsSettled}
-use Rattle.conf_store.specs.Stored.{stored}
 use Rattle.checkpoints.specs.Changes.{with_point, without_point}
 use Rattle.checkpoints.specs.Points.{points}
 use Rattle.move_core.specs.Contexts.{IsValidIn, rulebook}
@@ -32,6 +31,7 @@ use Rattle.gcu_inputs.specs.Tasks.{Task, reach, run_script}
 use Rattle.gcu_engine.specs.Answers.{IsRefusal}
 use Rattle.gcu_engine.specs.Changing.{IsLastLine, IsRefusalLine}
 use Rattle.gcu_engine.specs.Contents.{IsContextIn, IsMade}
+use Rattle.gcu_engine.specs.Folder.{StandForSame, Stores}
 
 -- ---- the words
 
@@ -73,7 +73,7 @@ pub record IsRightWork (task : Task) (s : State) : Type 0 where
   pub ctx : Ctx
   pub read : IsContextIn s ctx
   pub start : Config
-  pub stands : stored s.files ≡ Ok start
+  pub stands : Stores s.files start
   pub moves : List Move
   pub valid : (i : ℕ) → IsValidIn ctx (conf start moves i)
   pub allowed : (i : ℕ) (m : Move) → slice_get moves i ≡ Some m
@@ -102,7 +102,7 @@ pub record HasNoOrder (words : List (List ℕ)) (s : State) : Type 0 where
   pub start : Config
   pub goal : Config
   pub planned : (from : Target) → IsTaskCommand (reach from) words
-      → (stored s.files ≡ Ok start) × IsMade from s start goal
+      → Stores s.files start × IsMade from s start goal
   pub none : ¬ IsReachable (rulebook ctx) goal start goal
 
 -- ---- a crash
@@ -114,7 +114,7 @@ pub record IsUnacknowledged (task : Task) (s : State) (left : Left) : Type 0 whe
   pub text : IsLastLine (part ++ rest)
       ⊎ ((right : IsRightWork task s) × (right.text ≡ part ++ rest))
   pub output : left.output ≡ s.output ++ part
-  pub stored_is : stored left.files ≡ stored s.files
+  pub stands : StandForSame s.files left.files
 
 -- no whole acknowledgement: less than all of the next one, or a front of the last line
 abbrev pub IsNoneWhole : ℕ → List ℕ → Type 0
@@ -131,15 +131,15 @@ pub record IsLastOrNext (task : Task) (s : State) (left : Left) : Type 0 where
   pub part : List ℕ
   pub cut : IsNoneWhole done part
   pub output : left.output ≡ s.output ++ right.text ++ acks done ++ part
-  pub stands : (stored left.files ≡ Ok (conf right.start right.moves done))
-      ⊎ (stored left.files ≡ Ok (conf right.start right.moves (suc done)))
+  pub stands : Stores left.files (conf right.start right.moves done)
+      ⊎ Stores left.files (conf right.start right.moves (suc done))
 
 -- `checkpoint NAME` adds one, with the stored configuration
 pub record AddsPoint (words : List (List ℕ)) (s : State) (files : Files) : Type 0 where
   pub name : List ℕ
   pub config : Config
   pub words_are : words ≡ codes "checkpoint" ∷ name ∷ []
-  pub stored_is : stored s.files ≡ Ok config
+  pub stands : Stores s.files config
   pub points_are : points files ≡ with_point name config (points s.files)
 
 -- `delete-checkpoint NAME` removes one
@@ -159,7 +159,7 @@ pub record IsWhole (words : List (List ℕ)) (s : State) (left : Left) : Type 0 
   pub change : (task : Task) → IsChangeCommand task words
       → IsUnacknowledged task s left ⊎ IsLastOrNext task s left
   pub other : ((task : Task) → ¬ IsChangeCommand task words)
-      → stored left.files ≡ stored s.files
+      → StandForSame s.files left.files
   pub points_are : HasWholePoints words s left.files
 
 -- ---- a finished change
@@ -168,13 +168,13 @@ pub record IsWhole (words : List (List ℕ)) (s : State) (left : Left) : Type 0 
 abbrev pub StoresTarget : Target → State → Option State → Type 0
 StoresTarget from s after =
     (t : State) × (start : Config) × (goal : Config) × (after ≡ Some t)
-    × (stored s.files ≡ Ok start) × IsMade from s start goal × (stored t.files ≡ Ok goal)
+    × Stores s.files start × IsMade from s start goal × Stores t.files goal
 
 -- the folder stands for exactly what the checkpoint of that name held
 abbrev pub StoresPoint : List ℕ → State → Option State → Type 0
 StoresPoint name s after =
     (t : State) × (config : Config) × (after ≡ Some t)
-    × (get (points s.files) name ≡ Some (Some config)) × (stored t.files ≡ Ok config)
+    × (get (points s.files) name ≡ Some (Some config)) × Stores t.files config
 
 -- ---- a refusal
 
@@ -211,7 +211,7 @@ pub record IsHeadline (words : List (List ℕ)) (s : State) (after : Option Stat
       → (left : Left) → IsLeftSince left → left.files ≡ s.files
   -- with another answer than those of 0, 4, 5 and 6 it leaves what the folder stood for
   pub kept : IsRefusal result → IsSettled s
-      → (left : Left) → IsLeftSince left → stored left.files ≡ stored s.files
+      → (left : Left) → IsLeftSince left → StandForSame s.files left.files
   pub quiet : IsRefusal result → IsQuiet s after
   pub finished : (from : Target) → IsChangeCommand (reach from) words → result ≡ Done
       → StoresTarget from s after

@@ -4,9 +4,11 @@ pub mod Changing
 pub mod Commands
 pub mod Contents
 pub mod Crashes
+pub mod Folder
 pub mod Headline
 pub mod Intending
 pub mod Migrating
+pub mod Patching
 pub mod Plannings
 pub mod PointLines
 pub mod Resuming

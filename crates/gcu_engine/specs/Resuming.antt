@@ -2,6 +2,7 @@
 use Rattle.std.specs.Prelude.{◌≡◌, ℕ, List, Some, Ok, ⊤}
 use Rattle.host_core.specs.State.{State}
 use Rattle.conf_doc.specs.declared.configuration.Config.{Config}
+use Rattle.conf_store.specs.Files.{intent_file}
 use Rattle.conf_store.specs.Stored.{stored}
 use Rattle.move_core.specs.Contexts.{AgreeElsewhere, IsValidIn, rulebook}
 use Rattle.move_core.specs.Plans.{IsPlan, conf}
@@ -14,7 +15,7 @@ use Rattle.gcu_output.specs.declared.outcomes.Outcome.TheVariants.{Done, Memory,
 use Rattle.gcu_inputs.specs.Form.{change, form}
 use Rattle.gcu_inputs.specs.RulesAsked.{ctx_asked}
 use Rattle.gcu_inputs.specs.Tasks.{reach}
-use Rattle.gcu_engine.specs.Contents.{HoldsIntent}
+use Rattle.gcu_engine.specs.Folder.{HoldsConfig}
 
 -- the folder stands for a configuration of a plan, `intent` holds its goal, and the inputs are as when it was
 -- planned: its start and its goal were not refused
@@ -27,7 +28,7 @@ pub record IsStoppedIn (s : State) : Type 0 where
   pub plan : IsPlan (rulebook ctx) start goal moves
   pub k : ℕ
   pub stands : stored s.files ≡ Ok (conf start moves k)
-  pub intent : HoldsIntent s goal
+  pub intent : HoldsConfig s.files intent_file goal
   pub valid : IsValidIn ctx start
   pub elsewhere : AgreeElsewhere ctx start goal
   pub keys : HasNoEmptyTable ctx goal
