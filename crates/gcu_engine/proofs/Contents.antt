@@ -48,11 +48,13 @@ use Rattle.gcu_inputs.specs.RulesAsked.{ctx_asked, rules_answer, rules_limit, ru
 use Rattle.gcu_requests.specs.FileAsked.{config_answer, document_answer, file_asked, file_limit}
 use Rattle.gcu_requests.specs.PlanAsked.{made_asked}
 use Rattle.gcu_requests.specs.PointAsked.{held_answer}
-use Rattle.gcu_engine.specs.Contents.{AreModelsIn, HoldFiles, Holds, IsContextIn, IsMade}
+use Rattle.gcu_engine.specs.Contents.{AreModelsIn, HoldFiles, Holds, HoldsJson, IsContextIn, IsMade}
 use Rattle.gcu_engine.specs.Folder.{HoldsConfig}
+use Rattle.gcu_engine.specs.RulesValues.{IsSettings}
 use Rattle.gcu_engine.proofs.Folders.{holds_config}
 use Rattle.gcu_engine.proofs.PatchResults.{patched_within}
 use Rattle.gcu_engine.proofs.PatchTexts.{operations_are_held, value_there}
+use Rattle.gcu_engine.proofs.RulesValues.{rules_said}
 
 -- ---- bytes
 
@@ -143,9 +145,11 @@ read_rules path (Err wrong.BadJson) settings e = absurd cc
 read_rules path (Err (wrong.Bad why)) settings e = absurd cc
 read_rules path (Err wrong.Memory) settings e = absurd cc
 
-settings_in : (s : State) (settings : Settings) → (settings_asked s).Gives (Ok settings) → Holds s rules_path rules settings
+settings_in : (s : State) (settings : Settings) → (settings_asked s).Gives (Ok settings) → (d : Data) × HoldsJson s rules_path d × IsSettings d settings
 settings_in s settings (inl never) = absurd never
-settings_in s settings (inr (bytes, found, e)) = (bytes, bytes_found rules_path rules_limit s bytes found, read_rules rules_path (rules bytes) settings e)
+settings_in s settings (inr (bytes, found, e)) =
+    let (d, is, says) = rules_said bytes settings (read_rules rules_path (rules bytes) settings e) in
+    (d, (bytes, bytes_found rules_path rules_limit s bytes found, is), says)
 
 context_from : (s : State) (made ctx : Ctx) (r : Result Ctx Outcome) → r ≡ Ok made → r ≡ Ok ctx → made ≡ ctx
 context_from s made ctx r a b = let same : made ≡ ctx = cc in same

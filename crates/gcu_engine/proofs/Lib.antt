@@ -38,6 +38,7 @@ mod RehearseSaying
 mod Requests
 mod Resuming
 mod RightPlans
+mod RulesValues
 mod Savings
 mod ScopesDoing
 mod ScopesEnding

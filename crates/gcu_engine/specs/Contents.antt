@@ -2,6 +2,8 @@
 use Rattle.std.specs.Prelude.{◌≡◌, ⊤, ℕ, List, [], ◌∷◌, codes, Some, Result, Ok}
 use Rattle.std.specs.FinMap.{get}
 use Rattle.host_core.specs.State.{State}
+use Rattle.serde_json.specs.Data.{Data}
+use Rattle.conf_doc.specs.Reading.{json}
 use Rattle.conf_doc.specs.declared.configuration.Config.{Config}
 use Rattle.conf_store.specs.Files.{intent_file}
 use Rattle.model_list.specs.Lists.{paths_of}
@@ -12,10 +14,10 @@ use Rattle.yang_model.specs.ModelSets.{ModelSet}
 use Rattle.yang_model.specs.Readers.{Readers, AreTrue}
 use Rattle.yang_model.specs.Shapes.{models_of}
 use Rattle.checkpoints.specs.Points.{points}
-use Rattle.move_core.specs.RulesFile.{rules}
 use Rattle.move_core.specs.declared.contexts.Ctx.{Ctx}
 use Rattle.plan_options.specs.Targets.{Target, patched, replaced, resumed, rolled_back}
 use Rattle.gcu_engine.specs.Folder.{HoldsConfig, HoldsPatch}
+use Rattle.gcu_engine.specs.RulesValues.{IsSettings}
 
 -- the input at a path has bytes that are read as this
 abbrev pub Holds : {X E : Type 0} → State → List ℕ → (List ℕ → Result X E) → X → Type 0
@@ -42,10 +44,14 @@ pub record AreModelsIn (s : State) (models : ModelSet) : Type 0 where
   pub are : (readers : Readers) → AreTrue readers
       → models ≡ models_of (modules_of files) readers
 
+-- the input at a path has bytes whose JSON value is this
+abbrev pub HoldsJson : State → List ℕ → Data → Type 0
+HoldsJson s path d = (bytes : List ℕ) × (get s.inputs path ≡ Some bytes) × (json bytes ≡ Some d)
+
 -- by the models and the settings of the inputs moves are judged
 pub record IsContextIn (s : State) (ctx : Ctx) : Type 0 where
   pub models : AreModelsIn s ctx.models
-  pub settings : Holds s (codes "rules.json") rules ctx.settings
+  pub settings : (d : Data) × HoldsJson s (codes "rules.json") d × IsSettings d ctx.settings
 
 -- ---- the target
 

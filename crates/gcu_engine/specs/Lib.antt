@@ -7,11 +7,13 @@ pub mod Crashes
 pub mod Folder
 pub mod Headline
 pub mod Intending
+pub mod JsonValues
 pub mod Migrating
 pub mod Patching
 pub mod Plannings
 pub mod PointLines
 pub mod Resuming
+pub mod RulesValues
 pub mod ScopeCrashes
 pub mod ScopeEndings
 pub mod ScopeTexts
