@@ -27,5 +27,5 @@ mod status;
 pub use conf_check::Rule;
 pub use conf_store::StoredWhy;
 pub use gcu_output::{Outcome, PointWhy};
-pub use laws::settings_read_are_said;
+pub use laws::{folders_read_are_said, patches_read_are_said, settings_read_are_said};
 pub use run_command::run;
