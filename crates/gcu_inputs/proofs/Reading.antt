@@ -2,22 +2,11 @@
 use Rattle.std.proofs.Common.{◌≡◌, ℕ, Option, ap, ◌∙◌, subst, arith}
 use Rattle.host_core.specs.Counts.{Counts, DiskMayRise, InputMayRise}
 use Rattle.host_core.specs.Crashes.{Elapses, Left, MayLeaveNow}
-use Rattle.host_core.specs.Frames as frames
 use Rattle.host_core.specs.State.{State}
 use Rattle.gcu_output.proofs.Elapsing.{elapses_both}
 use Rattle.gcu_inputs.specs.Reads.{OnlyReads, ReadsFiles, ReadsInputs, ReadsMayRise}
 
 -- ---- the counts of faults
-
-inputs_on : (a b c : Counts) → InputMayRise a b → InputMayRise b c → InputMayRise a c
-inputs_on a b c first second =
-    let at_b : b.input ≡ first.0 = ap (λ (x : Counts). x.input) first.2 in
-    (second.0, omega (arith, first.1, second.1, at_b), second.2 ∙ ap (λ (x : Counts). record x { input = second.0 }) first.2)
-
-files_on : (a b c : Counts) → DiskMayRise a b → DiskMayRise b c → DiskMayRise a c
-files_on a b c first second =
-    let at_b : b.disk ≡ first.0 = ap (λ (x : Counts). x.disk) first.2 in
-    (second.0, omega (arith, first.1, second.1, at_b), second.2 ∙ ap (λ (x : Counts). record x { disk = second.0 }) first.2)
 
 reads_on : (a b c : Counts) → ReadsMayRise a b → ReadsMayRise b c → ReadsMayRise a c
 reads_on a b c first second = record {
@@ -52,34 +41,17 @@ file_reads a b rise =
 -- ---- what is left as it was
 
 module _ {H : Type 0} {told : H → Option State} {counts : H → Counts} {moment : H → ℕ} {left_since : H → ℕ → Left → Type 0} {goes_on : H → H → Type 0} where
-  -- where what may rise in one call after the other may rise in both
-  both : (MayRise : Counts → Counts → Type 0) → ((a b c : Counts) → MayRise a b → MayRise b c → MayRise a c)
-      → ((a b c : H) → goes_on a b → goes_on b c → goes_on a c) → (a b c : H)
-      → frames.OnlyReads told counts moment left_since goes_on MayRise a b → frames.OnlyReads told counts moment left_since goes_on MayRise b c
-      → frames.OnlyReads told counts moment left_since goes_on MayRise a c
-  both MayRise on continues a b c one two = record {
+  pub reads_both : {a b c : H} → ((a b c : H) → goes_on a b → goes_on b c → goes_on a c)
+      → OnlyReads told counts moment left_since goes_on a b → OnlyReads told counts moment left_since goes_on b c
+      → OnlyReads told counts moment left_since goes_on a c
+  reads_both {a = a} {b = b} {c = c} continues one two = record {
     state = two.state ∙ one.state;
-    faults = on (counts a) (counts b) (counts c) one.faults two.faults;
+    faults = reads_on (counts a) (counts b) (counts c) one.faults two.faults;
     time =
         elapses_both moment left_since a b c (MayLeaveNow (told a)) one.time
         (subst (λ o. Elapses moment left_since b c (MayLeaveNow o)) one.state two.time);
     goes = continues a b c one.goes two.goes;
   }
-
-  pub inputs_both : {a b c : H} → ((a b c : H) → goes_on a b → goes_on b c → goes_on a c)
-      → ReadsInputs told counts moment left_since goes_on a b → ReadsInputs told counts moment left_since goes_on b c
-      → ReadsInputs told counts moment left_since goes_on a c
-  inputs_both {a = a} {b = b} {c = c} continues one two = both InputMayRise inputs_on continues a b c one two
-
-  pub files_both : {a b c : H} → ((a b c : H) → goes_on a b → goes_on b c → goes_on a c)
-      → ReadsFiles told counts moment left_since goes_on a b → ReadsFiles told counts moment left_since goes_on b c
-      → ReadsFiles told counts moment left_since goes_on a c
-  files_both {a = a} {b = b} {c = c} continues one two = both DiskMayRise files_on continues a b c one two
-
-  pub reads_both : {a b c : H} → ((a b c : H) → goes_on a b → goes_on b c → goes_on a c)
-      → OnlyReads told counts moment left_since goes_on a b → OnlyReads told counts moment left_since goes_on b c
-      → OnlyReads told counts moment left_since goes_on a c
-  reads_both {a = a} {b = b} {c = c} continues one two = both ReadsMayRise reads_on continues a b c one two
 
   -- what reads inputs alone, or files alone, only reads
   pub of_inputs : {a b : H} → ReadsInputs told counts moment left_since goes_on a b → OnlyReads told counts moment left_since goes_on a b
