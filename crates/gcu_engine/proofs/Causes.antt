@@ -7,6 +7,7 @@ use Rattle.gcu_output.specs.Lines.{last_line}
 use Rattle.gcu_output.specs.declared.outcomes.Outcome.{Outcome}
 use Rattle.gcu_output.specs.declared.outcomes.Outcome.TheVariants.{Done, Memory, Usage, InputFault, DiskFault, PrintFault, ServiceFault, Unorderable, Budget}
 use Rattle.gcu_inputs.specs.Preparing.{Refuses}
+use Rattle.gcu_inputs.specs.Reads.{ReadsMayRise}
 use Rattle.gcu_engine.specs.Answers.{HasCause}
 use Rattle.gcu_engine.specs.PlanCommands.{RefusesOrEnds}
 
@@ -26,6 +27,9 @@ print_fell old new rises =
     let print : new.print ≡ rises.0 = ap (λ (c : Counts). c.print) rises.2 in
     let service : new.service ≡ old.service = ap (λ (c : Counts). c.service) rises.2 in
     record { input = omega arith; disk = omega arith; print = omega (arith, rises.1); service = omega arith }
+
+pub reads_fell : {old new : Counts} → ReadsMayRise old new → NoneFell old new
+reads_fell rises = record { input = rises.input; disk = rises.disk; print = omega (arith, rises.print); service = omega (arith, rises.service) }
 
 pub rose_from : (a b c : ℕ) → a ≤ b → Rose b c → Rose a c
 rose_from a b c le rose = ⊎_elim (λ (less : b < c). inl (omega arith)) (λ (last : c ≡ last_count). inr last) rose

@@ -32,7 +32,7 @@ returns-in_err-test_interrupted-in-Ok-clause-left g c =
     let p = err_from_is_err_and c.from_residual.result c.from_residual.ensures.1 in
     rw (p.1, p.2)
     (ready_settled abandon_asked (g.H.Host.told c.args.host.now) (g.H.Host.told c.test_interrupted.new.host) c.in_err-test_interrupted-in-Ok.field-0.0
-    (g.H.Host.counts c.settle.new.self) (g.H.Host.counts c.test_interrupted.new.host) request.abandon (c.test_interrupted.ensures.told ∙ c.in-Ok.ensures.ok) c.in_err-test_interrupted-in-Ok.ensures.cause
+    (g.H.Host.counts c.settle.new.self) (g.H.Host.counts c.test_interrupted.new.host) request.abandon (c.test_interrupted.ensures.reads.state ∙ c.in-Ok.ensures.ok) c.in_err-test_interrupted-in-Ok.ensures.cause
     (settling_reads (g.H.Host.told c.args.host.now))
     (none_found (g.H.Host.told c.args.host.now) (g.H.Host.told c.settle.new.self) c.in_err-test_interrupted-in-Ok.field-0.0 c.in-Ok.ensures.ok c.in_err-test_interrupted-in-Ok.ensures.answer))
 
@@ -40,19 +40,19 @@ pub returns-in_err-test_interrupted-in-Ok-clause-crash : goal.returns-in_err-tes
 returns-in_err-test_interrupted-in-Ok-clause-crash g c =
     asking_settles g.H.Host.moment g.H.Host.left_since abandon_asked (g.H.Host.told c.args.host.now) (g.H.Host.told c.settle.new.self) c.args.host.now c.test_interrupted.new.host c.in-Ok.ensures.ok
     (λ left since. g.met.H.Host.only_now c.args.host.now left since)
-    (elapses_both g.H.Host.moment g.H.Host.left_since c.args.host.now c.settle.new.self c.test_interrupted.new.host (MayLeaveNow (g.H.Host.told c.settle.new.self)) c.settle.ensures.time c.test_interrupted.ensures.time)
+    (elapses_both g.H.Host.moment g.H.Host.left_since c.args.host.now c.settle.new.self c.test_interrupted.new.host (MayLeaveNow (g.H.Host.told c.settle.new.self)) c.settle.ensures.time c.test_interrupted.ensures.reads.time)
 
 -- ---- where one was
 
 pub remove_intent-requires-clause-ready : goal.remove_intent-requires-clause-ready
 remove_intent-requires-clause-ready g c =
-    may_remove (g.H.Host.told c.args.host.now) (g.H.Host.told c.test_interrupted.new.host) (c.test_interrupted.ensures.told ∙ c.in-Ok.ensures.ok)
-    (subst (λ o. Finds {X = Unit {0}} o (λ u. u) (Ok tt) interrupted) (sym c.test_interrupted.ensures.told) c.in_ok-test_interrupted-in-Ok.ensures.answer)
+    may_remove (g.H.Host.told c.args.host.now) (g.H.Host.told c.test_interrupted.new.host) (c.test_interrupted.ensures.reads.state ∙ c.in-Ok.ensures.ok)
+    (subst (λ o. Finds {X = Unit {0}} o (λ u. u) (Ok tt) interrupted) (sym c.test_interrupted.ensures.reads.state) c.in_ok-test_interrupted-in-Ok.ensures.answer)
 
 pub returns-in_ok-test_interrupted-in-Ok-clause-left : goal.returns-in_ok-test_interrupted-in-Ok-clause-left
 returns-in_ok-test_interrupted-in-Ok-clause-left g c =
-    let is = c.test_interrupted.ensures.told ∙ c.in-Ok.ensures.ok in
-    let gate = subst (λ o. Finds {X = Unit {0}} o (λ u. u) (Ok tt) interrupted) (sym c.test_interrupted.ensures.told) c.in_ok-test_interrupted-in-Ok.ensures.answer in
+    let is = c.test_interrupted.ensures.reads.state ∙ c.in-Ok.ensures.ok in
+    let gate = subst (λ o. Finds {X = Unit {0}} o (λ u. u) (Ok tt) interrupted) (sym c.test_interrupted.ensures.reads.state) c.in_ok-test_interrupted-in-Ok.ensures.answer in
     ready_written abandon_asked (g.H.Host.told c.args.host.now) (g.H.Host.told c.test_interrupted.new.host) (g.H.Host.told c.remove_intent.new.host)
     request.abandon IsClosed IsClosedOrNot abandoning c.remove_intent.result
     (g.H.Host.counts c.test_interrupted.new.host) (g.H.Host.counts c.remove_intent.new.host) is
@@ -63,13 +63,13 @@ returns-in_ok-test_interrupted-in-Ok-clause-left g c =
 
 pub returns-in_ok-test_interrupted-in-Ok-clause-crash : goal.returns-in_ok-test_interrupted-in-Ok-clause-crash
 returns-in_ok-test_interrupted-in-Ok-clause-crash g c =
-    let is = c.test_interrupted.ensures.told ∙ c.in-Ok.ensures.ok in
-    let gate = subst (λ o. Finds {X = Unit {0}} o (λ u. u) (Ok tt) interrupted) (sym c.test_interrupted.ensures.told) c.in_ok-test_interrupted-in-Ok.ensures.answer in
-    let so_far = elapses_both g.H.Host.moment g.H.Host.left_since c.args.host.now c.settle.new.self c.test_interrupted.new.host (MayLeaveNow (g.H.Host.told c.settle.new.self)) c.settle.ensures.time c.test_interrupted.ensures.time in
+    let is = c.test_interrupted.ensures.reads.state ∙ c.in-Ok.ensures.ok in
+    let gate = subst (λ o. Finds {X = Unit {0}} o (λ u. u) (Ok tt) interrupted) (sym c.test_interrupted.ensures.reads.state) c.in_ok-test_interrupted-in-Ok.ensures.answer in
+    let so_far = elapses_both g.H.Host.moment g.H.Host.left_since c.args.host.now c.settle.new.self c.test_interrupted.new.host (MayLeaveNow (g.H.Host.told c.settle.new.self)) c.settle.ensures.time c.test_interrupted.ensures.reads.time in
     writes_within g.H.Host.moment g.H.Host.left_since abandon_asked (g.H.Host.told c.args.host.now) (g.H.Host.told c.test_interrupted.new.host)
     request.abandon IsClosed IsClosedOrNot abandoning is
     c.args.host.now c.test_interrupted.new.host c.remove_intent.new.host (λ left since. g.met.H.Host.only_now c.args.host.now left since)
-    (subst (λ o. Elapses g.H.Host.moment g.H.Host.left_since c.args.host.now c.test_interrupted.new.host (MayLeaveNow o)) (sym c.test_interrupted.ensures.told) so_far)
+    (subst (λ o. Elapses g.H.Host.moment g.H.Host.left_since c.args.host.now c.test_interrupted.new.host (MayLeaveNow o)) (sym c.test_interrupted.ensures.reads.state) so_far)
     c.remove_intent.ensures.any_moment
     (given (g.H.Host.told c.args.host.now) (g.H.Host.told c.test_interrupted.new.host)
     (Elapses g.H.Host.moment g.H.Host.left_since c.test_interrupted.new.host c.remove_intent.new.host (MayLeaveNow (g.H.Host.told c.test_interrupted.new.host))) is gate)

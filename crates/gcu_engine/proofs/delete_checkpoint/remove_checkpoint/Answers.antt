@@ -52,7 +52,7 @@ returns-in_err-test_uninterrupted-in-Ok-clause-left g c =
     let p = err_from_is_err_and c.from_residual-in_err-test_uninterrupted-in-Ok.result c.from_residual-in_err-test_uninterrupted-in-Ok.ensures.1 in
     rw (p.1, p.2)
     (ready_settled (delete_asked c.args.name.now) (g.H.Host.told c.args.host.now) (g.H.Host.told c.test_uninterrupted.new.host) c.in_err-test_uninterrupted-in-Ok.field-0.0
-    (g.H.Host.counts c.settle.new.self) (g.H.Host.counts c.test_uninterrupted.new.host) (delete_checkpoint c.args.name.now) (c.test_uninterrupted.ensures.told ∙ c.in-Ok.ensures.ok) c.in_err-test_uninterrupted-in-Ok.ensures.cause
+    (g.H.Host.counts c.settle.new.self) (g.H.Host.counts c.test_uninterrupted.new.host) (delete_checkpoint c.args.name.now) (c.test_uninterrupted.ensures.reads.state ∙ c.in-Ok.ensures.ok) c.in_err-test_uninterrupted-in-Ok.ensures.cause
     (settling_reads (g.H.Host.told c.args.host.now) c.args.name.now good)
     (interrupted_found (g.H.Host.told c.args.host.now) (g.H.Host.told c.settle.new.self) c.args.name.now c.in_err-test_uninterrupted-in-Ok.field-0.0 good c.in-Ok.ensures.ok c.in_err-test_uninterrupted-in-Ok.ensures.answer))
 
@@ -60,15 +60,15 @@ pub returns-in_err-test_uninterrupted-in-Ok-clause-crash : goal.returns-in_err-t
 returns-in_err-test_uninterrupted-in-Ok-clause-crash g c =
     asking_settles g.H.Host.moment g.H.Host.left_since (delete_asked c.args.name.now) (g.H.Host.told c.args.host.now) (g.H.Host.told c.settle.new.self) c.args.host.now c.test_uninterrupted.new.host c.in-Ok.ensures.ok
     (λ left since. g.met.H.Host.only_now c.args.host.now left since)
-    (elapses_both g.H.Host.moment g.H.Host.left_since c.args.host.now c.settle.new.self c.test_uninterrupted.new.host (MayLeaveNow (g.H.Host.told c.settle.new.self)) c.settle.ensures.time c.test_uninterrupted.ensures.time)
+    (elapses_both g.H.Host.moment g.H.Host.left_since c.args.host.now c.settle.new.self c.test_uninterrupted.new.host (MayLeaveNow (g.H.Host.told c.settle.new.self)) c.settle.ensures.time c.test_uninterrupted.ensures.reads.time)
 
 -- ---- once it is settled
 
 pub returns-in_ok-test_uninterrupted-in-Ok-clause-left : goal.returns-in_ok-test_uninterrupted-in-Ok-clause-left
 returns-in_ok-test_uninterrupted-in-Ok-clause-left g c =
     let good : is_good_name c.args.name.now ≡ true = search rules in
-    let is = c.test_uninterrupted.ensures.told ∙ c.in-Ok.ensures.ok in
-    let gate = subst (λ o. Finds {X = Unit {0}} o (λ u. u) (Ok tt) uninterrupted) (sym c.test_uninterrupted.ensures.told) c.in_ok-test_uninterrupted-in-Ok.ensures.answer in
+    let is = c.test_uninterrupted.ensures.reads.state ∙ c.in-Ok.ensures.ok in
+    let gate = subst (λ o. Finds {X = Unit {0}} o (λ u. u) (Ok tt) uninterrupted) (sym c.test_uninterrupted.ensures.reads.state) c.in_ok-test_uninterrupted-in-Ok.ensures.answer in
     ready_written (delete_asked c.args.name.now) (g.H.Host.told c.args.host.now) (g.H.Host.told c.test_uninterrupted.new.host) (g.H.Host.told c.delete_settled.new.host)
     (delete_checkpoint c.args.name.now) (IsDeleted c.args.name.now) (IsDeletedOrNot c.args.name.now) (deleting c.args.name.now) c.delete_settled.result
     (g.H.Host.counts c.test_uninterrupted.new.host) (g.H.Host.counts c.delete_settled.new.host) is
@@ -84,13 +84,13 @@ returns-in_ok-test_uninterrupted-in-Ok-clause-left g c =
 pub returns-in_ok-test_uninterrupted-in-Ok-clause-crash : goal.returns-in_ok-test_uninterrupted-in-Ok-clause-crash
 returns-in_ok-test_uninterrupted-in-Ok-clause-crash g c =
     let good : is_good_name c.args.name.now ≡ true = search rules in
-    let is = c.test_uninterrupted.ensures.told ∙ c.in-Ok.ensures.ok in
-    let gate = subst (λ o. Finds {X = Unit {0}} o (λ u. u) (Ok tt) uninterrupted) (sym c.test_uninterrupted.ensures.told) c.in_ok-test_uninterrupted-in-Ok.ensures.answer in
-    let so_far = elapses_both g.H.Host.moment g.H.Host.left_since c.args.host.now c.settle.new.self c.test_uninterrupted.new.host (MayLeaveNow (g.H.Host.told c.settle.new.self)) c.settle.ensures.time c.test_uninterrupted.ensures.time in
+    let is = c.test_uninterrupted.ensures.reads.state ∙ c.in-Ok.ensures.ok in
+    let gate = subst (λ o. Finds {X = Unit {0}} o (λ u. u) (Ok tt) uninterrupted) (sym c.test_uninterrupted.ensures.reads.state) c.in_ok-test_uninterrupted-in-Ok.ensures.answer in
+    let so_far = elapses_both g.H.Host.moment g.H.Host.left_since c.args.host.now c.settle.new.self c.test_uninterrupted.new.host (MayLeaveNow (g.H.Host.told c.settle.new.self)) c.settle.ensures.time c.test_uninterrupted.ensures.reads.time in
     writes_within g.H.Host.moment g.H.Host.left_since (delete_asked c.args.name.now) (g.H.Host.told c.args.host.now) (g.H.Host.told c.test_uninterrupted.new.host)
     (delete_checkpoint c.args.name.now) (IsDeleted c.args.name.now) (IsDeletedOrNot c.args.name.now) (deleting c.args.name.now) is
     c.args.host.now c.test_uninterrupted.new.host c.delete_settled.new.host (λ left since. g.met.H.Host.only_now c.args.host.now left since)
-    (subst (λ o. Elapses g.H.Host.moment g.H.Host.left_since c.args.host.now c.test_uninterrupted.new.host (MayLeaveNow o)) (sym c.test_uninterrupted.ensures.told) so_far)
+    (subst (λ o. Elapses g.H.Host.moment g.H.Host.left_since c.args.host.now c.test_uninterrupted.new.host (MayLeaveNow o)) (sym c.test_uninterrupted.ensures.reads.state) so_far)
     c.delete_settled.ensures.any_moment
     (may_delete (g.H.Host.told c.args.host.now) (g.H.Host.told c.test_uninterrupted.new.host) c.args.name.now
     (Elapses g.H.Host.moment g.H.Host.left_since c.test_uninterrupted.new.host c.delete_settled.new.host (MayLeaveNow (g.H.Host.told c.test_uninterrupted.new.host))) good is gate

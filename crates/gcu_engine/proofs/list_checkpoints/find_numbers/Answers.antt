@@ -19,16 +19,16 @@ returns-in_err-test_uninterrupted-clause-answer g c =
 pub returns-clause-answer : goal.returns-clause-answer
 returns-clause-answer g c =
     gate_open (λ all. list_checkpoints (map numbered_view all)) (g.H.Host.told c.args.host.now) uninterrupted numbers_asked c.read_numbers.result c.in_ok-test_uninterrupted.ensures.answer
-    (rw c.test_uninterrupted.ensures.told at c.read_numbers.ensures.answer)
+    (rw c.test_uninterrupted.ensures.reads.state at c.read_numbers.ensures.answer)
 
 -- ---- time
 
 pub returns-clause-time : goal.returns-clause-time
 returns-clause-time g c =
     elapses_unchanged g.H.Host.moment g.H.Host.left_since c.args.host.now c.test_uninterrupted.new.host c.read_numbers.new.host
-    (g.H.Host.told c.args.host.now) (g.H.Host.told c.args.host.now) refl c.test_uninterrupted.ensures.time
-    (g.H.Host.told c.test_uninterrupted.new.host) c.test_uninterrupted.ensures.told c.read_numbers.ensures.time
+    (g.H.Host.told c.args.host.now) (g.H.Host.told c.args.host.now) refl c.test_uninterrupted.ensures.reads.time
+    (g.H.Host.told c.test_uninterrupted.new.host) c.test_uninterrupted.ensures.reads.state c.read_numbers.ensures.time
 
 pub returns-clause-goes : goal.returns-clause-goes
 returns-clause-goes g c =
-    g.met.H.Host.continues c.args.host.now c.test_uninterrupted.new.host c.read_numbers.new.host c.test_uninterrupted.ensures.goes c.read_numbers.ensures.goes
+    g.met.H.Host.continues c.args.host.now c.test_uninterrupted.new.host c.read_numbers.new.host c.test_uninterrupted.ensures.reads.goes c.read_numbers.ensures.goes

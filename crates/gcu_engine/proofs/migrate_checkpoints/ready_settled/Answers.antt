@@ -18,19 +18,19 @@ returns-in_err-test_uninterrupted-clause-answer g c =
 pub returns-clause-answer : goal.returns-clause-answer
 returns-clause-answer g c =
     gate_open of_ready (g.H.Host.told c.args.host.now) uninterrupted old_asked c.prepare_lines.result c.in_ok-test_uninterrupted.ensures.answer
-    (rw c.test_uninterrupted.ensures.told at c.prepare_lines.ensures.answer)
+    (rw c.test_uninterrupted.ensures.reads.state at c.prepare_lines.ensures.answer)
 
 pub returns-clause-due : goal.returns-clause-due
-returns-clause-due g c = rw c.test_uninterrupted.ensures.told at c.prepare_lines.ensures.due
+returns-clause-due g c = rw c.test_uninterrupted.ensures.reads.state at c.prepare_lines.ensures.due
 
 -- ---- time
 
 pub returns-clause-time : goal.returns-clause-time
 returns-clause-time g c =
     elapses_unchanged g.H.Host.moment g.H.Host.left_since c.args.host.now c.test_uninterrupted.new.host c.prepare_lines.new.host
-    (g.H.Host.told c.args.host.now) (g.H.Host.told c.args.host.now) refl c.test_uninterrupted.ensures.time
-    (g.H.Host.told c.test_uninterrupted.new.host) c.test_uninterrupted.ensures.told c.prepare_lines.ensures.time
+    (g.H.Host.told c.args.host.now) (g.H.Host.told c.args.host.now) refl c.test_uninterrupted.ensures.reads.time
+    (g.H.Host.told c.test_uninterrupted.new.host) c.test_uninterrupted.ensures.reads.state c.prepare_lines.ensures.time
 
 pub returns-clause-goes : goal.returns-clause-goes
 returns-clause-goes g c =
-    g.met.H.Host.continues c.args.host.now c.test_uninterrupted.new.host c.prepare_lines.new.host c.test_uninterrupted.ensures.goes c.prepare_lines.ensures.goes
+    g.met.H.Host.continues c.args.host.now c.test_uninterrupted.new.host c.prepare_lines.new.host c.test_uninterrupted.ensures.reads.goes c.prepare_lines.ensures.goes

@@ -8,6 +8,7 @@ use Rattle.gcu_inputs.specs.Form.{abandon, check, form, list_checkpoints, migrat
 use Rattle.gcu_inputs.specs.FormView.{form_view, task_view}
 use Rattle.gcu_inputs.specs.declared.form.Form.{Form}
 use Rattle.gcu_engine.specs.Answers.{TellsUsage}
+use Rattle.gcu_engine.proofs.Causes.{reads_fell}
 use Rattle.gcu_engine.proofs.Completing.{complete_by}
 use Rattle.gcu_engine.proofs.Headlines.{change_headline, headline}
 use Rattle.gcu_engine.proofs.Elapsing.{changes_by, command_leaves, command_leaves_behind, leaves_by, migrates_by}
@@ -35,14 +36,14 @@ returns-in-Unknown-clause-answers g c words is =
 pub returns-in-Ok-clause-answers : goal.returns-in-Ok-clause-answers
 returns-in-Ok-clause-answers g c words is =
     said_answers words (g.H.Host.told c.args.host.now) (g.H.Host.told c.show.new.host) (g.H.Host.counts c.args.host.now) (g.H.Host.counts c.preview.new.host) (g.H.Host.counts c.show.new.host)
-    Done (text_in_lines (document c.in-Ok.tree) ++ last_line Done) c.show.result (rw c.in-Ok.ensures.told at c.show.ensures.said) c.show.ensures.counts tt
+    Done (text_in_lines (document c.in-Ok.tree) ++ last_line Done) c.show.result (rw c.in-Ok.ensures.reads.state at c.show.ensures.said) c.show.ensures.counts tt
     (preview_says words _ (g.H.Host.told c.args.host.now) c.in-Ok.tree (sym (of words c.args.command _ is c.in-Preview.is)) c.in-Ok.ensures.answer)
 
 -- a refused preview
 pub returns-in-Err-clause-answers : goal.returns-in-Err-clause-answers
 returns-in-Err-clause-answers g c words is =
     said_answers words (g.H.Host.told c.args.host.now) (g.H.Host.told c.say.new.host) (g.H.Host.counts c.args.host.now) (g.H.Host.counts c.preview.new.host) (g.H.Host.counts c.say.new.host)
-    c.in-Err.outcome (last_line c.in-Err.outcome) c.say.result (rw c.in-Err.ensures.told at c.say.ensures.said) c.say.ensures.counts
+    c.in-Err.outcome (last_line c.in-Err.outcome) c.say.result (rw c.in-Err.ensures.reads.state at c.say.ensures.said) c.say.ensures.counts
     (refused_cause (g.H.Host.counts c.args.host.now) (g.H.Host.counts c.preview.new.host) c.in-Err.outcome c.in-Err.ensures.cause)
     (preview_refuses words _ (g.H.Host.told c.args.host.now) c.in-Err.outcome (g.H.Host.counts c.args.host.now) (g.H.Host.counts c.preview.new.host) (sym (of words c.args.command _ is c.in-Preview.is)) c.in-Err.ensures.cause c.in-Err.ensures.answer)
 
@@ -57,23 +58,23 @@ pub returns-in-Ok-clause-crash : goal.returns-in-Ok-clause-crash
 returns-in-Ok-clause-crash g c words is =
     command_leaves_behind g.H.Host.moment g.H.Host.left_since words _ c.args.host.now c.preview.new.host c.show.new.host
     (g.H.Host.told c.args.host.now) (g.H.Host.told c.preview.new.host) Done (text_in_lines (document c.in-Ok.tree) ++ last_line Done) (of words c.args.command _ is c.in-Preview.is) (λ s left h. h)
-    (preview_says words _ (g.H.Host.told c.args.host.now) c.in-Ok.tree (sym (of words c.args.command _ is c.in-Preview.is)) c.in-Ok.ensures.answer) c.preview.ensures.told
-    (λ left since. g.met.H.Host.only_now c.args.host.now left since) c.preview.ensures.time c.show.ensures.time
+    (preview_says words _ (g.H.Host.told c.args.host.now) c.in-Ok.tree (sym (of words c.args.command _ is c.in-Preview.is)) c.in-Ok.ensures.answer) c.preview.ensures.reads.state
+    (λ left since. g.met.H.Host.only_now c.args.host.now left since) c.preview.ensures.reads.time c.show.ensures.time
 
 pub returns-in-Err-clause-crash : goal.returns-in-Err-clause-crash
 returns-in-Err-clause-crash g c words is =
     command_leaves_behind g.H.Host.moment g.H.Host.left_since words _ c.args.host.now c.preview.new.host c.say.new.host
     (g.H.Host.told c.args.host.now) (g.H.Host.told c.preview.new.host) c.in-Err.outcome (last_line c.in-Err.outcome) (of words c.args.command _ is c.in-Preview.is) (λ s left h. h)
-    (preview_refuses words _ (g.H.Host.told c.args.host.now) c.in-Err.outcome (g.H.Host.counts c.args.host.now) (g.H.Host.counts c.preview.new.host) (sym (of words c.args.command _ is c.in-Preview.is)) c.in-Err.ensures.cause c.in-Err.ensures.answer) c.preview.ensures.told
-    (λ left since. g.met.H.Host.only_now c.args.host.now left since) c.preview.ensures.time c.say.ensures.time
+    (preview_refuses words _ (g.H.Host.told c.args.host.now) c.in-Err.outcome (g.H.Host.counts c.args.host.now) (g.H.Host.counts c.preview.new.host) (sym (of words c.args.command _ is c.in-Preview.is)) c.in-Err.ensures.cause c.in-Err.ensures.answer) c.preview.ensures.reads.state
+    (λ left since. g.met.H.Host.only_now c.args.host.now left since) c.preview.ensures.reads.time c.say.ensures.time
 
 pub returns-in-Ok-clause-goes : goal.returns-in-Ok-clause-goes
 returns-in-Ok-clause-goes g c =
-    g.met.H.Host.continues c.args.host.now c.preview.new.host c.show.new.host c.preview.ensures.goes c.show.ensures.goes
+    g.met.H.Host.continues c.args.host.now c.preview.new.host c.show.new.host c.preview.ensures.reads.goes c.show.ensures.goes
 
 pub returns-in-Err-clause-goes : goal.returns-in-Err-clause-goes
 returns-in-Err-clause-goes g c =
-    g.met.H.Host.continues c.args.host.now c.preview.new.host c.say.new.host c.preview.ensures.goes c.say.ensures.goes
+    g.met.H.Host.continues c.args.host.now c.preview.new.host c.say.new.host c.preview.ensures.reads.goes c.say.ensures.goes
 
 -- ---- where nothing failed
 
@@ -82,13 +83,13 @@ returns-in-Err-clause-complete g c words is =
     said_completes words _ (g.H.Host.told c.args.host.now) (g.H.Host.told c.say.new.host) (g.H.Host.told c.preview.new.host)
     (g.H.Host.counts c.args.host.now) (g.H.Host.counts c.preview.new.host) (g.H.Host.counts c.say.new.host)
     c.in-Err.outcome c.say.result (sym (of words c.args.command _ is c.in-Preview.is)) c.say.ensures.said c.say.ensures.counts
-    c.in-Err.ensures.counts c.in-Err.ensures.cause c.in-Err.ensures.answer
+    (reads_fell c.in-Err.ensures.reads.faults) c.in-Err.ensures.cause c.in-Err.ensures.answer
 
 pub returns-in-Ok-clause-complete : goal.returns-in-Ok-clause-complete
 returns-in-Ok-clause-complete g c words is =
     done_completes words _ (text_in_lines (document c.in-Ok.tree) ++ last_line Done) (g.H.Host.told c.args.host.now) (g.H.Host.told c.show.new.host) (g.H.Host.told c.preview.new.host)
     (g.H.Host.counts c.args.host.now) (g.H.Host.counts c.preview.new.host) (g.H.Host.counts c.show.new.host)
-    c.in-Ok.tree c.show.result (sym (of words c.args.command _ is c.in-Preview.is)) c.show.ensures.said c.in-Ok.ensures.counts c.in-Ok.ensures.answer
+    c.in-Ok.tree c.show.result (sym (of words c.args.command _ is c.in-Preview.is)) c.show.ensures.said (reads_fell c.in-Ok.ensures.reads.faults) c.in-Ok.ensures.answer
 
 -- ---- commands in functions of their own
 

@@ -67,7 +67,7 @@ returns-in_err-config-in-Ok-clause-left g c =
     let p = err_from_is_err_and c.from_residual-in_err-config-in-Ok.result c.from_residual-in_err-config-in-Ok.ensures.1 in
     rw (p.1, p.2)
     (ready_settled (save_asked c.args.name.now) (g.H.Host.told c.args.host.now) (g.H.Host.told c.judge_stored.new.host) c.in_err-config-in-Ok.field-0.0
-    (g.H.Host.counts c.settle.new.self) (g.H.Host.counts c.judge_stored.new.host) check (c.judge_stored.ensures.told ∙ c.in-Ok.ensures.ok) c.in_err-config-in-Ok.ensures.cause
+    (g.H.Host.counts c.settle.new.self) (g.H.Host.counts c.judge_stored.new.host) check (c.judge_stored.ensures.reads.state ∙ c.in-Ok.ensures.ok) c.in_err-config-in-Ok.ensures.cause
     (settling_reads (g.H.Host.told c.args.host.now) c.args.name.now good)
     (not_valid_found (g.H.Host.told c.args.host.now) (g.H.Host.told c.settle.new.self) c.args.name.now check c.in_err-config-in-Ok.field-0.0 good c.in-Ok.ensures.ok c.in_err-config-in-Ok.ensures.answer))
 
@@ -75,7 +75,7 @@ pub returns-in_err-config-in-Ok-clause-crash : goal.returns-in_err-config-in-Ok-
 returns-in_err-config-in-Ok-clause-crash g c =
     asking_settles g.H.Host.moment g.H.Host.left_since (save_asked c.args.name.now) (g.H.Host.told c.args.host.now) (g.H.Host.told c.settle.new.self) c.args.host.now c.judge_stored.new.host c.in-Ok.ensures.ok
     (λ left since. g.met.H.Host.only_now c.args.host.now left since)
-    (elapses_both g.H.Host.moment g.H.Host.left_since c.args.host.now c.settle.new.self c.judge_stored.new.host (MayLeaveNow (g.H.Host.told c.settle.new.self)) c.settle.ensures.time c.judge_stored.ensures.time)
+    (elapses_both g.H.Host.moment g.H.Host.left_since c.args.host.now c.settle.new.self c.judge_stored.new.host (MayLeaveNow (g.H.Host.told c.settle.new.self)) c.settle.ensures.time c.judge_stored.ensures.reads.time)
 
 -- ---- once it is settled
 
@@ -83,9 +83,9 @@ pub returns-in_ok-config-in-Ok-clause-left : goal.returns-in_ok-config-in-Ok-cla
 returns-in_ok-config-in-Ok-clause-left g c =
     let good : is_good_name c.args.name.now ≡ true = search rules in
     let config = c.in_ok-config-in-Ok.config in
-    let is = c.judge_stored.ensures.told ∙ c.in-Ok.ensures.ok in
-    let valid = subst (λ o. Finds {X = Config} o (λ x. check) (Ok config) check_asked) (sym c.judge_stored.ensures.told) c.in_ok-config-in-Ok.ensures.answer in
-    let stood = subst (λ o. Finds {X = Config} o (λ x. config) (Ok config) stored_asked) (sym c.judge_stored.ensures.told) c.in_ok-config-in-Ok.ensures.stored in
+    let is = c.judge_stored.ensures.reads.state ∙ c.in-Ok.ensures.ok in
+    let valid = subst (λ o. Finds {X = Config} o (λ x. check) (Ok config) check_asked) (sym c.judge_stored.ensures.reads.state) c.in_ok-config-in-Ok.ensures.answer in
+    let stood = subst (λ o. Finds {X = Config} o (λ x. config) (Ok config) stored_asked) (sym c.judge_stored.ensures.reads.state) c.in_ok-config-in-Ok.ensures.stored in
     ready_written (save_asked c.args.name.now) (g.H.Host.told c.args.host.now) (g.H.Host.told c.judge_stored.new.host) (g.H.Host.told c.save_config.new.host)
     (save_checkpoint c.args.name.now config) (IsSaved c.args.name.now config) (IsSavedOrNot c.args.name.now config) (saving c.args.name.now config) c.save_config.result
     (g.H.Host.counts c.judge_stored.new.host) (g.H.Host.counts c.save_config.new.host) is
@@ -102,14 +102,14 @@ pub returns-in_ok-config-in-Ok-clause-crash : goal.returns-in_ok-config-in-Ok-cl
 returns-in_ok-config-in-Ok-clause-crash g c =
     let good : is_good_name c.args.name.now ≡ true = search rules in
     let config = c.in_ok-config-in-Ok.config in
-    let is = c.judge_stored.ensures.told ∙ c.in-Ok.ensures.ok in
-    let valid = subst (λ o. Finds {X = Config} o (λ x. check) (Ok config) check_asked) (sym c.judge_stored.ensures.told) c.in_ok-config-in-Ok.ensures.answer in
-    let stood = subst (λ o. Finds {X = Config} o (λ x. config) (Ok config) stored_asked) (sym c.judge_stored.ensures.told) c.in_ok-config-in-Ok.ensures.stored in
-    let so_far = elapses_both g.H.Host.moment g.H.Host.left_since c.args.host.now c.settle.new.self c.judge_stored.new.host (MayLeaveNow (g.H.Host.told c.settle.new.self)) c.settle.ensures.time c.judge_stored.ensures.time in
+    let is = c.judge_stored.ensures.reads.state ∙ c.in-Ok.ensures.ok in
+    let valid = subst (λ o. Finds {X = Config} o (λ x. check) (Ok config) check_asked) (sym c.judge_stored.ensures.reads.state) c.in_ok-config-in-Ok.ensures.answer in
+    let stood = subst (λ o. Finds {X = Config} o (λ x. config) (Ok config) stored_asked) (sym c.judge_stored.ensures.reads.state) c.in_ok-config-in-Ok.ensures.stored in
+    let so_far = elapses_both g.H.Host.moment g.H.Host.left_since c.args.host.now c.settle.new.self c.judge_stored.new.host (MayLeaveNow (g.H.Host.told c.settle.new.self)) c.settle.ensures.time c.judge_stored.ensures.reads.time in
     writes_within g.H.Host.moment g.H.Host.left_since (save_asked c.args.name.now) (g.H.Host.told c.args.host.now) (g.H.Host.told c.judge_stored.new.host)
     (save_checkpoint c.args.name.now config) (IsSaved c.args.name.now config) (IsSavedOrNot c.args.name.now config) (saving c.args.name.now config) is
     c.args.host.now c.judge_stored.new.host c.save_config.new.host (λ left since. g.met.H.Host.only_now c.args.host.now left since)
-    (subst (λ o. Elapses g.H.Host.moment g.H.Host.left_since c.args.host.now c.judge_stored.new.host (MayLeaveNow o)) (sym c.judge_stored.ensures.told) so_far)
+    (subst (λ o. Elapses g.H.Host.moment g.H.Host.left_since c.args.host.now c.judge_stored.new.host (MayLeaveNow o)) (sym c.judge_stored.ensures.reads.state) so_far)
     c.save_config.ensures.any_moment
     (may_save (g.H.Host.told c.args.host.now) (g.H.Host.told c.judge_stored.new.host) c.args.name.now config
     (Elapses g.H.Host.moment g.H.Host.left_since c.judge_stored.new.host c.save_config.new.host (MayLeaveNow (g.H.Host.told c.judge_stored.new.host))) good is valid stood
