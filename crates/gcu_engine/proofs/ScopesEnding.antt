@@ -1,5 +1,5 @@
 -- How changes of several scopes end whose plans are printed, and what a crash leaves until then.
-use Rattle.std.proofs.Common.{◌≡◌, ◌≤◌, ◌⊎◌, ⊎_elim, inl, inr, ℕ, List, [], ◌++◌, refl, sym, ap, ◌∙◌, subst, arith, append-nil, append_assoc, Option, Some, None, IfSome, option_map}
+use Rattle.std.proofs.Common.{◌≡◌, ◌≤◌, ⊎_elim, inl, inr, ℕ, List, [], ◌++◌, refl, sym, ap, ◌∙◌, subst, arith, append-nil, append_assoc, Option, Some, None, IfSome, option_map}
 use Rattle.host_core.specs.Counts.{Counts, NoneFell}
 use Rattle.host_core.specs.Crashes.{Elapses, Left, MayLeave, MayLeaveInPrint, MayLeaveNow}
 use Rattle.host_core.specs.State.{IsFront, State, printed}

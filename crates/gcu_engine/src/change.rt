@@ -3,7 +3,7 @@
 ghost use Rattle.std.specs.Prelude.{◌≡◌, ◌≤◌, ◌<◌, false, true, IfErr, IfOk, IfSome, length, map, option_map};
 ghost use Rattle.std.specs.List.{AllPass};
 ghost use Rattle.host_core.specs.Counts.{NoneFell, PrintMayRise};
-ghost use Rattle.host_core.specs.Crashes.{Elapses, LeavesOnly, MayLeaveInPrint, MayLeaveNow};
+ghost use Rattle.host_core.specs.Crashes.{Elapses, LeavesOnly, MayLeaveInPrint};
 ghost use Rattle.host_core.specs.Names.{longest_plain_name};
 ghost use Rattle.host_core.specs.State.{settled, with_pending};
 ghost use Rattle.conf_store.specs.Changes.{IsSettled};
@@ -16,6 +16,7 @@ ghost use Rattle.plan_options.specs.Options.{most_budget};
 ghost use Rattle.plan_options.specs.Views.{target_view};
 ghost use Rattle.gcu_output.specs.declared.outcomes.Outcome.TheVariants.{Memory as no_memory, Usage as usage};
 ghost use Rattle.gcu_inputs.specs.FormView.{task_view};
+ghost use Rattle.gcu_inputs.specs.Reads.{OnlyReads};
 ghost use Rattle.gcu_inputs.specs.Tasks.{reach};
 ghost use Rattle.gcu_requests.specs.ReadPlannings.{HasGoodName, IsReadyToSearch, IsWellNamed, planning_of};
 ghost use Rattle.gcu_requests.specs.WorkAsked.{change_asked, settled_asked, work_asked};
@@ -177,11 +178,8 @@ fn work_settled<H: Host>(
     ensures prepared { IfSome (H.told host.old) (λ s.
         IsPrepared (work_asked (task_view task.entry) budget s) s result) }
     ensures bytes { IfOk result HasBytes }
-    ensures told { H.told host.new ≡ H.told host.old }
-    ensures counts { NoneFell (H.counts host.old) (H.counts host.new) }
+    ensures reads { OnlyReads H.told H.counts H.moment H.left_since H.goes_on host.old host.new }
     ensures cause { IfErr result (RefusesOrEnds (H.counts host.old) (H.counts host.new)) }
-    ensures time { Elapses H.moment H.left_since host.old host.new (MayLeaveNow (H.told host.old)) }
-    ensures goes { H.goes_on host.old host.new }
 {
     match task {
         Task::Reach { target } => plan_settled(alloc, target, budget, kit, host),
@@ -206,11 +204,8 @@ fn plan_settled<H: Host>(
     ensures prepared { IfSome (H.told host.old) (λ s.
         IsPrepared (work_asked (reach (target_view target.entry)) budget s) s result) }
     ensures bytes { IfOk result HasBytes }
-    ensures told { H.told host.new ≡ H.told host.old }
-    ensures counts { NoneFell (H.counts host.old) (H.counts host.new) }
+    ensures reads { OnlyReads H.told H.counts H.moment H.left_since H.goes_on host.old host.new }
     ensures cause { IfErr result (RefusesOrEnds (H.counts host.old) (H.counts host.new)) }
-    ensures time { Elapses H.moment H.left_since host.old host.new (MayLeaveNow (H.told host.old)) }
-    ensures goes { H.goes_on host.old host.new }
 {
     let planning = prepare(alloc, target, budget, host)?;
     let plan = find_plan(alloc, kit, &planning)?;

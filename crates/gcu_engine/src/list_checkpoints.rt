@@ -1,13 +1,14 @@
 //! `gcu list-checkpoints`: the names of all checkpoints, with their numbers.
 ghost use Rattle.std.specs.Prelude.{◌≡◌, ◌≤◌, ◌++◌, IfErr, IfOk, OnOk, map, string_bytes};
-ghost use Rattle.host_core.specs.Counts.{DiskMayRise, NoneFell, PrintMayRise};
-ghost use Rattle.host_core.specs.Crashes.{Elapses, LeavesOnly, MayLeaveNow};
+ghost use Rattle.host_core.specs.Counts.{NoneFell, PrintMayRise};
+ghost use Rattle.host_core.specs.Crashes.{Elapses, LeavesOnly};
 ghost use Rattle.host_core.specs.Names.{longest_plain_name};
 ghost use Rattle.checkpoints.specs.Answers.{numbered_view};
 ghost use Rattle.gcu_output.specs.Printing.{LeftInText, IsSaid};
 ghost use Rattle.gcu_output.specs.Lines.{last_line, line_feed};
 ghost use Rattle.gcu_output.specs.declared.outcomes.Outcome.TheVariants.{Done as done, Usage as usage};
 ghost use Rattle.gcu_inputs.specs.Preparing.{Finds, Refuses};
+ghost use Rattle.gcu_inputs.specs.Reads.{ReadsFiles};
 ghost use Rattle.gcu_requests.specs.Asked.{list_asked, numbers_asked};
 ghost use Rattle.gcu_requests.specs.Request.{list_checkpoints as list_of};
 ghost use Rattle.gcu_engine.specs.Answers.{HasCause};
@@ -46,11 +47,8 @@ fn find_numbers<H: Host>(alloc: Global, host: &mut H) -> Result<Sequence<Numbere
     requires { longest_plain_name ≤ H.longest_name }
     ensures answer { Finds (H.told host.old) (λ all. list_of (map numbered_view all)) result
         list_asked }
-    ensures told { H.told host.new ≡ H.told host.old }
-    ensures counts { DiskMayRise (H.counts host.old) (H.counts host.new) }
+    ensures reads { ReadsFiles H.told H.counts H.moment H.left_since H.goes_on host.old host.new }
     ensures cause { IfErr result (Refuses (H.counts host.old) (H.counts host.new)) }
-    ensures time { Elapses H.moment H.left_since host.old host.new (MayLeaveNow (H.told host.old)) }
-    ensures goes { H.goes_on host.old host.new }
 {
     test_uninterrupted(alloc, host)?;
     read_numbers(alloc, host)
@@ -61,11 +59,8 @@ fn read_numbers<H: Host>(alloc: Global, host: &mut H) -> Result<Sequence<Numbere
     requires { longest_plain_name ≤ H.longest_name }
     ensures answer { Finds (H.told host.old) (λ all. list_of (map numbered_view all)) result
         numbers_asked }
-    ensures told { H.told host.new ≡ H.told host.old }
-    ensures counts { DiskMayRise (H.counts host.old) (H.counts host.new) }
+    ensures reads { ReadsFiles H.told H.counts H.moment H.left_since H.goes_on host.old host.new }
     ensures cause { IfErr result (Refuses (H.counts host.old) (H.counts host.new)) }
-    ensures time { Elapses H.moment H.left_since host.old host.new (MayLeaveNow (H.told host.old)) }
-    ensures goes { H.goes_on host.old host.new }
 {
     match numbers(alloc, host) {
         Ok(all) => Ok(all),

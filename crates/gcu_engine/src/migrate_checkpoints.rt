@@ -1,13 +1,14 @@
 //! `gcu migrate-checkpoints`: the files of the old format put anew in format 2.
 ghost use Rattle.std.specs.Prelude.{◌≡◌, ◌≤◌, All, IfErr, IfOk, IfSome, Ok, option_map};
-ghost use Rattle.host_core.specs.Counts.{DiskMayRise, NoneFell};
-ghost use Rattle.host_core.specs.Crashes.{Elapses, LeavesOnly, MayLeaveNow};
+ghost use Rattle.host_core.specs.Counts.{NoneFell};
+ghost use Rattle.host_core.specs.Crashes.{LeavesOnly};
 ghost use Rattle.host_core.specs.Names.{longest_plain_name};
 ghost use Rattle.host_core.specs.State.{settled, with_pending};
 ghost use Rattle.conf_store.specs.Changes.{IsSettled};
 ghost use Rattle.checkpoints.specs.Migrations.{IsDue};
 ghost use Rattle.gcu_output.specs.declared.outcomes.Outcome.TheVariants.{Usage as usage};
 ghost use Rattle.gcu_inputs.specs.Preparing.{Finds, Refuses};
+ghost use Rattle.gcu_inputs.specs.Reads.{ReadsFiles};
 ghost use Rattle.gcu_requests.specs.Asked.{migrate_asked, migration_asked, old_asked};
 ghost use Rattle.gcu_requests.specs.Request.{migrate_checkpoints as migration_of};
 ghost use Rattle.gcu_engine.specs.Answers.{HasCause, IsRefusal};
@@ -88,11 +89,8 @@ fn ready_settled<H: Host>(alloc: Global, host: &mut H) -> Result<ReadyMigration,
     ensures due { IfOk result (λ r. IfSome (H.told host.old)
         (λ s. All (λ n. IsDue n s.files) r.migration)) }
     ensures lines { IfOk result HasLines }
-    ensures told { H.told host.new ≡ H.told host.old }
-    ensures counts { DiskMayRise (H.counts host.old) (H.counts host.new) }
+    ensures reads { ReadsFiles H.told H.counts H.moment H.left_since H.goes_on host.old host.new }
     ensures cause { IfErr result (Refuses (H.counts host.old) (H.counts host.new)) }
-    ensures time { Elapses H.moment H.left_since host.old host.new (MayLeaveNow (H.told host.old)) }
-    ensures goes { H.goes_on host.old host.new }
 {
     test_uninterrupted(alloc, host)?;
     prepare_lines(alloc, host)
@@ -105,11 +103,8 @@ fn prepare_lines<H: Host>(alloc: Global, host: &mut H) -> Result<ReadyMigration,
     ensures due { IfOk result (λ r. IfSome (H.told host.old)
         (λ s. All (λ n. IsDue n s.files) r.migration)) }
     ensures lines { IfOk result HasLines }
-    ensures told { H.told host.new ≡ H.told host.old }
-    ensures counts { DiskMayRise (H.counts host.old) (H.counts host.new) }
+    ensures reads { ReadsFiles H.told H.counts H.moment H.left_since H.goes_on host.old host.new }
     ensures cause { IfErr result (Refuses (H.counts host.old) (H.counts host.new)) }
-    ensures time { Elapses H.moment H.left_since host.old host.new (MayLeaveNow (H.told host.old)) }
-    ensures goes { H.goes_on host.old host.new }
 {
     let migration = find_migration(alloc, host)?;
     let ready = with_lines(alloc, migration)?;
@@ -121,11 +116,8 @@ fn find_migration<H: Host>(alloc: Global, host: &mut H) -> Result<Migration, Out
     requires { longest_plain_name ≤ H.longest_name }
     ensures answer { Finds (H.told host.old) migration_of result old_asked }
     ensures due { IfOk result (λ m. IfSome (H.told host.old) (λ s. All (λ n. IsDue n s.files) m)) }
-    ensures told { H.told host.new ≡ H.told host.old }
-    ensures counts { DiskMayRise (H.counts host.old) (H.counts host.new) }
+    ensures reads { ReadsFiles H.told H.counts H.moment H.left_since H.goes_on host.old host.new }
     ensures cause { IfErr result (Refuses (H.counts host.old) (H.counts host.new)) }
-    ensures time { Elapses H.moment H.left_since host.old host.new (MayLeaveNow (H.told host.old)) }
-    ensures goes { H.goes_on host.old host.new }
 {
     match prepare_migration(alloc, host) {
         Ok(migration) => Ok(migration),

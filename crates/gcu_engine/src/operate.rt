@@ -1,10 +1,9 @@
 //! `gcu sessions SCRIPT`: what several operators do by a script, made ready to be done step by step.
 ghost use Rattle.std.specs.Prelude.{◌≡◌, ◌≤◌, ◌<◌, false, IfErr, IfOk, IfSome};
-ghost use Rattle.host_core.specs.Counts.{NoneFell};
-ghost use Rattle.host_core.specs.Crashes.{Elapses, MayLeaveNow};
 ghost use Rattle.host_core.specs.Names.{longest_plain_name};
 ghost use Rattle.gcu_output.specs.declared.outcomes.Outcome.TheVariants.{Memory as no_memory};
 ghost use Rattle.gcu_inputs.specs.Tasks.{run_script};
+ghost use Rattle.gcu_inputs.specs.Reads.{OnlyReads};
 ghost use Rattle.gcu_requests.specs.ReadScripts.{IsReadyToOperate};
 ghost use Rattle.gcu_requests.specs.WorkAsked.{work_asked};
 ghost use Rattle.gcu_engine.specs.Doing.{HasBytes, IsPrepared, IsReadyRun};
@@ -33,11 +32,8 @@ pub(crate) fn commits_settled<H: Host>(
     ensures prepared { IfSome (H.told host.old) (λ s.
         IsPrepared (work_asked (run_script script.now) budget s) s result) }
     ensures bytes { IfOk result HasBytes }
-    ensures told { H.told host.new ≡ H.told host.old }
-    ensures counts { NoneFell (H.counts host.old) (H.counts host.new) }
+    ensures reads { OnlyReads H.told H.counts H.moment H.left_since H.goes_on host.old host.new }
     ensures cause { IfErr result (RefusesOrEnds (H.counts host.old) (H.counts host.new)) }
-    ensures time { Elapses H.moment H.left_since host.old host.new (MayLeaveNow (H.told host.old)) }
-    ensures goes { H.goes_on host.old host.new }
 {
     let operating = prepare_script(alloc, script, budget, host)?;
     ready_commits(alloc, kit, operating)

@@ -1,12 +1,13 @@
 //! `gcu sessions SCRIPT --dry-run`: what several operators would do by a script.
 ghost use Rattle.std.specs.Prelude.{◌≡◌, ◌≤◌, ◌<◌, IfErr, IfOk, IfSome};
 ghost use Rattle.host_core.specs.Counts.{NoneFell, PrintMayRise};
-ghost use Rattle.host_core.specs.Crashes.{Elapses, LeavesOnly, MayLeaveNow};
+ghost use Rattle.host_core.specs.Crashes.{Elapses, LeavesOnly};
 ghost use Rattle.host_core.specs.Names.{longest_plain_name};
 ghost use Rattle.gcu_output.specs.Printing.{IsSaid, LeftInText};
 ghost use Rattle.gcu_output.specs.declared.outcomes.Outcome.TheVariants.{Done as done, Memory as no_memory, Usage as usage};
 ghost use Rattle.gcu_inputs.specs.Preparing.{Refuses};
 ghost use Rattle.gcu_inputs.specs.Tasks.{run_script};
+ghost use Rattle.gcu_inputs.specs.Reads.{OnlyReads};
 ghost use Rattle.gcu_requests.specs.ReadScripts.{IsReadyToOperate};
 ghost use Rattle.gcu_requests.specs.WorkAsked.{dry_run_asked};
 ghost use Rattle.gcu_engine.specs.Answers.{HasCause};
@@ -76,11 +77,8 @@ fn rehearsed<H: Host>(
     ensures kinds { ⟦<Kit as Boxes>⟧.HasKinds kit.new }
     ensures says { IfSome (H.told host.old)
         (λ s. SaysText (dry_run_asked (run_script script.now) budget s) s result) }
-    ensures told { H.told host.new ≡ H.told host.old }
-    ensures counts { NoneFell (H.counts host.old) (H.counts host.new) }
+    ensures reads { OnlyReads H.told H.counts H.moment H.left_since H.goes_on host.old host.new }
     ensures cause { IfErr result (Refuses (H.counts host.old) (H.counts host.new)) }
-    ensures time { Elapses H.moment H.left_since host.old host.new (MayLeaveNow (H.told host.old)) }
-    ensures goes { H.goes_on host.old host.new }
 {
     let operating = prepare_script(alloc, script, budget, host)?;
     text_of_run(alloc, kit, operating)

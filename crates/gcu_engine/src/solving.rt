@@ -1,10 +1,9 @@
 //! The plan of a command that plans.
-ghost use Rattle.std.specs.Prelude.{◌≡◌, ◌≤◌, ◌<◌, IfErr, IfSome};
-ghost use Rattle.host_core.specs.Counts.{NoneFell};
-ghost use Rattle.host_core.specs.Crashes.{Elapses, MayLeaveNow};
+ghost use Rattle.std.specs.Prelude.{◌≤◌, ◌<◌, IfErr, IfSome};
 ghost use Rattle.host_core.specs.Names.{longest_plain_name};
 ghost use Rattle.plan_options.specs.Views.{target_view};
 ghost use Rattle.gcu_inputs.specs.Tasks.{reach};
+ghost use Rattle.gcu_inputs.specs.Reads.{OnlyReads};
 ghost use Rattle.gcu_requests.specs.WorkAsked.{dry_run_asked};
 ghost use Rattle.gcu_requests.specs.ReadPlannings.{IsReadyToSearch};
 ghost use Rattle.gcu_engine.specs.PlanCommands.{IsSolved, RefusesOrEnds, SaysPlan, planning_between};
@@ -34,11 +33,8 @@ pub(crate) fn solve<H: Host>(
     ensures kinds { ⟦<Kit as Boxes>⟧.HasKinds kit.new }
     ensures says { IfSome (H.told host.old)
         (λ s. SaysPlan (dry_run_asked (reach (target_view target.entry)) budget s) s result) }
-    ensures told { H.told host.new ≡ H.told host.old }
-    ensures counts { NoneFell (H.counts host.old) (H.counts host.new) }
+    ensures reads { OnlyReads H.told H.counts H.moment H.left_since H.goes_on host.old host.new }
     ensures cause { IfErr result (RefusesOrEnds (H.counts host.old) (H.counts host.new)) }
-    ensures time { Elapses H.moment H.left_since host.old host.new (MayLeaveNow (H.told host.old)) }
-    ensures goes { H.goes_on host.old host.new }
 {
     test_target(alloc, target)?;
     let planning = prepare(alloc, target, budget, host)?;

@@ -14,16 +14,16 @@ returns-in-Ok-clause-ready g c =
 
 pub returns-in-Ok-clause-told : goal.returns-in-Ok-clause-told
 returns-in-Ok-clause-told g c =
-    of_ok c.work_settled.result (g.H.Host.told c.work_settled.new.host ≡ option_map (with_pending settled) (g.H.Host.told c.args.host.now)) (c.work_settled.ensures.told ∙ c.in-Ok.ensures.ok)
+    of_ok c.work_settled.result (g.H.Host.told c.work_settled.new.host ≡ option_map (with_pending settled) (g.H.Host.told c.args.host.now)) (c.work_settled.ensures.reads.state ∙ c.in-Ok.ensures.ok)
 
 pub returns-in-Ok-clause-left : goal.returns-in-Ok-clause-left
 returns-in-Ok-clause-left g c =
     left_of (task_view c.args.task) c.args.budget c.work_settled.result (g.H.Host.told c.args.host.now) (g.H.Host.told c.settle.new.self) (g.H.Host.told c.work_settled.new.host)
-    (g.H.Host.counts c.settle.new.self) (g.H.Host.counts c.work_settled.new.host) c.in-Ok.ensures.ok c.work_settled.ensures.told c.work_settled.ensures.prepared c.work_settled.ensures.cause
+    (g.H.Host.counts c.settle.new.self) (g.H.Host.counts c.work_settled.new.host) c.in-Ok.ensures.ok c.work_settled.ensures.reads.state c.work_settled.ensures.prepared c.work_settled.ensures.cause
 
 pub returns-in-Ok-clause-kept : goal.returns-in-Ok-clause-kept
 returns-in-Ok-clause-kept g c =
-    of_err c.work_settled.result (IsKept (g.H.Host.told c.args.host.now) (g.H.Host.told c.work_settled.new.host)) (inr (c.work_settled.ensures.told ∙ c.in-Ok.ensures.ok))
+    of_err c.work_settled.result (IsKept (g.H.Host.told c.args.host.now) (g.H.Host.told c.work_settled.new.host)) (inr (c.work_settled.ensures.reads.state ∙ c.in-Ok.ensures.ok))
 
 pub returns-in-Ok-clause-cause : goal.returns-in-Ok-clause-cause
 returns-in-Ok-clause-cause g c =
@@ -33,11 +33,11 @@ returns-in-Ok-clause-cause g c =
 pub returns-in-Ok-clause-crash : goal.returns-in-Ok-clause-crash
 returns-in-Ok-clause-crash g c =
     settled_leaves (task_view c.args.task) c.args.budget g.H.Host.moment g.H.Host.left_since (g.H.Host.told c.args.host.now) (g.H.Host.told c.settle.new.self)
-    c.args.host.now c.settle.new.self c.work_settled.new.host c.in-Ok.ensures.ok (λ left since. g.met.H.Host.only_now c.args.host.now left since) c.settle.ensures.time c.work_settled.ensures.time
+    c.args.host.now c.settle.new.self c.work_settled.new.host c.in-Ok.ensures.ok (λ left since. g.met.H.Host.only_now c.args.host.now left since) c.settle.ensures.time c.work_settled.ensures.reads.time
 
 pub returns-in-Ok-clause-goes : goal.returns-in-Ok-clause-goes
 returns-in-Ok-clause-goes g c =
-    g.met.H.Host.continues c.args.host.now c.settle.new.self c.work_settled.new.host c.settle.ensures.goes c.work_settled.ensures.goes
+    g.met.H.Host.continues c.args.host.now c.settle.new.self c.work_settled.new.host c.settle.ensures.goes c.work_settled.ensures.reads.goes
 
 -- ---- nothing is settled
 

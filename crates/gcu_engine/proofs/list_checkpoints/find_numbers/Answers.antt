@@ -1,7 +1,6 @@
-use Rattle.std.proofs.Common.{map, refl}
+use Rattle.std.proofs.Common.{map}
 use Rattle.std.proofs.lemmas.Result.{err_from_is_err_and}
 use Rattle.checkpoints.specs.Answers.{numbered_view}
-use Rattle.gcu_output.proofs.Elapsing.{elapses_unchanged}
 use Rattle.gcu_inputs.specs.IntentAsked.{uninterrupted}
 use Rattle.gcu_requests.specs.Asked.{numbers_asked}
 use Rattle.gcu_requests.specs.Request.{list_checkpoints}
@@ -22,13 +21,3 @@ returns-clause-answer g c =
     (rw c.test_uninterrupted.ensures.reads.state at c.read_numbers.ensures.answer)
 
 -- ---- time
-
-pub returns-clause-time : goal.returns-clause-time
-returns-clause-time g c =
-    elapses_unchanged g.H.Host.moment g.H.Host.left_since c.args.host.now c.test_uninterrupted.new.host c.read_numbers.new.host
-    (g.H.Host.told c.args.host.now) (g.H.Host.told c.args.host.now) refl c.test_uninterrupted.ensures.reads.time
-    (g.H.Host.told c.test_uninterrupted.new.host) c.test_uninterrupted.ensures.reads.state c.read_numbers.ensures.time
-
-pub returns-clause-goes : goal.returns-clause-goes
-returns-clause-goes g c =
-    g.met.H.Host.continues c.args.host.now c.test_uninterrupted.new.host c.read_numbers.new.host c.test_uninterrupted.ensures.reads.goes c.read_numbers.ensures.goes

@@ -17,16 +17,16 @@ returns-in-Ok-clause-ready g c =
 
 pub returns-in-Ok-clause-due : goal.returns-in-Ok-clause-due
 returns-in-Ok-clause-due g c =
-    due_ready (g.H.Host.told c.settle.new.self) (g.H.Host.told c.ready_settled.new.host) c.ready_settled.result c.ready_settled.ensures.told c.ready_settled.ensures.due
+    due_ready (g.H.Host.told c.settle.new.self) (g.H.Host.told c.ready_settled.new.host) c.ready_settled.result c.ready_settled.ensures.reads.state c.ready_settled.ensures.due
 
 pub returns-in-Ok-clause-told : goal.returns-in-Ok-clause-told
 returns-in-Ok-clause-told g c =
-    of_ok c.ready_settled.result (g.H.Host.told c.ready_settled.new.host ≡ option_map (with_pending settled) (g.H.Host.told c.args.host.now)) (c.ready_settled.ensures.told ∙ c.in-Ok.ensures.ok)
+    of_ok c.ready_settled.result (g.H.Host.told c.ready_settled.new.host ≡ option_map (with_pending settled) (g.H.Host.told c.args.host.now)) (c.ready_settled.ensures.reads.state ∙ c.in-Ok.ensures.ok)
 
 pub returns-in-Ok-clause-left : goal.returns-in-Ok-clause-left
 returns-in-Ok-clause-left g c =
     left_ready (g.H.Host.told c.args.host.now) (g.H.Host.told c.settle.new.self) (g.H.Host.told c.ready_settled.new.host) c.ready_settled.result
-    (g.H.Host.counts c.settle.new.self) (g.H.Host.counts c.ready_settled.new.host) c.in-Ok.ensures.ok c.ready_settled.ensures.told c.ready_settled.ensures.answer c.ready_settled.ensures.cause
+    (g.H.Host.counts c.settle.new.self) (g.H.Host.counts c.ready_settled.new.host) c.in-Ok.ensures.ok c.ready_settled.ensures.reads.state c.ready_settled.ensures.answer c.ready_settled.ensures.cause
 
 pub returns-in-Ok-clause-cause : goal.returns-in-Ok-clause-cause
 returns-in-Ok-clause-cause g c =
@@ -37,11 +37,11 @@ pub returns-in-Ok-clause-crash : goal.returns-in-Ok-clause-crash
 returns-in-Ok-clause-crash g c =
     asking_settles g.H.Host.moment g.H.Host.left_since migrate_asked (g.H.Host.told c.args.host.now) (g.H.Host.told c.settle.new.self) c.args.host.now c.ready_settled.new.host c.in-Ok.ensures.ok
     (λ left since. g.met.H.Host.only_now c.args.host.now left since)
-    (elapses_both g.H.Host.moment g.H.Host.left_since c.args.host.now c.settle.new.self c.ready_settled.new.host (MayLeaveNow (g.H.Host.told c.settle.new.self)) c.settle.ensures.time c.ready_settled.ensures.time)
+    (elapses_both g.H.Host.moment g.H.Host.left_since c.args.host.now c.settle.new.self c.ready_settled.new.host (MayLeaveNow (g.H.Host.told c.settle.new.self)) c.settle.ensures.time c.ready_settled.ensures.reads.time)
 
 pub returns-in-Ok-clause-goes : goal.returns-in-Ok-clause-goes
 returns-in-Ok-clause-goes g c =
-    g.met.H.Host.continues c.args.host.now c.settle.new.self c.ready_settled.new.host c.settle.ensures.goes c.ready_settled.ensures.goes
+    g.met.H.Host.continues c.args.host.now c.settle.new.self c.ready_settled.new.host c.settle.ensures.goes c.ready_settled.ensures.reads.goes
 
 -- ---- nothing is settled
 

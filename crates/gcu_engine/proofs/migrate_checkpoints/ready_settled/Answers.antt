@@ -1,6 +1,4 @@
-use Rattle.std.proofs.Common.{refl}
 use Rattle.std.proofs.lemmas.Result.{err_from_is_err_and}
-use Rattle.gcu_output.proofs.Elapsing.{elapses_unchanged}
 use Rattle.gcu_inputs.specs.IntentAsked.{uninterrupted}
 use Rattle.gcu_requests.specs.Asked.{old_asked}
 use Rattle.gcu_requests.proofs.IntentFinding.{gate_closed, gate_open}
@@ -24,13 +22,3 @@ pub returns-clause-due : goal.returns-clause-due
 returns-clause-due g c = rw c.test_uninterrupted.ensures.reads.state at c.prepare_lines.ensures.due
 
 -- ---- time
-
-pub returns-clause-time : goal.returns-clause-time
-returns-clause-time g c =
-    elapses_unchanged g.H.Host.moment g.H.Host.left_since c.args.host.now c.test_uninterrupted.new.host c.prepare_lines.new.host
-    (g.H.Host.told c.args.host.now) (g.H.Host.told c.args.host.now) refl c.test_uninterrupted.ensures.reads.time
-    (g.H.Host.told c.test_uninterrupted.new.host) c.test_uninterrupted.ensures.reads.state c.prepare_lines.ensures.time
-
-pub returns-clause-goes : goal.returns-clause-goes
-returns-clause-goes g c =
-    g.met.H.Host.continues c.args.host.now c.test_uninterrupted.new.host c.prepare_lines.new.host c.test_uninterrupted.ensures.reads.goes c.prepare_lines.ensures.goes
