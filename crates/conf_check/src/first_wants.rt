@@ -40,14 +40,30 @@ struct ItemWant<'a> {
     want: Want<'a>,
 }
 
-/// What a type wants of a text.
-fn want_of<'a>(models: &Models, config: &Config, ty: &'a Ty, text: &'a str) -> Option<Want<'a>>
+/// What a type wants of a text, by what it says of it.
+fn want_by_verdict<'a>(
+    models: &Models,
+    config: &Config,
+    ty: &'a Ty,
+    text: &'a str,
+) -> Option<Want<'a>>
     ensures { IsWantOfText models.now config.now (data_type ty.now) text.now result }
 {
     match judge(models, config, ty, text) {
         Verdict::Wanted(target) => Some(Want::new(target, text)),
         Verdict::Accepted => None,
         Verdict::Refused => None,
+    }
+}
+
+/// What a type wants of a text. Only of a leafref and of a union the text is looked at: the other types want nothing.
+fn want_of<'a>(models: &Models, config: &Config, ty: &'a Ty, text: &'a str) -> Option<Want<'a>>
+    ensures { IsWantOfText models.now config.now (data_type ty.now) text.now result }
+{
+    match ty {
+        Ty::Ref(_, _) => want_by_verdict(models, config, ty, text),
+        Ty::Union(_) => want_by_verdict(models, config, ty, text),
+        _ => None,
     }
 }
 

@@ -8,7 +8,7 @@ use Rattle.std.specs.Ordering.{ordering_index, ordering_reverse, eq_by_cmp}
 use Rattle.std.proofs.lemmas.Bool.{and_parts}
 use Rattle.std.proofs.lemmas.Cmp.{tied_itself}
 use Rattle.host_core.specs.Names.{name_cmp}
-use Rattle.conf_doc.specs.Indexes.{IsAt, IsBetween, IsGap}
+use Rattle.conf_doc.specs.Indexes.{IsAt, IsBefore, IsBehind, IsBetween, IsGap}
 use Rattle.conf_doc.specs.Pairs.{find, first_from, put, without, IsRising}
 use Rattle.conf_doc.proofs.Lists.{length-map, map-set, map-insert, map-remove}
 
@@ -87,6 +87,21 @@ module _ {A : Type 0} where
       ap (λ c. cond (not (is_eq c)) (p ∷ without name ps) (without name ps)) (above p.0 ps name i (and_parts _ _ rising).0 has)
       ∙ ap (λ qs. p ∷ qs) (without_at ps name i (and_parts _ _ rising).1 has)
 
+  set_same : (ps : List (List ℕ × A)) (i : ℕ) (p : List ℕ × A) → slice_get ps i ≡ Some p → set ps i p ≡ ps
+  set_same [] i p at = refl
+  set_same (q ∷ ps) zero p at = ap (λ r. r ∷ ps) (sym (same_Some _ _ at))
+  set_same (q ∷ ps) (suc i) p at = ap (λ rs. q ∷ rs) (set_same ps i p at)
+
+  name_of : (ps : List (List ℕ × A)) (i : ℕ) (p : List ℕ × A) → slice_get ps i ≡ Some p → slice_get (map (λ q. q.0) ps) i ≡ Some p.0
+  name_of [] i p at = cc
+  name_of (q ∷ ps) zero p at = ap (λ r. Some r.0) (same_Some _ _ at)
+  name_of (q ∷ ps) (suc i) p at = name_of ps i p at
+
+  -- a pair that is there is put in its own place
+  pub put_same : (ps : List (List ℕ × A)) (name : List ℕ) (a b : A) (i : ℕ) → IsRising ps → slice_get ps i ≡ Some (name, a) → b ≡ a → put name b ps ≡ ps
+  put_same ps name a b i rising at same =
+      ap (λ c. put name c ps) same ∙ put_at ps name a i rising (name_of ps i (name, a) at) ∙ set_same ps i (name, a) at
+
   -- names above one that is greater are greater
   below_more : (x y : List ℕ) (ps : List (List ℕ × A)) → name_cmp x y ≡ Less → below_all name_cmp y ps ≡ true → below_all name_cmp x ps ≡ true
   below_more x y [] lt below = refl
@@ -109,6 +124,32 @@ module _ {A : Type 0} where
   find_gap (p ∷ ps) name zero rising between = find_below (p ∷ ps) name (first_below p ps name rising between)
   find_gap (p ∷ ps) name (suc i) rising between =
       ap (λ c. cond (is_eq c) (Some p.1) (find name ps)) between.0 ∙ find_gap ps name i (and_parts _ _ rising).1 between.1
+
+  name_there : (ps : List (List ℕ × A)) (i : ℕ) → i < length ps → (n : List ℕ) × (slice_get (map (λ p. p.0) ps) i ≡ Some n)
+  name_there [] i within = absurd (omega (arith, within))
+  name_there (p ∷ ps) zero within = (p.0, refl)
+  name_there (p ∷ ps) (suc i) within = name_there ps i (omega (arith, within))
+
+  above_later : (p : List ℕ × A) (ps : List (List ℕ × A)) (name : List ℕ) (i : ℕ) → IsRising (p ∷ ps) → i < length ps → IsBehind (p ∷ ps) name (suc (suc i)) → name_cmp p.0 name ≡ Less
+  above_later p ps name i rising within behind =
+      let n = name_there ps i within in
+      total.trans p.0 n.0 name (turned n.0 p.0 Greater (above p.0 ps n.0 i (and_parts _ _ rising).0 n.1)) (turned name n.0 Greater (behind (suc i) n.0 refl n.1))
+
+  -- one that is above a later name of a list is above the first
+  above_first : (p : List ℕ × A) (ps : List (List ℕ × A)) (name : List ℕ) (i : ℕ) → IsRising (p ∷ ps) → i ≤ length ps → IsBehind (p ∷ ps) name (suc i) → name_cmp name p.0 ≡ Greater
+  above_first p ps name zero rising within behind = behind 0 p.0 refl refl
+  above_first p [] name (suc i) rising within behind = absurd (omega (arith, within))
+  above_first p (q ∷ ps) name (suc i) rising within behind =
+      let later = above_later p (q ∷ ps) name i rising (omega (arith, within)) behind in
+      turned p.0 name Less later
+
+  -- a name between two neighbours isn't found
+  pub find_beside : (ps : List (List ℕ × A)) (name : List ℕ) (i : ℕ) → IsRising ps → i ≤ length ps → IsBehind ps name i → IsBefore ps name i → find name ps ≡ None
+  find_beside [] name i rising within behind before = refl
+  find_beside (p ∷ ps) name zero rising within behind before = find_below (p ∷ ps) name (first_below p ps name rising (before p.0 refl))
+  find_beside (p ∷ ps) name (suc i) rising within behind before =
+      ap (λ c. cond (is_eq c) (Some p.1) (find name ps)) (above_first p ps name i rising (omega (arith, within)) behind)
+      ∙ find_beside ps name i (and_parts _ _ rising).1 (omega (arith, within)) (λ k n e at. behind (suc k) n (ap suc e) at) before
 
   pub put_gap : (ps : List (List ℕ × A)) (name : List ℕ) (a : A) (i : ℕ) → i ≤ length ps → IsBetween ps name i → put name a ps ≡ insert ps i (name, a)
   put_gap [] name a zero within between = refl

@@ -1,18 +1,20 @@
 -- Blocks of a list in front of a change of it and behind it, and what two blocks with one text tell.
-use Rattle.std.proofs.Common.{◌≡◌, ◌⊎◌, inl, inr, ℕ, zero, suc, ◌+◌, ◌-◌, ◌<◌, ◌≤◌, List, [], ◌∷◌, length, take, drop, set, insert, remove, slice_get, Some, None, Option, refl, sym, ap, subst, ◌∙◌, arith}
+use Rattle.std.proofs.Common.{◌≡◌, ◌⊎◌, inl, inr, ℕ, zero, suc, ◌+◌, ◌-◌, ◌<◌, ◌≤◌, List, [], ◌∷◌, length, map, take, drop, set, insert, remove, slice_get, Some, None, Option, refl, sym, ap, subst, ◌∙◌, arith}
 use Rattle.std.specs.Prelude.{is_some, if◌then◌else◌}
 use Rattle.std.proofs.Math.Seq.{drop-nil}
 use Rattle.std.proofs.lemmas.Bool.{cases_lt}
 use Rattle.std.proofs.lemmas.List.{drop-set-lt, length-drop, length-set, take-set}
 use Rattle.std.proofs.lemmas.List.Edits.{length-insert, length-remove}
-use Rattle.conf_doc.specs.Blocks.{AreApart, AreSame, IsBlock, IsEdited}
+use Rattle.conf_doc.specs.Blocks.{AreApart, AreSame, IsBlock, IsEdited, keys_of}
 use Rattle.conf_doc.specs.Indexes.{IsAt, IsGap}
-use Rattle.conf_doc.specs.Joined.{IsJoined, segment}
+use Rattle.conf_doc.specs.Joined.{IsJoined, bare, segment}
 use Rattle.conf_doc.specs.Pairs.{IsRising, set_part}
 use Rattle.conf_doc.specs.Runs.{IsRun}
+use Rattle.conf_doc.specs.declared.blocks.Block.{Block}
 use Rattle.conf_doc.specs.declared.configuration.Entry.{Entry}
 use Rattle.conf_doc.proofs.Edits.{put_at, put_gap, same_Some, without_at, without_gap}
 use Rattle.conf_doc.proofs.Joined.{same_entries, slice_get_drop}
+use Rattle.conf_doc.proofs.Lists.{length-map, map-map}
 
 module _ {A : Type 0} where
   get_first : (xs : List A) (n k : ℕ) → k < n → slice_get (take n xs) k ≡ slice_get xs k
@@ -23,6 +25,14 @@ module _ {A : Type 0} where
 
   get_segment : (xs : List A) (i n k : ℕ) → k < n → slice_get (segment i n xs) k ≡ slice_get xs (i + k)
   get_segment xs i n k lt = get_first (drop i xs) n k lt ∙ slice_get_drop i k xs
+
+  length_first : (xs : List A) (n : ℕ) → n ≤ length xs → length (take n xs) ≡ n
+  length_first xs zero le = refl
+  length_first [] (suc n) le = absurd (omega (arith, le))
+  length_first (x ∷ xs) (suc n) le = ap suc (length_first xs n (omega (arith, le)))
+
+  length_segment : (xs : List A) (i n : ℕ) → i + n ≤ length xs → length (segment i n xs) ≡ n
+  length_segment xs i n le = let long = length-drop i xs in length_first (drop i xs) n (omega (arith, le, long))
 
   pub same_segments : (xs ys : List A) (i j n : ℕ) → i + n ≤ length xs → j + n ≤ length ys → segment i n xs ≡ segment j n ys → AreSame xs i ys j n
   same_segments xs ys i j n within beside e =
@@ -125,6 +135,15 @@ module _ {A : Type 0} where
   pub same_none : (xs ys : List A) (i j : ℕ) → i ≤ length xs → j ≤ length ys → AreSame xs i ys j 0
   same_none xs ys i j within beside = record { within = omega (arith, within); beside = omega (arith, beside); same = λ k lt. absurd (omega (arith, lt)) }
 
+  pub same_one : (xs ys : List A) (i j : ℕ) (x y : A) → i < length xs → j < length ys → slice_get xs i ≡ Some x → slice_get ys j ≡ Some y → x ≡ y → AreSame xs i ys j 1
+  same_one xs ys i j x y within beside at there e = record {
+    within = omega (arith, within);
+    beside = omega (arith, beside);
+    same = λ k lt.
+        let one : i + k ≡ i = omega (arith, lt) in let two : j + k ≡ j = omega (arith, lt) in
+        ap (slice_get xs) one ∙ at ∙ ap Some e ∙ sym there ∙ ap (slice_get ys) (sym two);
+  }
+
   pub run_of : (xs ys : List A) (i j n : ℕ) → AreSame xs i ys j n → AreApart xs (i + n) ys (j + n) → IsRun xs i ys j n
   run_of xs ys i j n are apart = record { within = are.within; beside = are.beside; same = are.same; ends = apart }
 
@@ -167,26 +186,77 @@ module _ {A : Type 0} where
   edited_gap ps name i rising gap None = subst (IsEdited i 0 0 ps) (sym (without_gap ps name i rising gap.between)) (unedited ps i gap.within)
   edited_gap ps name i rising gap (Some a) = subst (IsEdited i 0 1 ps) (sym (put_gap ps name a i gap.within gap.between)) (edited_insert ps i (name, a) gap.within)
 
+module _ {A B : Type 0} (f : A → B) where
+  map-take : (n : ℕ) (xs : List A) → map f (take n xs) ≡ take n (map f xs)
+  map-take zero xs = refl
+  map-take (suc n) [] = refl
+  map-take (suc n) (x ∷ xs) = ap (λ ys. f x ∷ ys) (map-take n xs)
+
+  map-segment : (i n : ℕ) (xs : List A) → map f (segment i n xs) ≡ segment i n (map f xs)
+  map-segment zero n xs = map-take n xs
+  map-segment (suc i) zero [] = refl
+  map-segment (suc i) (suc n) [] = refl
+  map-segment (suc i) n (x ∷ xs) = map-segment i n xs
+
+-- entries that are the same one by one have one text
+pub same_block : (es fs : List (List ℕ × Entry)) (i j : ℕ) (b : Block) → AreSame es i fs j b.count → IsBlock fs j b → IsBlock es i b
+same_block es fs i j b same block =
+    let within = same.within in let beside = same.beside in
+    let one : length (segment i b.count es) ≡ b.count = length_segment es i b.count within in
+    let two : length (segment j b.count fs) ≡ b.count = length_segment fs j b.count beside in
+    let is : segment j b.count fs ≡ segment i b.count es =
+    same_items (segment j b.count fs) (segment i b.count es) (two ∙ sym one)
+    (λ k lt. let low : k < b.count = omega (arith, lt, two) in get_segment fs j b.count k low ∙ sym (same.same k low) ∙ sym (get_segment es i b.count k low)) in
+    record {
+      within = within;
+      keyed = subst (λ xs. IsJoined (bare xs) b.keys) is block.keyed;
+      joined = subst (λ xs. IsJoined xs b.text) is block.joined;
+    }
+
 -- blocks with one text have the same entries
-pub same_blocks : (es fs : List (List ℕ × Entry)) (i j n m : ℕ) (t u : List ℕ) → IsBlock es i n t → IsBlock fs j m u → n ≡ m → t ≡ u → AreSame es i fs j n
-same_blocks es fs i j n m t u one two count text =
-    let other : IsBlock fs j n u = subst (λ k. IsBlock fs j k u) (sym count) two in
-    same_segments es fs i j n one.within other.within (same_entries (segment i n es) (segment j n fs) t u one.joined other.joined text)
+pub same_blocks : (es fs : List (List ℕ × Entry)) (i j : ℕ) (b c : Block) → IsBlock es i b → IsBlock fs j c → b.count ≡ c.count → b.text ≡ c.text → AreSame es i fs j b.count
+same_blocks es fs i j b c one two count text =
+    let other = subst (λ k. IsJoined (segment j k fs) c.text) (sym count) two.joined in
+    let beside = two.within in
+    same_segments es fs i j b.count one.within (omega (arith, beside, count)) (same_entries (segment i b.count es) (segment j b.count fs) b.text c.text one.joined other text)
 
-pub moved_front : (old new : List (List ℕ × Entry)) (at gone come start count : ℕ) (text : List ℕ) → IsEdited at gone come old new → IsBlock old start count text
-    → start + count ≤ at → IsBlock new start count text
-moved_front old new at gone come start count text edited block le =
+keys_in : (i n : ℕ) (es : List (List ℕ × Entry)) → keys_of (bare (segment i n es)) ≡ segment i n (keys_of es)
+keys_in i n es = map-map (λ e. e.0) (λ e. (e.0, [])) (segment i n es) ∙ map-segment (λ e. e.0) i n es
+
+-- and with one text of their keys the same keys
+pub same_keys : (es fs : List (List ℕ × Entry)) (i j : ℕ) (b c : Block) → IsBlock es i b → IsBlock fs j c → b.count ≡ c.count → b.keys ≡ c.keys → AreSame (keys_of es) i (keys_of fs) j b.count
+same_keys es fs i j b c one two count keys =
+    let other = subst (λ k. IsJoined (bare (segment j k fs)) c.keys) (sym count) two.keyed in
+    let is = same_entries (bare (segment i b.count es)) (bare (segment j b.count fs)) b.keys c.keys one.keyed other keys in
+    let within = one.within in let beside = two.within in
+    let long = length-map (λ e. e.0) es in let long2 = length-map (λ e. e.0) fs in
+    same_segments (keys_of es) (keys_of fs) i j b.count (omega (arith, within, long)) (omega (arith, beside, count, long2))
+    (sym (keys_in i b.count es) ∙ ap keys_of is ∙ keys_in j b.count fs)
+
+pub moved_front : (old new : List (List ℕ × Entry)) (at gone come start : ℕ) (b : Block) → IsEdited at gone come old new → IsBlock old start b
+    → start + b.count ≤ at → IsBlock new start b
+moved_front old new at gone come start b edited block le =
     let there = edited.there in
-    let same : segment start count new ≡ segment start count old = sym (segment_front new at start count le) ∙ ap (segment start count) edited.front ∙ segment_front old at start count le in
-    record { within = omega (arith, le, there); joined = subst (λ es. IsJoined es text) (sym same) block.joined }
+    let count = b.count in
+    let same : segment start count old ≡ segment start count new =
+    sym (sym (segment_front new at start count le) ∙ ap (segment start count) edited.front ∙ segment_front old at start count le) in
+    record {
+      within = omega (arith, le, there);
+      keyed = subst (λ es. IsJoined (bare es) b.keys) same block.keyed;
+      joined = subst (λ es. IsJoined es b.text) same block.joined;
+    }
 
-pub moved_behind : (old new : List (List ℕ × Entry)) (at gone come start count : ℕ) (text : List ℕ) → IsEdited at gone come old new → IsBlock old start count text
-    → at + gone ≤ start → IsBlock new (at + come + (start - at - gone)) count text
-moved_behind old new at gone come start count text edited block le =
+pub moved_behind : (old new : List (List ℕ × Entry)) (at gone come start : ℕ) (b : Block) → IsEdited at gone come old new → IsBlock old start b
+    → at + gone ≤ start → IsBlock new (at + come + (start - at - gone)) b
+moved_behind old new at gone come start b edited block le =
     let long = edited_length old new at gone come edited in
     let within = block.within in
     let past = start - at - gone in
     let begins : at + gone + past ≡ start = omega (arith, le) in
-    let same : drop (at + come + past) new ≡ drop start old =
-    drop_more new (at + come) past ∙ ap (drop past) edited.behind ∙ sym (drop_more old (at + gone) past) ∙ ap (λ n. drop n old) begins in
-    record { within = omega (arith, le, long, within); joined = subst (λ es. IsJoined (take count es) text) (sym same) block.joined }
+    let same : drop start old ≡ drop (at + come + past) new =
+    sym (drop_more new (at + come) past ∙ ap (drop past) edited.behind ∙ sym (drop_more old (at + gone) past) ∙ ap (λ n. drop n old) begins) in
+    record {
+      within = omega (arith, le, long, within);
+      keyed = subst (λ es. IsJoined (bare (take b.count es)) b.keys) same block.keyed;
+      joined = subst (λ es. IsJoined (take b.count es) b.text) same block.joined;
+    }

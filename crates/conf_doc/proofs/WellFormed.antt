@@ -1,5 +1,5 @@
 -- What keeps the rules of a configuration.
-use Rattle.std.proofs.Common.{◌≡◌, ℕ, ◌<◌, true, false, not, ◌==◌, cond, List, [], ◌∷◌, ◌++◌, map, length, IfSome, Option, Some, None, IsUtf8, Less, Equal, Greater, suc, ne_eqb, suc-ne-zero, refl, ap, arith}
+use Rattle.std.proofs.Common.{◌≡◌, ℕ, zero, ◌<◌, true, false, not, ◌==◌, cond, List, [], ◌∷◌, ◌++◌, map, length, IfSome, Option, Some, None, IsUtf8, Less, Equal, Greater, suc, ne_eqb, suc-ne-zero, refl, ap, subst, slice_get, arith}
 use Rattle.std.specs.FinMap.Entries.{by_order}
 use Rattle.std.specs.Ordering.{eq_by_cmp}
 use Rattle.std.proofs.lemmas.Bool.{and_parts, and_from}
@@ -9,13 +9,23 @@ use Rattle.conf_doc.specs.WellFormed.{AreTexts, Each, IsConfig, IsEntry, IsShape
 use Rattle.conf_doc.specs.declared.configuration.Entry.{Entry}
 use Rattle.conf_doc.specs.declared.configuration.Table.{Table}
 use Rattle.conf_doc.specs.declared.configuration.Value.{Value}
-use Rattle.conf_doc.proofs.Edits.{rising_put, rising_without}
+use Rattle.conf_doc.proofs.Edits.{rising_put, rising_without, same_Some}
 
 pub some_name : (name : List ℕ) → 0 < length name → not (length name == 0) ≡ true
 some_name [] some = absurd (omega arith)
 some_name (b ∷ bs) some = ap not (ne_eqb (suc (length bs)) 0 (suc-ne-zero (length bs)))
 
+named_some : (name : List ℕ) → not (length name == 0) ≡ true → 0 < length name
+named_some [] named = absurd cc
+named_some (b ∷ bs) named = omega arith
+
 module _ {A : Type 0} where
+  -- no name that stands in a list is empty
+  pub named_at : (ps : List (List ℕ × A)) (i : ℕ) (p : List ℕ × A) → AreNamed ps → slice_get ps i ≡ Some p → 0 < length p.0
+  named_at [] i p named at = cc
+  named_at (q ∷ ps) zero p named at = subst (λ r. 0 < length r.0) (same_Some q p at) (named_some q.0 (and_parts _ _ named).0)
+  named_at (q ∷ ps) (suc i) p named at = named_at ps i p (and_parts _ _ named).1 at
+
   named_put : (name : List ℕ) (a : A) (ps : List (List ℕ × A)) → not (length name == 0) ≡ true → AreNamed ps → AreNamed (put name a ps)
   named_put name a [] some named = and_from _ _ some refl
   named_put name a (p ∷ ps) some named =

@@ -18,3 +18,15 @@ IsBetween (p ∷ ps) name (suc i) = (name_cmp name p.0 ≡ Greater) × IsBetween
 pub record IsGap {A : Type 0} (ps : List (List ℕ × A)) (name : List ℕ) (i : ℕ) : Type 0 where
   pub within : i ≤ length ps
   pub between : IsBetween ps name i
+
+-- the name is above the one before that index, where there is one
+abbrev pub IsBehind : {A : Type 0} → List (List ℕ × A) → List ℕ → ℕ → Type 0
+IsBehind ps name i =
+    (k : ℕ) (n : List ℕ) → suc k ≡ i → slice_get (map (λ p. p.0) ps) k ≡ Some n
+    → name_cmp name n ≡ Greater
+
+-- the name is below the one at that index, where there is one
+abbrev pub IsBefore : {A : Type 0} → List (List ℕ × A) → List ℕ → ℕ → Type 0
+IsBefore ps name i =
+    (n : List ℕ) → slice_get (map (λ p. p.0) ps) i ≡ Some n
+    → name_cmp name n ≡ Less

@@ -1,5 +1,5 @@
 -- One text of some entries with their keys. A byte that no key, no name and no text of them has ends each of these.
-use Rattle.std.specs.Prelude.{◌≡◌, ℕ, List, [], ◌∷◌, ◌++◌, false, nat_eq, take, drop}
+use Rattle.std.specs.Prelude.{◌≡◌, ℕ, List, [], ◌∷◌, ◌++◌, false, nat_eq, map, take, drop}
 use Rattle.std.specs.List.{list_any}
 use Rattle.conf_doc.specs.declared.configuration.Value.{Value}
 use Rattle.conf_doc.specs.declared.configuration.Value.TheVariants.{Text, List as Listed}
@@ -75,6 +75,10 @@ joined_entry e = ended e.0 ++ ended (joined_fields e.1)
 abbrev pub joined_entries : List (List ℕ × List (List ℕ × Value)) → List ℕ
 joined_entries [] = []
 joined_entries (e ∷ es) = joined_entry e ++ joined_entries es
+
+-- the keys of entries, with no fields
+abbrev pub bare : List (List ℕ × List (List ℕ × Value)) → List (List ℕ × List (List ℕ × Value))
+bare es = map (λ e. (e.0, [])) es
 
 -- the text of entries, of which it tells all
 pub record IsJoined (es : List (List ℕ × List (List ℕ × Value))) (t : List ℕ) : Type 0 where

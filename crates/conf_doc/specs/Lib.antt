@@ -4,6 +4,7 @@ pub mod Coding
 pub mod Configuration
 pub mod Document
 pub mod Falls
+pub mod ListHolders
 pub mod Order
 pub mod Pairs
 pub mod PartOrder

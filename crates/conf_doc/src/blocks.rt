@@ -1,10 +1,11 @@
 //! Blocks of a table: texts of entries that stand beside one another, which tables share. Where no memory is left for
 //! a block there is none, and its entries are compared one by one.
 ghost use Rattle.std.specs.Prelude.{◌≡◌, ◌<◌, ◌≤◌, ◌+◌, length, IfSome, IsTrue};
-ghost use Rattle.conf_doc.specs.Blocks.{AreBlocks, IsBlock, IsEdited};
+ghost use Rattle.conf_doc.specs.Blocks.{AreBlocks, AreSame, IsBlock, IsEdited};
 
 use crate::Entry;
-use crate::joining::join_entries;
+use crate::joining::{join_entries, join_keys};
+use crate::sameness::same_pair;
 use crate::sorted::Sorted;
 use host_core::Txt;
 use std::alloc::Global;
@@ -23,10 +24,11 @@ const LEAST: usize = 16;
 /// costs more than it saves.
 const FEWEST: usize = 512;
 
-/// How many entries a block has, and their text.
+/// How many entries a block has, the text of their keys, and theirs.
 #[derive(Drop)]
 pub(crate) struct Block {
     pub(crate) count: usize,
+    pub(crate) keys: Txt,
     pub(crate) text: Txt,
 }
 
@@ -53,12 +55,20 @@ impl Block {
     {
         self.count == other.count && self.text.as_str() == other.text.as_str()
     }
+
+    /// Whether two blocks have the same keys.
+    pub(crate) fn has_same_keys(&self, other: &Block) -> bool
+        ensures count { IsTrue result → self.now.count ≡ other.now.count }
+        ensures keys { IsTrue result → self.now.keys ≡ other.now.keys }
+    {
+        self.count == other.count && self.keys.as_str() == other.keys.as_str()
+    }
 }
 
 /// Adds a block at its place, where there is memory.
 fn push_placed(blocks: &mut Vec<PlacedBlock>, start: usize, block: Rc<Block>, list: &Sorted<Entry>)
     requires blocks { AreBlocks list.now blocks.old.items }
-    requires block { IsBlock list.now start block.value.count block.value.text }
+    requires block { IsBlock list.now start block.value }
     ensures { AreBlocks list.now blocks.new.items }
 {
     let _ = list;
@@ -80,10 +90,13 @@ fn push_new(
     requires blocks { AreBlocks list.now blocks.old.items }
     ensures { AreBlocks list.now blocks.new.items }
 {
+    let Ok(keys) = join_keys(alloc, list, start, count) else {
+        return;
+    };
     let Ok(text) = join_entries(alloc, list, start, count) else {
         return;
     };
-    match Rc::new(alloc, Block { count, text }) {
+    match Rc::new(alloc, Block { count, keys, text }) {
         Ok(block) => push_placed(blocks, start, block, list),
         Err(refused) => drop(refused),
     }
@@ -127,11 +140,9 @@ fn moved_start(
     edit: Edit,
     after: &Sorted<Entry>,
 ) -> Option<usize>
-    requires block { let b = placed.now.block.value in
-        IsBlock before.now placed.now.start b.count b.text }
+    requires block { IsBlock before.now placed.now.start placed.now.block.value }
     requires edited { IsEdited edit.at edit.gone edit.come before.now after.now }
-    ensures { let b = placed.now.block.value in
-        IfSome result (λ start. IsBlock after.now start b.count b.text) }
+    ensures { IfSome result (λ start. IsBlock after.now start placed.now.block.value) }
 {
     let _ = before.len();
     let _ = after.len();
@@ -160,8 +171,7 @@ fn push_moved(
     after: &Sorted<Entry>,
     blocks: &mut Vec<PlacedBlock>,
 )
-    requires block { let b = placed.now.block.value in
-        IsBlock before.now placed.now.start b.count b.text }
+    requires block { IsBlock before.now placed.now.start placed.now.block.value }
     requires edited { IsEdited edit.at edit.gone edit.come before.now after.now }
     requires blocks { AreBlocks after.now blocks.old.items }
     ensures { AreBlocks after.now blocks.new.items }
@@ -235,6 +245,84 @@ fn begin_of(before: &Sorted<Entry>, old: &[PlacedBlock], edit: Edit, after: &Sor
         Some(placed) => moved_start(before, placed, edit, after).unwrap_or(after.len()),
         None => after.len(),
     }
+}
+
+/// Whether so many entries are the same in both, each from an index on.
+fn are_same(list: &Sorted<Entry>, i: usize, other: &Sorted<Entry>, j: usize, count: usize) -> bool
+    requires first { i + count ≤ length list.now }
+    requires second { j + count ≤ length other.now }
+    ensures { IsTrue result → AreSame list.now i other.now j count }
+{
+    let _ = list.len();
+    let _ = other.len();
+    for k in 0..count {
+        if !same_pair(list.pair_at(i + k), other.pair_at(j + k)) {
+            return false;
+        }
+    }
+    true
+}
+
+/// Where a list has the entries of another one's block, or None where they don't stand beside one another there.
+fn place_of(list: &Sorted<Entry>, other: &Sorted<Entry>, placed: &PlacedBlock) -> Option<usize>
+    requires block { IsBlock other.now placed.now.start placed.now.block.value }
+    ensures { IfSome result (λ start. IsBlock list.now start placed.now.block.value) }
+{
+    let count = placed.block.as_ref().count;
+    if count == 0 || placed.start >= other.len() {
+        return None;
+    }
+    let Ok(start) = list.index_of(other.name_at(placed.start)) else {
+        return None;
+    };
+    if start > list.len() || count > list.len() - start {
+        return None;
+    }
+    if are_same(list, start, other, placed.start, count) {
+        Some(start)
+    } else {
+        None
+    }
+}
+
+/// Adds another list's block where it stands in a list too, behind blocks of what is before it.
+fn push_found(
+    alloc: Global,
+    list: &Sorted<Entry>,
+    other: &Sorted<Entry>,
+    placed: &PlacedBlock,
+    blocks: &mut Vec<PlacedBlock>,
+)
+    requires block { IsBlock other.now placed.now.start placed.now.block.value }
+    requires blocks { AreBlocks list.now blocks.old.items }
+    ensures { AreBlocks list.now blocks.new.items }
+{
+    let Some(start) = place_of(list, other, placed) else {
+        return;
+    };
+    if let Ok(block) = placed.block.clone() {
+        fill(alloc, list, end_of(blocks), start, blocks);
+        push_placed(blocks, start, block, list);
+    }
+}
+
+/// The blocks of a list: those of another one that stand in it too are shared, and what stands between them is made.
+pub(crate) fn find_blocks(
+    alloc: Global,
+    list: &Sorted<Entry>,
+    other: &Sorted<Entry>,
+    old: &[PlacedBlock],
+) -> Vec<PlacedBlock>
+    requires { AreBlocks other.now old.now }
+    ensures { AreBlocks list.now result.items }
+{
+    let mut blocks = Vec::new(alloc);
+    for placed in old {
+        push_found(alloc, list, other, placed, &mut blocks);
+    }
+    let from = end_of(&blocks);
+    fill(alloc, list, from, list.len(), &mut blocks);
+    blocks
 }
 
 /// The blocks of a list after an edit: those in front of it and behind it are shared, and what stands between them

@@ -1,6 +1,7 @@
 //! A configuration: tables of entries of fields.
-ghost use Rattle.std.specs.Prelude.{◌≡◌, ◌<◌, ◌++◌, ◌∷◌, [], length, map, option_map, slice_get, Some, IfOk, IsUtf8, OnOk};
+ghost use Rattle.std.specs.Prelude.{◌≡◌, ◌<◌, ◌≤◌, ◌++◌, ◌∷◌, [], length, map, option_map, slice_get, Some, IfOk, IsTrue, IsUtf8, OnOk};
 ghost use Rattle.conf_doc.specs.Changes.{entry_at, value_at};
+ghost use Rattle.conf_doc.specs.ListHolders.{HaveNoList};
 ghost use Rattle.conf_doc.specs.Pairs.{find, first_from};
 ghost use Rattle.conf_doc.specs.WellFormed.{AreTexts, IsConfig, IsEntry, IsTable, IsValue};
 
@@ -195,6 +196,35 @@ impl Config {
         self.tables.first_from(name)
     }
 
+    /// A configuration in which the table at an index shares with another configuration's of its name what both have.
+    fn share_at(&self, alloc: Global, i: usize, other: &Config) -> Result<Config, Memory>
+        requires { i < length self.now }
+        ensures same { IfOk result (λ c. c ≡ self.now) }
+    {
+        let (name, mine) = self.pair_at(i);
+        match other.table(name) {
+            Some(table) => {
+                let table = mine.sharing(alloc, table)?;
+                Ok(Config {
+                    tables: self.tables.with(alloc, name, table)?,
+                })
+            }
+            None => self.copy(alloc),
+        }
+    }
+
+    /// The same configuration, which shares with another one what both have: so the two are soon compared.
+    pub fn sharing(&self, alloc: Global, other: &Config) -> Result<Config, Memory>
+        ensures same { IfOk result (λ c. c ≡ self.now) }
+        ensures formed { IfOk result IsConfig }
+    {
+        let mut made = self.copy(alloc)?;
+        for i in 0..self.len() {
+            made = made.share_at(alloc, i, other)?;
+        }
+        Ok(made)
+    }
+
     /// The same configuration.
     pub fn copy(&self, alloc: Global) -> Result<Config, Memory>
         ensures copy { IfOk result (λ c. c ≡ self.now) }
@@ -222,6 +252,23 @@ impl Table {
         ensures formed { IsTable self.now }
     {
         self.entries.list().find(key)
+    }
+
+    /// The same entry, looked for first at an index.
+    pub fn entry_near(&self, key: &str, near: usize) -> Option<&Entry>
+        requires { near ≤ length self.now }
+        ensures entry { option_map (λ v. v.now) result ≡ find key.now self.now }
+        ensures formed { IsTable self.now }
+    {
+        self.entries.list().find_near(key, near)
+    }
+
+    /// Whether it is known that no entry holds a list. It takes no time, and isn't known of a table out of which the
+    /// last list was taken.
+    pub fn holds_no_list(&self) -> bool
+        ensures { IsTrue result → HaveNoList self.now }
+    {
+        self.entries.holds_no_list()
     }
 
     /// How many entries there are.
@@ -264,6 +311,16 @@ impl Table {
         ensures { result ≡ first_from key.now self.now }
     {
         self.entries.list().first_from(key)
+    }
+
+    /// The same table, which shares with another one the entries that this has too.
+    fn sharing(&self, alloc: Global, other: &Table) -> Result<Table, Memory>
+        ensures same { IfOk result (λ t. t ≡ self.now) }
+        ensures formed { IfOk result IsTable }
+    {
+        Ok(Table {
+            entries: self.entries.sharing(alloc, &other.entries)?,
+        })
     }
 
     /// The same table.

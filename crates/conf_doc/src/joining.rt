@@ -1,6 +1,6 @@
 //! One text of some entries with their keys, in which no byte is lost, so that they can be compared by it.
-ghost use Rattle.std.specs.Prelude.{◌≡◌, ◌≤◌, ◌+◌, ◌++◌, ◌∷◌, length, IfOk, OnOk, string_bytes};
-ghost use Rattle.conf_doc.specs.Joined.{ArePlain, ArePlainFields, IsJoined, IsPlain, IsPlainValue, end_mark, ended, item_mark, joined_entry, joined_field, joined_fields, joined_items, joined_value, segment};
+ghost use Rattle.std.specs.Prelude.{◌≡◌, ◌≤◌, ◌+◌, [], ◌++◌, ◌∷◌, length, IfOk, OnOk, string_bytes};
+ghost use Rattle.conf_doc.specs.Joined.{ArePlain, ArePlainFields, IsJoined, IsPlain, IsPlainValue, bare, end_mark, ended, item_mark, joined_entry, joined_field, joined_fields, joined_items, joined_value, segment};
 
 use crate::sorted::Sorted;
 use crate::{Entry, Value};
@@ -9,6 +9,9 @@ use std::alloc::Global;
 
 /// How long the text of most entries is at most, in bytes.
 const ROOM: usize = 128;
+
+/// How long most keys are at most, in bytes.
+const KEY_ROOM: usize = 24;
 
 /// Adds a text and a zero byte. One that has a zero byte itself is refused as if there were no memory.
 fn join_text(joined: &mut String, text: &str) -> Result<(), Memory>
@@ -101,6 +104,36 @@ fn join_entry(joined: &mut String, entry: &(Txt, Entry)) -> Result<(), Memory>
     join_fields(joined, &entry.1.fields)?;
     joined.push('\0')?;
     Ok(())
+}
+
+/// Adds the key of an entry as if that had no fields.
+fn join_key(joined: &mut String, entry: &(Txt, Entry)) -> Result<(), Memory>
+    ensures joined { OnOk result (string_bytes joined.new
+        ≡ string_bytes joined.old ++ joined_entry (entry.now.0, [])) }
+    ensures plain { OnOk result (IsPlain entry.now.0) }
+{
+    join_text(joined, entry.0.as_str())?;
+    joined.push('\0')?;
+    Ok(())
+}
+
+/// The text of so many keys from an index on, or an error where memory is refused or one of them has a zero byte.
+pub(crate) fn join_keys(
+    alloc: Global,
+    list: &Sorted<Entry>,
+    from: usize,
+    count: usize,
+) -> Result<Txt, Memory>
+    requires { from + count ≤ length list.now }
+    ensures { IfOk result (IsJoined (bare (segment from count list.now))) }
+{
+    let mut joined = String::with_capacity(alloc, count.saturating_mul(KEY_ROOM))?;
+    prove!(list.len() >= from + count);
+    for i in from..from + count {
+        join_key(&mut joined, list.pair_at(i))?;
+    }
+    let text = Txt::new(alloc, joined.as_str())?;
+    Ok(text)
 }
 
 /// The text of so many entries from an index on, or an error where memory is refused or one of them has

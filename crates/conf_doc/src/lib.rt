@@ -10,6 +10,7 @@ mod errors;
 mod indexes;
 mod joining;
 mod laws;
+mod list_holders;
 mod parts;
 mod paths;
 mod places;

@@ -1,5 +1,5 @@
 //! Whether two configurations, or parts of them, are the same: in one pass, lengths first, with no memory.
-ghost use Rattle.std.specs.Prelude.{◌≡◌, ◌↔◌, ◌≤◌, length, IsTrue};
+ghost use Rattle.std.specs.Prelude.{◌≡◌, ◌↔◌, ◌≤◌, length, map, IsTrue};
 ghost use Rattle.conf_doc.specs.Runs.{IsRun};
 ghost use Rattle.conf_doc.specs.WellFormed.{IsTable};
 
@@ -39,6 +39,17 @@ impl Table {
         ensures other_formed { IsTable other.now }
     {
         self.entries.count_same(i, &other.entries, j)
+    }
+
+    /// How many keys two tables have alike, each from an index on.
+    pub fn count_same_keys(&self, i: usize, other: &Table, j: usize) -> usize
+        requires first { i ≤ length self.now }
+        requires second { j ≤ length other.now }
+        ensures run { IsRun (map (λ e. e.0) self.now) i (map (λ e. e.0) other.now) j result }
+        ensures formed { IsTable self.now }
+        ensures other_formed { IsTable other.now }
+    {
+        self.entries.count_same_keys(i, &other.entries, j)
     }
 }
 

@@ -1,12 +1,13 @@
 //! The list under tables, entries and fields: pairs of a name and a part, sorted by the names. A pair
 //! stands behind one pointer, so that a changed list shares every other pair with the old one.
-ghost use Rattle.std.specs.Prelude.{◌≡◌, ◌<◌, [], length, map, option_map, slice_get, Some, IfErr, IfOk, IsUtf8, OnOk};
-ghost use Rattle.conf_doc.specs.Indexes.{IsAt, IsGap};
+ghost use Rattle.std.specs.Prelude.{◌≡◌, ◌<◌, ◌≤◌, [], length, map, option_map, slice_get, None, Some, IfErr, IfOk, IsTrue, IsUtf8, OnOk};
+ghost use Rattle.conf_doc.specs.Indexes.{IsAt, IsBefore, IsBehind, IsGap};
 ghost use Rattle.conf_doc.specs.Pairs.{find, first_from, put, set_part, without, IsRising};
 ghost use Rattle.conf_doc.specs.Shared.{pairs_of};
 ghost use Rattle.conf_doc.specs.WellFormed.{IsShaped};
 
 use crate::indexes::index_of_pair;
+use crate::sameness::{Same, same_pair};
 use host_core::{Memory, Txt};
 use std::alloc::Global;
 use std::marker::Model;
@@ -123,6 +124,36 @@ impl<X> Sorted<X> {
         }
     }
 
+    /// Whether a name is above the one before an index, where there is one.
+    fn is_behind(&self, name: &str, i: usize) -> bool
+        requires { i ≤ length self.now }
+        ensures { IsTrue result → IsBehind self.now name.now i }
+    {
+        i == 0 || name > self.name_at(i - 1)
+    }
+
+    /// Whether a name is below the one at an index, where there is one.
+    fn is_before(&self, name: &str, i: usize) -> bool
+        requires { i ≤ length self.now }
+        ensures { IsTrue result → IsBefore self.now name.now i }
+    {
+        i == self.len() || name < self.name_at(i)
+    }
+
+    /// What a name names, or None where it stands nowhere. It is looked for first at an index.
+    pub(crate) fn find_near(&self, name: &str, near: usize) -> Option<&X>
+        requires { near ≤ length self.now }
+        ensures { option_map (λ v. v.now) result ≡ find name.now self.now }
+    {
+        if near < self.len() && self.name_at(near) == name {
+            return Some(self.part_at(near));
+        }
+        if self.is_behind(name, near) && self.is_before(name, near) {
+            return None;
+        }
+        self.find(name)
+    }
+
     /// The first index from which no name is below that one.
     pub(crate) fn first_from(&self, name: &str) -> usize
         ensures { result ≡ first_from name.now self.now }
@@ -131,6 +162,34 @@ impl<X> Sorted<X> {
             Ok(i) => i,
             Err(i) => i,
         }
+    }
+}
+
+impl<X: Drop + Same> Sorted<X> {
+    /// The pair at an index, behind another list's pointer where that list has it too.
+    fn shared_pair(&self, i: usize, other: &Sorted<X>) -> Result<Rc<(Txt, X)>, Memory>
+        requires { i < length self.now }
+        ensures { IfOk result (λ r. slice_get self.now i ≡ Some r.value) }
+    {
+        let pair = self.pair_at(i);
+        if let Ok(j) = other.index_of(pair.0.as_str()) {
+            if same_pair(pair, other.pair_at(j)) {
+                return Ok(other.pairs[j].clone()?);
+            }
+        }
+        Ok(self.pairs[i].clone()?)
+    }
+
+    /// The same pairs, those that another list has too behind the pointers of that one.
+    pub(crate) fn sharing(&self, alloc: Global, other: &Sorted<X>) -> Result<Sorted<X>, Memory>
+        ensures { IfOk result (λ s. s ≡ self.now) }
+    {
+        let mut pairs = Vec::with_capacity(alloc, self.len())?;
+        for i in 0..self.len() {
+            let pair = self.shared_pair(i, other)?;
+            pairs.push(pair)?;
+        }
+        Ok(Sorted { pairs })
     }
 }
 

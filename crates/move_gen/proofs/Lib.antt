@@ -1,4 +1,5 @@
 pub mod ListGrowth
+pub mod ListHolders
 pub mod SeedEntries
 pub mod FieldMoves
 pub mod ItemMoves
@@ -12,3 +13,4 @@ pub mod SameEntries
 pub mod TableMoves
 pub mod Walks
 pub mod WantNames
+pub mod WantingFields

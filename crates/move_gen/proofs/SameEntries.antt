@@ -10,7 +10,6 @@ use Rattle.conf_doc.specs.declared.configuration.Table.{Table}
 use Rattle.conf_doc.specs.declared.parts.Part.{Part}
 use Rattle.conf_doc.specs.declared.parts.Part.TheVariants as part
 use Rattle.conf_doc.proofs.Edits.{find_at}
-use Rattle.move_gen.specs.Beside.{AreNamedAlike}
 use Rattle.move_gen.specs.Given.{AreForDiffering, AreOfMissing, EntryGiver}
 use Rattle.move_gen.specs.Giving.{IsNoneFrom}
 use Rattle.move_gen.proofs.PlaceParts.{there_entry}
@@ -44,14 +43,14 @@ module _ (Is : EntryGiver) (other : Config) (t : List ℕ) (table beside : Table
       across f = slice_get-map f beside l ∙ ap (option_map f) same ∙ sym (slice_get-map f table k)
 
   -- nor for one of a run of keys, where each is for an entry that the other configuration lacks
-  pub none_for_both : AreOfMissing Is other → AreNamedAlike table i beside j n → IsNoneFrom (Is t) table i (i + n)
-  none_for_both missing alike k from before key e named is g given = there_or_none _ _ (stands key at.0 l across at.1) (missing t key e g given)
+  pub none_for_both : AreOfMissing Is other → IsRun (map (λ p. p.0) table) i (map (λ p. p.0) beside) j n → IsNoneFrom (Is t) table i (i + n)
+  none_for_both missing run k from before key e named is g given = there_or_none _ _ (stands key at.0 l across at.1) (missing t key e g given)
     where
       l : ℕ
       l = j + (k - i)
 
       across : slice_get (map (λ p. p.0) beside) l ≡ Some key
-      across = sym (alike (k - i) (omega (arith, from, before))) ∙ ap (slice_get (map (λ p. p.0) table)) (omega (arith, from)) ∙ named
+      across = sym (run.same (k - i) (omega (arith, from, before))) ∙ ap (slice_get (map (λ p. p.0) table)) (omega (arith, from)) ∙ named
 
       at : (a : Entry) × (slice_get (map (λ p. p.1) beside) l ≡ Some a)
       at = part_beside beside l key across

@@ -28,7 +28,7 @@ pub itself : (a b : List ℕ) → a ≡ b → eq_by_cmp name_cmp a b ≡ true
 itself a b e = ap (eq_by_cmp name_cmp a) (sym e) ∙ ap is_eq (tied_itself nat_list_cmp_total a)
 
 -- a pair that is found has an index
-place_of : {A : Type 0} (ps : List (List ℕ × A)) (name : List ℕ) (a : A) → find name ps ≡ Some a
+pub place_of : {A : Type 0} (ps : List (List ℕ × A)) (name : List ℕ) (a : A) → find name ps ≡ Some a
     → (i : ℕ) × (i < length ps) × (slice_get (map (λ p. p.0) ps) i ≡ Some name) × (slice_get (map (λ p. p.1) ps) i ≡ Some a)
 place_of [] name a there = cc
 place_of {A} (p ∷ ps) name a there =

@@ -1,6 +1,7 @@
 -- What is given for one table, one entry and one field.
 use Rattle.std.specs.Prelude.{◌≡◌, ◌≢◌, ◌⊎◌, ℕ, List, [], ◌∷◌, Some, None}
 use Rattle.conf_doc.specs.Changes.{part_at}
+use Rattle.conf_doc.specs.ListHolders.{HasNoList}
 use Rattle.conf_doc.specs.Pairs.{find}
 use Rattle.conf_doc.specs.declared.configuration.Config.{Config}
 use Rattle.conf_doc.specs.declared.configuration.Entry.{Entry}
@@ -48,6 +49,10 @@ AreForEntries Is = (t k : List ℕ) (e : Entry) (g : Generated) → Is t k e g �
 abbrev pub AreOfMissing : EntryGiver → Config → Type 0
 AreOfMissing Is other =
     (t k : List ℕ) (e : Entry) (g : Generated) → Is t k e g → Lacks other (t ∷ k ∷ [])
+
+-- each is for an entry that holds a list
+abbrev pub AreOfLists : EntryGiver → Type 0
+AreOfLists Is = (t k : List ℕ) (e : Entry) (g : Generated) → Is t k e g → ¬ HasNoList e
 
 -- none is for an entry that the other configuration has the same
 abbrev pub AreForDiffering : EntryGiver → Config → Type 0

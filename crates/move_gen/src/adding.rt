@@ -65,6 +65,10 @@ impl<'a> EntryMoves for AddedEntries<'a> {
         true
     }
 
+    fn is_of_lists(&self) -> bool {
+        false
+    }
+
     fn give(
         &self,
         alloc: Global,

@@ -1,48 +1,30 @@
-//! Entries of a table that is gone through beside another one, and fields of an entry: how many keys both have alike,
-//! and where both have the same names, each is found next to the last.
-ghost use Rattle.std.specs.Prelude.{◌≡◌, ◌+◌, ◌<◌, ◌≤◌, length, map, option_and_then, option_copied, slice_get, Some, IsTrue};
-ghost use Rattle.conf_doc.specs.Pairs.{IsRising, find};
-ghost use Rattle.move_gen.specs.Beside.{AreNamedAlike};
+//! Entries of a table that is gone through beside another one, and fields of an entry: where both have the same names,
+//! each is found next to the last.
+ghost use Rattle.std.specs.Prelude.{◌≡◌, ◌≤◌, length, option_and_then, option_copied};
+ghost use Rattle.conf_doc.specs.Pairs.{find};
 
 use conf_doc::{Entry, Table, Value};
 
-/// How many keys two tables have alike, each from an index on.
-pub(crate) fn count_same_keys(table: &Table, i: usize, other: &Table, near: usize) -> usize
-    requires first { i ≤ length table.now }
-    requires second { near ≤ length other.now }
-    ensures within { i + result ≤ length table.now }
-    ensures beside { near + result ≤ length other.now }
-    ensures alike { AreNamedAlike table.now i other.now near result }
-    ensures rising { IsRising other.now }
+/// The first index from one on whose key isn't below that one.
+fn first_not_below(table: &Table, key: &str, from: usize) -> usize
+    ensures { result ≤ length table.now }
 {
-    let both = (table.len() - i).min(other.len() - near);
-    for k in 0..both {
-        if table.name_at(i + k) != other.name_at(near + k) {
-            return k;
-        }
-    }
-    both
-}
-
-/// The first index from one on whose key is above that one. Any other would do, since it only
-/// says where the next key is looked for first.
-fn first_above(table: &Table, key: &str, from: usize) -> usize {
     for i in from..table.len() {
-        if table.name_at(i) > key {
+        if table.name_at(i) >= key {
             return i;
         }
     }
     table.len()
 }
 
-/// The entry of a key, looked for first at an index, and where to look for the key after that one.
+/// The entry of a key, looked for from an index on, and where to look for the key after that one.
 fn look_near<'t>(table: &'t Table, key: &str, near: usize) -> (Option<&'t Entry>, usize)
     ensures { option_copied result.0 ≡ find key.now table.now }
 {
-    if near < table.len() && table.name_at(near) == key {
-        (Some(table.part_at(near)), near + 1)
-    } else {
-        (table.entry(key), first_above(table, key, near))
+    let at = first_not_below(table, key, near);
+    match table.entry_near(key, at) {
+        Some(entry) => (Some(entry), at.saturating_add(1)),
+        None => (None, at),
     }
 }
 

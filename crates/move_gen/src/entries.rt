@@ -5,7 +5,7 @@ ghost use Rattle.conf_doc.specs.Pairs.{find};
 ghost use Rattle.move_gen.specs.Given.{IsOfTable};
 ghost use Rattle.move_gen.specs.Giving.{Gives, IsNoneFrom, IsOfSome};
 
-use crate::beside::{count_same_keys, look_beside};
+use crate::beside::look_beside;
 use conf_doc::{Config, Entry, Table};
 use host_core::Memory;
 use move_core::Generated;
@@ -17,7 +17,7 @@ pub(crate) trait EntryMoves {
     ghost use Rattle.conf_doc.specs.Changes.{part_at};
     ghost use Rattle.conf_doc.specs.declared.configuration.Config.{Config as Configuration};
     ghost use Rattle.conf_doc.specs.declared.parts.Part.TheVariants as part;
-    ghost use Rattle.move_gen.specs.Given.{AreForDiffering, AreForEntries, AreOfMissing, EntryGiver};
+    ghost use Rattle.move_gen.specs.Given.{AreForDiffering, AreForEntries, AreOfLists, AreOfMissing, EntryGiver};
 
     /// What is given for a table, a key and the entry there.
     ghost is_given: { Self → EntryGiver };
@@ -32,6 +32,10 @@ pub(crate) trait EntryMoves {
     /// Whether there are moves only for entries that the other configuration lacks.
     fn is_of_missing(&self) -> bool
         ensures { IsTrue result → AreOfMissing (is_given self.now) (other self.now) };
+
+    /// Whether there are moves only for entries that hold a list.
+    fn is_of_lists(&self) -> bool
+        ensures { IsTrue result → AreOfLists (is_given self.now) };
 
     /// Appends one entry's moves. What the other configuration has at that place is given too.
     fn give(
@@ -75,13 +79,14 @@ fn count_settled<M: EntryMoves>(
     ensures none { IsNoneFrom (M.is_given moves.now name.now) table.now i (i + result) }
 {
     if moves.is_of_missing() {
-        count_same_keys(table, i, other, near)
+        table.count_same_keys(i, other, near)
     } else {
         table.count_same(i, other, near)
     }
 }
 
-/// The index behind such entries, and where to look in the other table, which may not be there.
+/// The index behind such entries, and where to look in the other table, which may not be there. Where there are moves
+/// only for entries that hold a list, a table without lists has none.
 fn pass_settled<M: EntryMoves>(
     name: &str,
     table: &Table,
@@ -97,6 +102,9 @@ fn pass_settled<M: EntryMoves>(
 {
     // It fits an index, and so do the sums below.
     let _ = table.len();
+    if i <= table.len() && moves.is_of_lists() && table.holds_no_list() {
+        return (table.len(), 0);
+    }
     match other {
         Some(other) => {
             let near = near.min(other.len());

@@ -4,6 +4,7 @@ ghost use Rattle.move_core.specs.Contexts.{rulebook};
 ghost use Rattle.move_core.specs.Generated.{HasNoWant};
 ghost use Rattle.move_gen.specs.FieldWants.{AreFree};
 
+use crate::wanting_fields::has_wanting_field;
 use conf_check::{WantAt, entry_wants};
 use conf_doc::Config;
 use move_core::Ctx;
@@ -35,6 +36,9 @@ pub(crate) fn has_no_want(ctx: &Ctx, goal: &Config, table: &str, key: &str, fiel
 pub(crate) fn has_free_fields(ctx: &Ctx, goal: &Config, table: &str, key: &str) -> bool
     ensures { IsTrue result → AreFree (rulebook ctx.now) goal.now table.now key.now }
 {
+    if !has_wanting_field(&ctx.models, table) {
+        return true;
+    }
     for at in entry_wants(&ctx.models, goal, table, key) {
         if at.field.is_some() {
             return false;

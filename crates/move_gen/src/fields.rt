@@ -69,6 +69,10 @@ impl<'a> EntryMoves for ChangedEntries<'a> {
         false
     }
 
+    fn is_of_lists(&self) -> bool {
+        false
+    }
+
     fn give(
         &self,
         alloc: Global,

@@ -67,6 +67,10 @@ impl<'a> EntryMoves for ChangedLists<'a> {
         false
     }
 
+    fn is_of_lists(&self) -> bool {
+        true
+    }
+
     fn give(
         &self,
         alloc: Global,

@@ -11,6 +11,7 @@ mod items;
 mod keys;
 mod seeds;
 mod tables;
+mod wanting_fields;
 
 pub use fields::{FieldGen, field_moves};
 pub use items::ItemGen;

@@ -9,7 +9,7 @@ pub mod BoxResults
 pub mod ItemIndexes
 pub mod PartConcatenation
 pub mod MoveForms
-pub mod FieldEffects
+pub mod MoveEffects
 pub mod Members
 pub mod MoveMaps
 pub mod OneList

@@ -1,5 +1,5 @@
 -- The generated moves at a configuration, each with whether it is restoring.
-use Rattle.std.specs.Prelude.{◌≡◌, ◌↔◌, List, None, length, map, All, IsTrue}
+use Rattle.std.specs.Prelude.{◌≡◌, ◌↔◌, List, None, length, map, is_some, All, IsTrue}
 use Rattle.std.specs.List.{Contains}
 use Rattle.conf_doc.specs.Changes.{part_at}
 use Rattle.conf_doc.specs.declared.configuration.Config.{Config}
@@ -23,7 +23,10 @@ pub record AreFirstsOf (book : Rulebook) (start cur goal : Config) (fs : List Fi
   pub each : All (λ f. IsGeneratedMove book cur goal f.generated × IsTold start goal f) fs
   pub all : (g : Generated) → IsGeneratedMove book cur goal g → Contains (generated_of fs) g
 
--- at a field the move leaves what goal has there, unless it is an item's
-abbrev pub LeavesGoals : Config → Generated → Type 0
-LeavesGoals goal g =
-    length g.place ≡ 3 → index g.mv ≡ None → part_at goal g.place ≡ new_part g.mv
+-- what a move leaves tells of goal, unless it is an item's: at a field it is what goal has there, and at an entry it is
+-- something exactly where goal has one
+pub record LeavesGoals (goal : Config) (g : Generated) : Type 0 where
+  pub field : length g.place ≡ 3 → index g.mv ≡ None → part_at goal g.place ≡ new_part g.mv
+  pub entry :
+      length g.place ≡ 2 → index g.mv ≡ None
+      → is_some (part_at goal g.place) ≡ is_some (new_part g.mv)

@@ -4,7 +4,7 @@ ghost use Rattle.move_core.specs.Contexts.{IsNamed, IsValidIn, rulebook};
 ghost use Rattle.move_core.specs.Generated.{IsRestoring};
 ghost use Rattle.move_lists.specs.Firsts.{AreFirstsOf, IsTold, LeavesGoals, generated_of};
 
-use crate::agreeing::{agree_at, has_value};
+use crate::agreeing::{agree_at, agree_at_entry, has_value};
 use crate::asking::{Question, generated_moves};
 use conf_doc::Config;
 use host_core::Memory;
@@ -73,16 +73,22 @@ pub fn first_moves(
     Ok(Firsts { firsts })
 }
 
-/// Whether a generated move is restoring. At a field it leaves what goal has there, so that start alone is looked at,
-/// unless it is an item's.
+/// Whether a generated move is restoring. What it leaves tells of goal, unless it is an item's: at a field it is what
+/// goal has there, and start alone is looked at; at an entry it tells whether goal has one, and goal is looked at only
+/// where start has one too.
 fn is_restoring(start: &Config, goal: &Config, generated: &Generated) -> bool
     requires { LeavesGoals goal.now generated.now }
     ensures { IsTrue result ↔ IsRestoring start.now goal.now generated.now }
 {
-    if generated.place.len() == 3 && generated.mv.index().is_none() {
-        has_value(start, &generated.place, generated.mv.new_part())
-    } else {
-        agree_at(start, goal, &generated.place)
+    let place = &generated.place;
+    if generated.mv.index().is_some() {
+        return agree_at(start, goal, place);
+    }
+    let part = generated.mv.new_part();
+    match place.len() {
+        2 => agree_at_entry(start, goal, place, part.is_some()),
+        3 => has_value(start, place, part),
+        _ => agree_at(start, goal, place),
     }
 }
 
@@ -97,7 +103,7 @@ fn tell_restoring(
     ensures told { IfOk result (λ fs. All (IsTold start.now goal.now) fs.items) }
     ensures same { IfOk result (λ fs. generated_of fs.items ≡ moves.items) }
 {
-    let mut firsts = Vec::new(alloc);
+    let mut firsts = Vec::with_capacity(alloc, moves.len())?;
     for generated in moves {
         let is_restoring = is_restoring(start, goal, &generated);
         firsts.push(First {

@@ -424,7 +424,7 @@ fn first_of_each(alloc: Global, known: &Reach, ranked: Vec<Ranked>) -> Result<Ve
     requires { AreSorted ranked.items }
     ensures { IfOk result (λ ms. HasFirsts known.now ranked.items ms.items) }
 {
-    let mut seen = Reach::new(alloc);
+    let mut seen = Reach::with_capacity(alloc, ranked.len())?;
     for chain in ranked {
         seen.note(known, chain.mv, chain.depth)?;
     }

@@ -96,7 +96,7 @@ pub(crate) fn rank_alone(
     ensures { IfOk result (λ rs. rs.items ≡ ranked_alone restoring firsts.now) }
 {
     let tier = lone_tier(restoring);
-    let mut ranked = Vec::new(alloc);
+    let mut ranked = Vec::with_capacity(alloc, firsts.len())?;
     for first in firsts {
         if first.is_restoring == restoring {
             let mv = first.generated.mv.copy(alloc)?;

@@ -42,6 +42,14 @@ impl Reach {
         }
     }
 
+    /// None, with room for so many.
+    pub(crate) fn with_capacity(alloc: Global, capacity: usize) -> Result<Reach, Memory>
+        ensures { IfOk result (λ r. r ≡ []) }
+    {
+        let depths = IndexMap::with_capacity(alloc, capacity)?;
+        Ok(Reach { depths })
+    }
+
     /// How many there are.
     pub(crate) fn len(&self) -> usize
         ensures len { result ≡ length self.now }
@@ -78,7 +86,7 @@ impl Reach {
     pub(crate) fn into_moves(self, alloc: Global) -> Result<Vec<Move>, Memory>
         ensures { IfOk result (λ ms. ms.items ≡ map (λ e. e.0) self) }
     {
-        let mut moves = Vec::new(alloc);
+        let mut moves = Vec::with_capacity(alloc, self.depths.len())?;
         for (key, _) in self.depths {
             moves.push(key.mv)?;
         }

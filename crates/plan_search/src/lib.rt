@@ -4,7 +4,6 @@
 mod early_refusals;
 mod errors;
 mod expanding;
-mod goals;
 mod hashed;
 mod laws;
 mod met_set;

@@ -8,7 +8,6 @@ ghost use Rattle.plan_search.specs.Searches.{IsSearchAnswer};
 
 use crate::early_refusals::is_refused;
 use crate::expanding::Expanding;
-use crate::goals::goal_of_start;
 use crate::hashed::Hashed;
 use crate::rules::keep_rules;
 use crate::searching::find_plan;
@@ -173,7 +172,7 @@ pub fn search<L: Ledger>(
     ensures answer { IsSearchAnswer (rulebook ctx.now) start.now goal.now budget result }
     ensures steps { steps.new < steps.old + budget }
 {
-    match goal_of_start(alloc, start, goal) {
+    match goal.sharing(alloc, start) {
         Ok(shared) => {
             let goal = Hashed::new(shared);
             search_by_kit(alloc, ctx, kit, start, &goal, budget, steps)

@@ -5,7 +5,7 @@ pub returns-then-is_of_missing-clause-none : goal.returns-then-is_of_missing-cla
 returns-then-is_of_missing-clause-none g c =
     let ensures = c.count_same_keys.ensures in
     none_for_both (g.M.EntryMoves.is_given c.args.moves.now) (g.M.EntryMoves.other c.args.moves.now) c.args.name.now c.args.table.now c.args.other.now
-    c.args.i c.args.near c.count_same_keys.result c.requires.there ensures.rising (c.is_of_missing.ensures c.if-is_of_missing.true) ensures.alike
+    c.args.i c.args.near c.count_same_keys.result c.requires.there ensures.other_formed.shaped.rising (c.is_of_missing.ensures c.if-is_of_missing.true) ensures.run
 
 pub returns-else-is_of_missing-clause-none : goal.returns-else-is_of_missing-clause-none
 returns-else-is_of_missing-clause-none g c =

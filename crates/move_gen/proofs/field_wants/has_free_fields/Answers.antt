@@ -1,7 +1,14 @@
 use Rattle.std.proofs.Common.{inr, sym, subst}
+use Rattle.std.proofs.lemmas.Bool.{false≢true}
 use Rattle.move_gen.specs.FieldWants.{AreElsewhere}
 use Rattle.move_gen.proofs.WantNames.{none_left, passes, unnamed}
+use Rattle.move_gen.proofs.WantingFields.{none_wanted}
 use Rattle.move_gen.proofs.field_wants.has_free_fields.Goals as goal
+
+pub returns-then-not-has_wanting_field : goal.returns-then-not-has_wanting_field
+returns-then-not-has_wanting_field c = λ t f.
+    none_wanted c.args.ctx.now.models c.args.goal.now c.args.table.now c.args.key.now f
+    (λ has. false≢true (c.if-not-has_wanting_field.ensures has))
 
 pub loop-at-init : goal.loop-at-init
 loop-at-init c =

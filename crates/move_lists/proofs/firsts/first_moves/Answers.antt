@@ -3,7 +3,7 @@ use Rattle.std.specs.List.{Contains}
 use Rattle.move_core.specs.Contexts.{rulebook}
 use Rattle.move_core.specs.Listed.{IsGeneratedMove}
 use Rattle.move_lists.specs.Firsts.{IsTold}
-use Rattle.move_lists.proofs.FieldEffects.{all_leave_goals}
+use Rattle.move_lists.proofs.MoveEffects.{all_leave_goals}
 use Rattle.move_lists.proofs.MoveFacts.{both_told}
 use Rattle.move_lists.proofs.firsts.first_moves.Goals as goal
 

@@ -12,7 +12,7 @@ if_ok (Ok x) f h = f x h
 if_ok (Err e) f h = h
 
 pub loop-chain-init : goal.loop-chain-init
-loop-chain-init c = subst (IsSeen c.args.known.now []) (sym c.new-seen.ensures) (seen_none c.args.known.now)
+loop-chain-init c = subst (IsSeen c.args.known.now []) (sym c.in_ok-seen.ensures) (seen_none c.args.known.now)
 
 pub loop-chain-preserved : goal.loop-chain-preserved
 loop-chain-preserved c =
