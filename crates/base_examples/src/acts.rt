@@ -42,13 +42,17 @@ pub fn does_as_said<A: Act>(alloc: Global, act: &A, row: &Value) -> Result<bool,
 
 fn does_alone<A: Act>(alloc: Global, act: &A, row: &Value) -> Result<bool, Fail> {
     let mut host = act.host_before(alloc, row)?;
-    act.does(alloc, row, &mut host)
+    let does = act.does(alloc, row, &mut host);
+    drop(host);
+    does
 }
 
 /// Whether a crash with that pick after the call leaves what the row says.
 fn leaves<A: Act>(alloc: Global, act: &A, row: &Value, pick: &str) -> Result<bool, Fail> {
     let mut after = host_after(alloc, act, row, pick)?;
-    act.is_left(alloc, row, pick, &mut after)
+    let left = act.is_left(alloc, row, pick, &mut after);
+    drop(after);
+    left
 }
 
 /// The host of a row after its call and a crash with that pick.
@@ -61,6 +65,11 @@ fn host_after<A: Act>(alloc: Global, act: &A, row: &Value, pick: &str) -> Result
 /// The host of a row after its call.
 fn host_done<A: Act>(alloc: Global, act: &A, row: &Value) -> Result<MemHost, Fail> {
     let mut host = act.host_before(alloc, row)?;
-    let _ = act.does(alloc, row, &mut host)?;
-    Ok(host)
+    match act.does(alloc, row, &mut host) {
+        Ok(_) => Ok(host),
+        Err(fail) => {
+            drop(host);
+            Err(fail)
+        }
+    }
 }

@@ -4,10 +4,11 @@ ghost use Rattle.host_core.specs.Names.{longest_file_name};
 ghost use Rattle.host_core.specs.State.{settled};
 
 use crate::acts::{Act, does_as_said};
-use crate::hosts::{LONGEST_NAME, answer_text, host_at, name_at, names_in};
+use crate::hosts::{LONGEST_NAME, answer_text, files_of, host_at, name_at};
 use crate::views::act_in_scope;
 use example_rows::{
-    Fail, Table, are_names, faults_at, is_text, items_at, number_at, says, text_at, text_bytes,
+    Fail, Table, are_names, faults_at, has, is_text, items_at, names_in, number_at, says, text_at,
+    text_bytes, value_at,
 };
 use host_core::{Failed, Host, HostError, Input, MemHost, Names};
 use serde_json::Value;
@@ -53,7 +54,7 @@ impl Act for Calls {
 fn is_answer(alloc: Global, row: &Value, host: &mut MemHost) -> Result<bool, Fail>
     requires { host.old.state.pending ≡ settled }
 {
-    let answer = if row.get("scope").is_some() {
+    let answer = if has(row, "scope") {
         act_in_scope(alloc, row, host)?
     } else {
         act(alloc, row, host)?
@@ -70,19 +71,18 @@ fn has_come_out(alloc: Global, row: &Value, name: &str, host: &mut MemHost) -> R
 
 /// Whether a host has the files under a name, and no others.
 fn has_files(alloc: Global, row: &Value, name: &str, host: &mut MemHost) -> Result<bool, Fail> {
-    let said = row.get(name).ok_or(Fail::Row)?;
-    let mut count = 0usize;
-    for (name, _) in said.as_object().ok_or(Fail::Row)? {
-        let same = match host.file(name.as_str()) {
-            Some(bytes) => is_text(alloc, said, name.as_str(), bytes)?,
+    let said = value_at(row, name)?;
+    let names = names_in(alloc, said)?;
+    for name in &names {
+        let same = match host.file(*name) {
+            Some(bytes) => is_text(alloc, said, *name, bytes)?,
             None => false,
         };
         if !same {
             return Ok(false);
         }
-        count = count.saturating_add(1);
     }
-    Ok(names_in(alloc, host)?.len() == count)
+    Ok(files_of(alloc, host)?.len() == names.len())
 }
 
 /// Makes the calls, and tells what the last one answered.
@@ -185,15 +185,21 @@ fn input_told(alloc: Global, found: Result<Input, HostError>) -> Result<String, 
 pub(crate) fn names_told(alloc: Global, listed: Result<Names, HostError>) -> Result<String, Fail> {
     match listed {
         Ok(names) => {
-            let mut text = String::from_str(alloc, "names")?;
-            for name in names.items() {
-                text.push_str(" ")?;
-                text.push_str(name.as_str())?;
-            }
-            Ok(text)
+            let line = names_line(alloc, &names);
+            drop(names);
+            line
         }
         Err(error) => failed(alloc, error),
     }
+}
+
+fn names_line(alloc: Global, names: &Names) -> Result<String, Fail> {
+    let mut line = String::from_str(alloc, "names")?;
+    for name in names.items() {
+        line.push_str(" ")?;
+        line.push_str(name.as_str())?;
+    }
+    Ok(line)
 }
 
 pub(crate) fn file_told(

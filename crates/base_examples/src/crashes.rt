@@ -7,12 +7,12 @@ ghost use Rattle.conf_store.specs.Folds.{StandsFor};
 
 use crate::acts::{Act, does_as_said};
 use crate::folders::is_tree;
-use crate::hosts::{
-    LONGEST_NAME, answer_text, calm_host, fail_of, faults_from, host_at, name_at, names_in,
-};
+use crate::hosts::{LONGEST_NAME, answer_text, calm_host, fail_of, files_of, host_at, name_at};
 use conf_doc::file_bytes;
 use conf_store::{Stored, fold, load, load_tree, put_file};
-use example_rows::{Fail, Table, are_names, items_at, says, text_at, text_bytes};
+use example_rows::{
+    Fail, Table, are_names, faults_from, items_at, says, some_number, text_at, text_bytes, text_of,
+};
 use host_core::{Failed, Faults, MemHost};
 use serde_json::Value;
 use std::alloc::Global;
@@ -51,7 +51,7 @@ impl Act for Crashes {
         let [which, said @ ..] = items_at(row, pick)? else {
             return Err(Fail::Row);
         };
-        let which = which.as_str().ok_or(Fail::Row)?;
+        let which = text_of(which)?;
         Ok(has_names(alloc, said, host)? && is_config_left(alloc, row, which, host)?)
     }
 }
@@ -61,7 +61,11 @@ fn answer_of(alloc: Global, row: &Value, host: &mut MemHost) -> Result<&'static 
     requires { host.old.state.pending ≡ settled }
 {
     match load(alloc, host) {
-        Ok(stored) => act(alloc, row, &stored, host),
+        Ok(stored) => {
+            let answer = act(alloc, row, &stored, host);
+            drop(stored);
+            answer
+        }
         Err(error) => Err(fail_of(error)),
     }
 }
@@ -110,7 +114,7 @@ fn fold_stored(
 
 /// Whether a host has the files of those names and no others.
 fn has_names(alloc: Global, said: &[Value], host: &mut MemHost) -> Result<bool, Fail> {
-    let names = names_in(alloc, host)?;
+    let names = files_of(alloc, host)?;
     Ok(are_names(said, &names))
 }
 
@@ -122,14 +126,18 @@ fn is_config_left(
     host: &mut MemHost,
 ) -> Result<bool, Fail> {
     match load_tree(alloc, host) {
-        Ok(tree) => is_tree(alloc, row, which, &tree),
+        Ok(tree) => {
+            let left = is_tree(alloc, row, which, &tree);
+            drop(tree);
+            left
+        }
         Err(error) => Err(fail_of(error)),
     }
 }
 
 /// Faults from the call of the row on, counted behind those of `load`.
 fn faults_behind_load(alloc: Global, row: &Value) -> Result<Faults, Fail> {
-    let from = match row.get("from").and_then(Value::as_u64) {
+    let from = match some_number(row, "from") {
         Some(from) => Some(load_calls(alloc, row)?.saturating_add(from)),
         None => None,
     };
@@ -139,14 +147,14 @@ fn faults_behind_load(alloc: Global, row: &Value) -> Result<Faults, Fail> {
 /// How many calls `load` makes.
 fn load_calls(alloc: Global, row: &Value) -> Result<u64, Fail> {
     let mut host = calm_host(alloc, row)?;
-    calls_behind_load(alloc, &mut host)
-}
-
-fn calls_behind_load(alloc: Global, host: &mut MemHost) -> Result<u64, Fail>
-    requires { host.old.state.pending ≡ settled }
-{
-    match load(alloc, host) {
-        Ok(_) => Ok(host.calls()),
+    let loaded = load(alloc, &mut host);
+    let calls = host.calls();
+    drop(host);
+    match loaded {
+        Ok(stored) => {
+            drop(stored);
+            Ok(calls)
+        }
         Err(error) => Err(fail_of(error)),
     }
 }

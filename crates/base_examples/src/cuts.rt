@@ -1,6 +1,6 @@
 //! Texts that are cut at each byte.
 use crate::readers::answer;
-use example_rows::{Fail, Table, items_at, text_at, written_at};
+use example_rows::{Fail, Table, has, is_word, items_at, text_at, text_or, written_at};
 use serde_json::Value;
 use std::alloc::Global;
 
@@ -12,7 +12,7 @@ pub struct Cuts;
 impl Table for Cuts {
     fn is_as_said(&self, alloc: Global, row: &Value) -> Result<bool, Fail> {
         let text = written_at(alloc, row, "text")?;
-        let said = row.get("whole").and_then(Value::as_str).unwrap_or("read");
+        let said = text_or(row, "whole", "read");
         let whole = answer(alloc, text_at(row, "reader")?, &text)?;
         Ok(whole == said && are_said(alloc, row, &text)?)
     }
@@ -22,11 +22,12 @@ impl Table for Cuts {
 fn are_said(alloc: Global, row: &Value, text: &[u8]) -> Result<bool, Fail> {
     let answers = front_answers(alloc, row, text)?;
     let said = items_at(row, "answers")?;
-    let same = answers
-        .iter()
-        .zip(said)
-        .all(|(answer, name)| name.as_str() == Some(*answer));
-    Ok(same && answers.len() == said.len())
+    for (answer, name) in answers.iter().zip(said) {
+        if !is_word(name, *answer) {
+            return Ok(false);
+        }
+    }
+    Ok(answers.len() == said.len())
 }
 
 /// What the reader answers to each front that isn't all of the text.
@@ -46,7 +47,7 @@ fn front_answers(alloc: Global, row: &Value, text: &[u8]) -> Result<Vec<&'static
 /// What the reader answers to a front with the text behind it.
 fn front_answer(alloc: Global, row: &Value, front: &[u8]) -> Result<&'static str, Fail> {
     let mut bytes = front.to_vec(alloc)?;
-    if row.get("behind").is_some() {
+    if has(row, "behind") {
         bytes.extend_from_slice(text_at(row, "behind")?.as_bytes())?;
     }
     answer(alloc, text_at(row, "reader")?, &bytes)

@@ -2,7 +2,7 @@
 use crate::hosts::calm_host;
 use conf_doc::{Tree, tree_bytes, tree_of};
 use conf_store::{LoadError, Stored, load, load_tree};
-use example_rows::{Fail, Table, are_names, is_text, items_at, says};
+use example_rows::{Fail, Table, are_names, has, is_text, items_at, says, truth_at};
 use serde_json::Value;
 use std::alloc::Global;
 
@@ -19,8 +19,14 @@ impl Table for Folders {
 /// Whether the configuration is loaded as the row says.
 fn is_loaded_as_said(alloc: Global, row: &Value) -> Result<bool, Fail> {
     let mut host = calm_host(alloc, row)?;
-    match load(alloc, &mut host) {
-        Ok(stored) => is_stored(alloc, row, &stored),
+    let loaded = load(alloc, &mut host);
+    drop(host);
+    match loaded {
+        Ok(stored) => {
+            let said = is_stored(alloc, row, &stored);
+            drop(stored);
+            said
+        }
         Err(error) => is_refused(alloc, row, error),
     }
 }
@@ -28,22 +34,30 @@ fn is_loaded_as_said(alloc: Global, row: &Value) -> Result<bool, Fail> {
 /// Whether the tree alone is loaded as the row says.
 fn is_tree_as_said(alloc: Global, row: &Value) -> Result<bool, Fail> {
     let mut host = calm_host(alloc, row)?;
-    match load_tree(alloc, &mut host) {
-        Ok(tree) => is_config(alloc, row, &tree),
+    let loaded = load_tree(alloc, &mut host);
+    drop(host);
+    match loaded {
+        Ok(tree) => {
+            let said = is_config(alloc, row, &tree);
+            drop(tree);
+            said
+        }
         Err(error) => is_refused(alloc, row, error),
     }
 }
 
 /// Whether a tree is the `config`, where there is one.
 fn is_config(alloc: Global, row: &Value, tree: &Tree) -> Result<bool, Fail> {
-    Ok(row.get("config").is_some() && is_tree(alloc, row, "config", tree)?)
+    Ok(has(row, "config") && is_tree(alloc, row, "config", tree)?)
 }
 
 fn is_stored(alloc: Global, row: &Value, stored: &Stored) -> Result<bool, Fail> {
-    let folded = row.get("folded").and_then(Value::as_bool) == Some(stored.folded);
+    let folded = truth_at(row, "folded")? == stored.folded;
     let steps = are_names(items_at(row, "steps")?, &stored.steps);
     let tree = tree_of(alloc, &stored.config)?;
-    Ok(folded && steps && is_config(alloc, row, &tree)?)
+    let same = is_config(alloc, row, &tree);
+    drop(tree);
+    Ok(same? && folded && steps)
 }
 
 fn is_refused(alloc: Global, row: &Value, error: LoadError) -> Result<bool, Fail> {

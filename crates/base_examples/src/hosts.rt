@@ -3,7 +3,7 @@ ghost use Rattle.std.specs.Prelude.{◌≡◌, ◌≤◌, length, IfOk};
 ghost use Rattle.host_core.specs.State.{settled};
 
 use conf_store::LoadError;
-use example_rows::{Fail, push_pairs, text_bytes};
+use example_rows::{Fail, faults_from, host_with, text_bytes, text_or};
 use host_core::{Failed, Faults, Host, HostError, MemHost, Names, Pick, Sequence};
 use serde_json::Value;
 use std::alloc::Global;
@@ -15,11 +15,7 @@ pub const LONGEST_NAME: usize = 96;
 pub fn host_at(alloc: Global, row: &Value, faults: Faults) -> Result<MemHost, Fail>
     ensures { IfOk result (λ m. m.state.pending ≡ settled) }
 {
-    let mut inputs = Vec::new(alloc);
-    push_pairs(alloc, row.get("inputs"), &mut inputs)?;
-    let mut files = Vec::new(alloc);
-    push_pairs(alloc, row.get("files"), &mut files)?;
-    Ok(MemHost::new(alloc, inputs, files, faults)?)
+    host_with(alloc, row, None, Vec::new(alloc), Vec::new(alloc), faults)
 }
 
 /// The host of a row, of which no call fails.
@@ -28,12 +24,6 @@ pub fn calm_host(alloc: Global, row: &Value) -> Result<MemHost, Fail>
 {
     let faults = faults_from(alloc, None);
     host_at(alloc, row, faults)
-}
-
-/// Faults of all calls from a number on, or of none.
-pub fn faults_from(alloc: Global, from: Option<u64>) -> Faults {
-    let at = Sequence::new(alloc);
-    Faults { at, from }
 }
 
 /// A pick, whose bytes are the `torn` ones of the row.
@@ -53,7 +43,7 @@ pub fn pick_of(alloc: Global, row: &Value, name: &str) -> Result<Pick, Fail> {
 pub fn name_at<'a>(row: &'a Value, word: &str, most: usize) -> Result<&'a str, Fail>
     ensures { IfOk result (λ name. length name.now ≤ most) }
 {
-    let name = row.get(word).and_then(Value::as_str).unwrap_or("none");
+    let name = text_or(row, word, "none");
     if name.len() > most {
         return Err(Fail::Row);
     }
@@ -69,7 +59,7 @@ pub fn answer_text(answer: Result<(), Failed>) -> &'static str {
 }
 
 /// The names of a host's files.
-pub fn names_in(alloc: Global, host: &mut MemHost) -> Result<Names, Fail> {
+pub fn files_of(alloc: Global, host: &mut MemHost) -> Result<Names, Fail> {
     match host.list(alloc) {
         Ok(names) => Ok(names),
         Err(HostError::Memory) => Err(Fail::Memory),

@@ -7,7 +7,10 @@ use std::alloc::Global;
 
 pub fn read_as_document(alloc: Global, bytes: &[u8]) -> Result<&'static str, Fail> {
     match read_tree(alloc, bytes) {
-        Ok(_) => Ok("read"),
+        Ok(read) => {
+            drop(read);
+            Ok("read")
+        }
         Err(error) => refusal_of_document(error),
     }
 }
@@ -29,7 +32,10 @@ pub fn read_as_config(alloc: Global, bytes: &[u8]) -> Result<&'static str, Fail>
 
 fn shape_config(alloc: Global, tree: Tree) -> Result<&'static str, Fail> {
     match config_of_tree(alloc, tree) {
-        Ok(_) => Ok("read"),
+        Ok(read) => {
+            drop(read);
+            Ok("read")
+        }
         Err(ShapeError::Shape { .. }) => Ok("Shape"),
         Err(ShapeError::Memory) => Err(Fail::Memory),
     }
@@ -37,7 +43,10 @@ fn shape_config(alloc: Global, tree: Tree) -> Result<&'static str, Fail> {
 
 pub fn read_as_patch(alloc: Global, bytes: &[u8]) -> Result<&'static str, Fail> {
     match read_patch(alloc, bytes) {
-        Ok(_) => Ok("read"),
+        Ok(read) => {
+            drop(read);
+            Ok("read")
+        }
         Err(PatchError::BadJson) => Ok("BadJson"),
         Err(PatchError::BadPatch { why, .. }) => Ok(patch_why(why)),
         Err(PatchError::Memory) => Err(Fail::Memory),
@@ -61,7 +70,10 @@ fn patch_why(why: PatchWhy) -> &'static str {
 
 pub fn read_as_rules(alloc: Global, bytes: &[u8]) -> Result<&'static str, Fail> {
     match read_rules(alloc, bytes) {
-        Ok(_) => Ok("read"),
+        Ok(read) => {
+            drop(read);
+            Ok("read")
+        }
         Err(RulesError::BadJson) => Ok("BadJson"),
         Err(RulesError::Bad { why }) => Ok(rules_why(why)),
         Err(RulesError::Memory) => Err(Fail::Memory),

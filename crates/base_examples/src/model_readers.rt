@@ -18,7 +18,10 @@ pub fn read_as_list(alloc: Global, bytes: &[u8]) -> Result<&'static str, Fail> {
         return Err(Fail::Row);
     }
     match read_list(alloc, bytes) {
-        Ok(_) => Ok("read"),
+        Ok(read) => {
+            drop(read);
+            Ok("read")
+        }
         Err(error) => refusal_of_text(error),
     }
 }
@@ -27,7 +30,10 @@ pub fn read_as_statements(alloc: Global, bytes: &[u8]) -> Result<&'static str, F
     requires { length bytes.now ≤ most_statements }
 {
     match parse(alloc, bytes) {
-        Ok(_) => Ok("read"),
+        Ok(read) => {
+            drop(read);
+            Ok("read")
+        }
         Err(error) => refusal_of_text(error),
     }
 }
@@ -43,18 +49,27 @@ fn refusal_of_text(error: TextError) -> Result<&'static str, Fail> {
 pub fn read_as_models(alloc: Global, bytes: &[u8]) -> Result<&'static str, Fail>
     requires { length bytes.now ≤ most_statements }
 {
+    let name = Txt::new(alloc, "m.yang")?;
     match parse(alloc, bytes) {
-        Ok(statements) => compile_one(alloc, statements),
-        Err(error) => refusal_of_text(error),
+        Ok(statements) => compile_one(alloc, name, statements),
+        Err(error) => {
+            drop(name);
+            refusal_of_text(error)
+        }
     }
 }
 
-fn compile_one(alloc: Global, statements: Statements) -> Result<&'static str, Fail>
+fn compile_one(alloc: Global, name: Txt, statements: Statements) -> Result<&'static str, Fail>
     requires { total_weight statements ≤ most_statements }
 {
-    let files = [(Txt::new(alloc, "m.yang")?, statements)];
-    match compile(alloc, &files) {
-        Ok(_) => Ok("read"),
+    let files = [(name, statements)];
+    let compiled = compile(alloc, &files);
+    drop(files);
+    match compiled {
+        Ok(models) => {
+            drop(models);
+            Ok("read")
+        }
         Err(ModelError::Fault { why, .. }) => Ok(model_why(why)),
         Err(ModelError::Memory) => Err(Fail::Memory),
     }

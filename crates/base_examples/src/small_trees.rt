@@ -2,7 +2,7 @@
 ghost use Rattle.std.specs.Prelude.{◌≡◌};
 ghost use Rattle.base_examples.specs.SmallTrees.{children_of, is_family};
 
-use example_rows::{Fail, number_at, text_at};
+use example_rows::{Fail, has, number_at, text_at, text_or};
 use host_core::{Sequence, Txt};
 use serde_json::Value;
 use std::alloc::Global;
@@ -34,23 +34,49 @@ pub struct SmallTree {
 
 /// The tree of rows, each with a `name`, the number of its `parent` and, where it is a leaf, a `text`.
 pub fn small_tree(alloc: Global, rows: &[Value]) -> Result<SmallTree, Fail> {
-    let mut nodes = Sequence::new(alloc);
+    let mut tree = SmallTree {
+        nodes: Sequence::new(alloc),
+        parents: Sequence::new(alloc),
+        texts: Sequence::new(alloc),
+        families: Sequence::new(alloc),
+    };
+    match push_all(alloc, rows, &mut tree) {
+        Ok(()) => Ok(tree),
+        Err(fail) => {
+            drop(tree);
+            Err(fail)
+        }
+    }
+}
+
+/// Adds the root, which is its own parent and has no text, and a node for each row.
+fn push_all(alloc: Global, rows: &[Value], tree: &mut SmallTree) -> Result<(), Fail> {
+    push_nodes(rows, &mut tree.nodes)?;
+    tree.parents.push(node_of(0, 0))?;
+    tree.texts.push(Txt::new(alloc, "")?)?;
+    for row in rows {
+        push_row(alloc, rows, row, tree)?;
+    }
+    Ok(())
+}
+
+/// Adds the root and the node of each row.
+fn push_nodes(rows: &[Value], nodes: &mut Sequence<Node>) -> Result<(), Fail> {
     nodes.push(node_of(0, 0))?;
     for (i, row) in rows.iter().enumerate() {
         nodes.push(node_at(i, row))?;
     }
-    let parents = parents_of(alloc, &nodes, rows)?;
-    let texts = texts_of(alloc, rows)?;
-    let mut families = Sequence::new(alloc);
-    for (row, parent) in rows.iter().zip(parents.items().iter().skip(1)) {
-        families.push(family_of(alloc, rows, row, *parent)?)?;
-    }
-    Ok(SmallTree {
-        nodes,
-        parents,
-        texts,
-        families,
-    })
+    Ok(())
+}
+
+/// Adds the parent, the text and the family of a row. The text is empty where the node is no leaf.
+fn push_row(alloc: Global, rows: &[Value], row: &Value, tree: &mut SmallTree) -> Result<(), Fail> {
+    let parent = tree.node(number_at(row, "parent")?)?;
+    tree.parents.push(parent)?;
+    let text = text_or(row, "text", "");
+    tree.texts.push(Txt::new(alloc, text)?)?;
+    tree.families.push(family_of(alloc, rows, row, parent)?)?;
+    Ok(())
 }
 
 /// The node of a level and a number.
@@ -68,42 +94,23 @@ fn node_of(level: u8, table: usize) -> Node
 
 /// The node of the row at an index.
 fn node_at(i: usize, row: &Value) -> Node {
-    let level = if row.get("text").is_some() {
-        LEAF
-    } else {
-        ELEMENT
-    };
+    let level = if has(row, "text") { LEAF } else { ELEMENT };
     node_of(level, i.saturating_add(1))
-}
-
-/// The parent of each node, that of the root being itself.
-fn parents_of(
-    alloc: Global,
-    nodes: &Sequence<Node>,
-    rows: &[Value],
-) -> Result<Sequence<Node>, Fail> {
-    let mut parents = Sequence::new(alloc);
-    parents.push(node_of(0, 0))?;
-    for row in rows {
-        let number = number_at(row, "parent")? as usize;
-        parents.push(*nodes.items().get(number).ok_or(Fail::Row)?)?;
-    }
-    Ok(parents)
-}
-
-/// The text of each node, which is empty where it is no leaf.
-fn texts_of(alloc: Global, rows: &[Value]) -> Result<Sequence<Txt>, Fail> {
-    let mut texts = Sequence::new(alloc);
-    texts.push(Txt::new(alloc, "")?)?;
-    for row in rows {
-        let text = row.get("text").and_then(Value::as_str).unwrap_or("");
-        texts.push(Txt::new(alloc, text)?)?;
-    }
-    Ok(texts)
 }
 
 /// The children with the parent and the name of a row.
 fn family_of(alloc: Global, rows: &[Value], row: &Value, parent: Node) -> Result<Family, Fail> {
+    let name = Txt::new(alloc, text_at(row, "name")?)?;
+    let children = children_at(alloc, rows, row)?;
+    Ok(Family {
+        parent,
+        name,
+        children,
+    })
+}
+
+/// The nodes of the rows that have the parent and the name of a row.
+fn children_at(alloc: Global, rows: &[Value], row: &Value) -> Result<Sequence<Node>, Fail> {
     let number = number_at(row, "parent")?;
     let name = text_at(row, "name")?;
     let mut children = Sequence::new(alloc);
@@ -112,11 +119,7 @@ fn family_of(alloc: Global, rows: &[Value], row: &Value, parent: Node) -> Result
             children.push(node_at(i, other))?;
         }
     }
-    Ok(Family {
-        parent,
-        name: Txt::new(alloc, name)?,
-        children,
-    })
+    Ok(children)
 }
 
 /// The children of a node under a name.

@@ -12,7 +12,9 @@ pub struct Splits;
 impl Table for Splits {
     fn is_as_said(&self, alloc: Global, row: &Value) -> Result<bool, Fail> {
         let patch = patch_at(alloc, row)?;
-        let told = split_told(alloc, &patch)?;
+        let told = split_told(alloc, &patch);
+        drop(patch);
+        let told = told?;
         is_written(alloc, row, "gives", &told)
     }
 }
@@ -30,7 +32,11 @@ fn patch_at(alloc: Global, row: &Value) -> Result<Patch, Fail> {
 /// What a patch is split into.
 fn split_told(alloc: Global, patch: &Patch) -> Result<Vec<u8>, Fail> {
     match split(alloc, patch) {
-        Ok(parts) => parts_told(alloc, &parts),
+        Ok(parts) => {
+            let told = parts_told(alloc, &parts);
+            drop(parts);
+            told
+        }
         Err(SplitError::BadScope { index }) => {
             let line = format!(in alloc; "bad {index}\n")?;
             Ok(line.as_bytes().to_vec(alloc)?)

@@ -11,7 +11,10 @@ use yang_pattern::{Pattern, PatternError};
 
 pub fn read_as_pointer(alloc: Global, text: &str) -> Result<&'static str, Fail> {
     match read_pointer(alloc, text) {
-        Ok(_) => Ok("read"),
+        Ok(read) => {
+            drop(read);
+            Ok("read")
+        }
         Err(PointerError::Malformed) => Ok("Malformed"),
         Err(PointerError::Memory) => Err(Fail::Memory),
     }
@@ -19,7 +22,10 @@ pub fn read_as_pointer(alloc: Global, text: &str) -> Result<&'static str, Fail> 
 
 pub fn read_as_pattern(alloc: Global, text: &str) -> Result<&'static str, Fail> {
     match Pattern::read(alloc, text) {
-        Ok(_) => Ok("read"),
+        Ok(read) => {
+            drop(read);
+            Ok("read")
+        }
         Err(PatternError::Bad { .. }) => Ok("Bad"),
         Err(PatternError::Memory) => Err(Fail::Memory),
     }
@@ -27,7 +33,10 @@ pub fn read_as_pattern(alloc: Global, text: &str) -> Result<&'static str, Fail> 
 
 pub fn read_as_expression(alloc: Global, text: &str) -> Result<&'static str, Fail> {
     match Expr::read(alloc, text) {
-        Ok(_) => Ok("read"),
+        Ok(read) => {
+            drop(read);
+            Ok("read")
+        }
         Err(ExprError::Bad { .. }) => Ok("Bad"),
         Err(ExprError::Memory) => Err(Fail::Memory),
     }
@@ -37,7 +46,10 @@ pub fn read_as_plan(alloc: Global, bytes: &[u8]) -> Result<&'static str, Fail>
     requires { length bytes.now ≤ most_bytes }
 {
     match read_plan(alloc, bytes) {
-        Ok(_) => Ok("read"),
+        Ok(read) => {
+            drop(read);
+            Ok("read")
+        }
         Err(PlanError::BadPlan { .. }) => Ok("BadPlan"),
         Err(PlanError::Memory) => Err(Fail::Memory),
     }

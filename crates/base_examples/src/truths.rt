@@ -1,6 +1,6 @@
 //! Expressions that are true or false at a node of a small tree.
 use crate::small_trees::SmallTree;
-use example_rows::{Fail, Table, number_at, text_at};
+use example_rows::{Fail, Table, number_at, text_at, truth_at};
 use serde_json::Value;
 use std::alloc::Global;
 use xpath_part::{Expr, ExprError, holds};
@@ -14,10 +14,14 @@ pub struct Truths {
 
 impl Table for Truths {
     fn is_as_said(&self, alloc: Global, row: &Value) -> Result<bool, Fail> {
-        let said = row.get("holds").and_then(Value::as_bool).ok_or(Fail::Row)?;
+        let said = truth_at(row, "holds")?;
         let at = self.tree.node(number_at(row, "at")?)?;
         match Expr::read(alloc, text_at(row, "expression")?) {
-            Ok(expr) => Ok(holds(&expr, &self.tree, at) == said),
+            Ok(expr) => {
+                let found = holds(&expr, &self.tree, at);
+                drop(expr);
+                Ok(found == said)
+            }
             Err(ExprError::Bad { .. }) => Ok(false),
             Err(ExprError::Memory) => Err(Fail::Memory),
         }

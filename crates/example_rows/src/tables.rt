@@ -18,11 +18,22 @@ pub fn tell<R: Files + Print + AllocGlobal, T: Table>(
     file: &str,
     table: &T,
 ) -> Result<(), Fail> {
-    let alloc = rt.alloc();
     let rows = read_rows(rt, file)?;
+    let told = tell_rows(rt, file, table, &rows);
+    drop(rows);
+    told
+}
+
+/// The same of these rows.
+fn tell_rows<R: Print + AllocGlobal, T: Table>(
+    rt: &R,
+    file: &str,
+    table: &T,
+    rows: &[Value],
+) -> Result<(), Fail> {
     let mut wrong = 0u64;
-    for row in &rows {
-        if !is_good(alloc, table, row)? {
+    for row in rows {
+        if !is_good(rt.alloc(), table, row)? {
             let what = text_at(row, "what")?;
             println!(rt; "{file}: not as said: {what}")?;
             wrong = wrong.saturating_add(1);
@@ -44,26 +55,26 @@ fn is_good<T: Table>(alloc: Global, table: &T, row: &Value) -> Result<bool, Fail
 /// The rows of a file.
 pub fn read_rows<R: Files + AllocGlobal>(rt: &R, file: &str) -> Result<Vec<Value>, Fail> {
     let bytes = fs::read(rt, file)?;
-    let value = match Value::from_slice(rt.alloc(), &bytes) {
-        Ok(value) => value,
-        Err(error) => return Err(why_unread(&error)),
-    };
-    match value {
-        Value::Array(rows) => Ok(rows),
-        _ => Err(Fail::Row),
+    match Value::from_slice(rt.alloc(), &bytes) {
+        Ok(Value::Array(rows)) => Ok(rows),
+        Ok(other) => {
+            drop(other);
+            Err(Fail::Row)
+        }
+        Err(error) => Err(why_unread(error)),
     }
 }
 
 /// The inputs that the rows of tables share: the last row of a file.
 pub fn read_inputs<R: Files + AllocGlobal>(rt: &R, file: &str) -> Result<Value, Fail> {
     let mut rows = read_rows(rt, file)?;
-    rows.pop().ok_or(Fail::Row)
+    let last = rows.pop();
+    drop(rows);
+    last.ok_or(Fail::Row)
 }
 
-fn why_unread(error: &serde_json::Error) -> Fail {
-    if error.is_memory() {
-        Fail::Memory
-    } else {
-        Fail::Row
-    }
+fn why_unread(error: serde_json::Error) -> Fail {
+    let is_memory = error.is_memory();
+    drop(error);
+    if is_memory { Fail::Memory } else { Fail::Row }
 }

@@ -1,18 +1,61 @@
-//! A command done with all boxes of a planner. No function hands boxes out that it makes, so each takes those
+//! What is done with all boxes of a planner. No function hands boxes out that it makes, so each takes those
 //! that are made and goes on with its own.
 ghost use Rattle.std.specs.Prelude.{◌≡◌};
 ghost use Rattle.move_core.specs.Kinds.{AreOfKinds, extender_kinds, generator_kinds};
 
+use command_runs::{Ran, Stop, run_stops};
 use gcu_engine::{Outcome, run};
 use host_core::{MemHost, Memory, Txt};
-use move_core::{Kit, MoveExt, MoveGen, kit_extenders, kit_generators, kit_rules};
+use move_core::{Boxes, Kit, MoveExt, MoveGen, kit_extenders, kit_generators, kit_rules};
 use move_extend::{DeleteExt, ReferrersExt, RequiredExt, UpperExt};
 use move_gen::{FieldGen, ItemGen, KeyGen, SeedGen, TableGen};
 use move_rules::{CreateOnlyRule, FullRule, NoDependencyRule, NoEmptyRule, RequiredRule};
 use std::alloc::Global;
 
-/// Does the command.
-pub fn obey(alloc: Global, words: &[Txt], host: &mut MemHost) -> Result<Outcome, Memory> {
+/// What is done with a kit.
+pub trait Job {
+    /// What comes of it.
+    type Done;
+
+    /// Does it.
+    fn done(self, alloc: Global, kit: &mut Kit) -> Result<Self::Done, Memory>
+        requires { ⟦<Kit as Boxes>⟧.HasKinds kit.old };
+}
+
+/// One command on a host.
+#[derive(Drop)]
+pub struct Command<'a> {
+    pub words: &'a [Txt],
+    pub host: &'a mut MemHost,
+}
+
+impl<'a> Job for Command<'a> {
+    type Done = Outcome;
+
+    fn done(self, alloc: Global, kit: &mut Kit) -> Result<Outcome, Memory> {
+        let Command { words, host } = self;
+        Ok(run(alloc, words, kit, host))
+    }
+}
+
+/// Commands one after the other, each run to its end or stopped.
+#[derive(Drop)]
+pub struct Runs {
+    pub stops: Vec<Stop>,
+    pub host: MemHost,
+}
+
+impl Job for Runs {
+    type Done = (MemHost, Vec<Ran>);
+
+    fn done(self, alloc: Global, kit: &mut Kit) -> Result<(MemHost, Vec<Ran>), Memory> {
+        let Runs { stops, host } = self;
+        run_stops(alloc, stops, kit, host)
+    }
+}
+
+/// Does what is done with a kit of all boxes.
+pub fn do_with_boxes<J: Job + Drop>(alloc: Global, job: J) -> Result<J::Done, Memory> {
     let gens = kit_generators(
         alloc,
         Box::new(alloc, TableGen::new())?,
@@ -21,16 +64,15 @@ pub fn obey(alloc: Global, words: &[Txt], host: &mut MemHost) -> Result<Outcome,
         Box::new(alloc, SeedGen::new())?,
         Box::new(alloc, ItemGen::new())?,
     )?;
-    obey_with(alloc, gens, words, host)
+    do_with(alloc, gens, job)
 }
 
 /// The same with these generators.
-fn obey_with(
+fn do_with<J: Job + Drop>(
     alloc: Global,
     gens: Vec<Box<dyn MoveGen>>,
-    words: &[Txt],
-    host: &mut MemHost,
-) -> Result<Outcome, Memory>
+    job: J,
+) -> Result<J::Done, Memory>
     requires { AreOfKinds (λ b. (MoveGen-box b).gen_kind b.value) generator_kinds gens.items }
 {
     let exts = kit_extenders(
@@ -40,17 +82,16 @@ fn obey_with(
         Box::new(alloc, ReferrersExt::new())?,
         Box::new(alloc, RequiredExt::new())?,
     )?;
-    obey_with_both(alloc, gens, exts, words, host)
+    do_with_both(alloc, gens, exts, job)
 }
 
 /// The same with these generators and extenders.
-fn obey_with_both(
+fn do_with_both<J: Job + Drop>(
     alloc: Global,
     gens: Vec<Box<dyn MoveGen>>,
     exts: Vec<Box<dyn MoveExt>>,
-    words: &[Txt],
-    host: &mut MemHost,
-) -> Result<Outcome, Memory>
+    job: J,
+) -> Result<J::Done, Memory>
     requires gens { AreOfKinds (λ b. (MoveGen-box b).gen_kind b.value) generator_kinds gens.items }
     requires exts { AreOfKinds (λ b. (MoveExt-box b).ext_kind b.value) extender_kinds exts.items }
 {
@@ -63,5 +104,7 @@ fn obey_with_both(
         Box::new(alloc, RequiredRule::new())?,
     )?;
     let mut kit = Kit { gens, exts, rules };
-    Ok(run(alloc, words, &mut kit, host))
+    let done = job.done(alloc, &mut kit);
+    drop(kit);
+    done
 }

@@ -1,8 +1,10 @@
 //! Commands that change the folder, one after the other on a host in memory.
-use crate::commands::{ends_as_said, faults_at, has_files};
-use crate::folders::{begin_restarts, empty_host, host_with, stands_for};
-use example_rows::{Fail, Table, items_at, written_at};
-use host_core::{MemHost, Pick};
+use crate::commands::ends_as_said;
+use crate::hosts::{has_files, host_at, stands_for};
+use example_rows::{
+    Fail, Table, are_names, faults_at, faults_from, has, items_at, value_at, written_at,
+};
+use host_core::{MemHost, Memory, Pick};
 use serde_json::Value;
 use std::alloc::Global;
 use std::mem;
@@ -21,8 +23,10 @@ pub struct Changes<'a> {
 impl<'a> Table for Changes<'a> {
     fn is_as_said(&self, alloc: Global, row: &Value) -> Result<bool, Fail> {
         let faults = faults_at(alloc, row)?;
-        let mut host = host_with(alloc, self.inputs, row, faults)?;
-        do_all(alloc, row, &mut host)
+        let mut host = host_at(alloc, Some(self.inputs), row, faults)?;
+        let done = do_all(alloc, row, &mut host);
+        drop(host);
+        done
     }
 }
 
@@ -39,7 +43,7 @@ fn do_others(
     host: &mut MemHost,
     said: &mut Vec<u8>,
 ) -> Result<bool, Fail> {
-    if row.get("then").is_none() {
+    if !has(row, "then") {
         return Ok(true);
     }
     for other in items_at(row, "then")? {
@@ -59,11 +63,18 @@ fn does(alloc: Global, row: &Value, host: &mut MemHost, said: &mut Vec<u8>) -> R
     Ok(same_status && same_output && leaves(alloc, row, host)?)
 }
 
+/// A host with nothing, of which no call fails.
+fn empty_host(alloc: Global) -> Result<MemHost, Memory> {
+    let faults = faults_from(alloc, None);
+    MemHost::new(alloc, Vec::new(alloc), Vec::new(alloc), faults)
+}
+
 /// A crash that loses nothing.
 fn crash(alloc: Global, host: &mut MemHost) -> Result<(), Fail> {
     let other = empty_host(alloc)?;
     let done = mem::replace(host, other);
-    *host = done.crash(alloc, &Pick::After)?;
+    let crashed = done.crash(alloc, &Pick::After)?;
+    drop(mem::replace(host, crashed));
     Ok(())
 }
 
@@ -78,18 +89,17 @@ fn push_output(alloc: Global, row: &Value, said: &mut Vec<u8>) -> Result<(), Fai
 fn leaves(alloc: Global, row: &Value, host: &mut MemHost) -> Result<bool, Fail> {
     let restarted = has_restarts(row, host)?;
     let same_files = has_files(alloc, row, host)?;
-    match row.get("stands") {
-        Some(said) => Ok(stands_for(alloc, host, said)? && restarted && same_files),
-        None => Ok(restarted && same_files),
+    if !has(row, "stands") {
+        return Ok(restarted && same_files);
     }
+    let stands = stands_for(alloc, host, value_at(row, "stands")?)?;
+    Ok(stands && restarted && same_files)
 }
 
-/// Whether these services were restarted since the first command.
+/// Whether these services were restarted since the first command, where the row says which.
 fn has_restarts(row: &Value, host: &MemHost) -> Result<bool, Fail> {
-    if row.get("restarts").is_none() {
+    if !has(row, "restarts") {
         return Ok(true);
     }
-    let restarts = host.restarts();
-    let as_many = restarts.len() == items_at(row, "restarts")?.len();
-    Ok(as_many && begin_restarts(row, restarts)?)
+    Ok(are_names(items_at(row, "restarts")?, host.restarts()))
 }

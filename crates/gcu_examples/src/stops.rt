@@ -1,8 +1,10 @@
 //! Commands that are stopped at each call of a host in memory, and crash then in each way.
-use crate::commands::{has_files, is_written, obey_row};
-use crate::folders::{begin_restarts, host_with, stands_for};
-use example_rows::{Fail, Table, items_at, written_at};
-use host_core::{Faults, MemHost, Pick, Sequence};
+use crate::hosts::{has_files, host_at, obey_row, stands_for};
+use crate::runs::pick_named;
+use example_rows::{
+    Fail, Table, faults_from, has, is_word, is_written, items_at, names_in, value_at, written_at,
+};
+use host_core::{MemHost, Names, Pick, Sequence};
 use serde_json::Value;
 use std::alloc::Global;
 
@@ -17,8 +19,8 @@ pub struct Stops<'a> {
     pub inputs: &'a Value,
 }
 
-/// In how many ways a crash picks what is left.
-const WAYS: u64 = 4;
+/// How a crash picks what is left.
+const WAYS: [&str; 4] = ["Gone", "half", "Before", "After"];
 
 impl<'a> Table for Stops<'a> {
     fn is_as_said(&self, alloc: Global, row: &Value) -> Result<bool, Fail> {
@@ -37,22 +39,34 @@ impl<'a> Table for Stops<'a> {
 impl<'a> Stops<'a> {
     /// The host after the command, of whose calls none is done from that one on.
     fn stopped_at(&self, alloc: Global, row: &Value, from: Option<u64>) -> Result<MemHost, Fail> {
-        let at = Sequence::new(alloc);
-        let faults = Faults { at, from };
-        let mut host = host_with(alloc, self.inputs, row, faults)?;
-        let _outcome = obey_row(alloc, row, &mut host)?;
-        Ok(host)
+        let faults = faults_from(alloc, from);
+        let mut host = host_at(alloc, Some(self.inputs), row, faults)?;
+        match obey_row(alloc, row, &mut host) {
+            Ok(_) => Ok(host),
+            Err(fail) => {
+                drop(host);
+                Err(fail)
+            }
+        }
     }
 
     /// How many calls the command makes where it is not stopped, if it prints then what the row says.
     fn calls_done(&self, alloc: Global, row: &Value) -> Result<Option<u64>, Fail> {
         let host = self.stopped_at(alloc, row, None)?;
-        let as_said = is_whole_output(alloc, row, host.output())?;
-        Ok(if as_said { Some(host.calls()) } else { None })
+        let calls = host.calls();
+        let as_said = is_whole_output(alloc, row, host.output());
+        drop(host);
+        Ok(if as_said? { Some(calls) } else { None })
     }
 
     /// The host after the command stopped at that call, and a crash in that way.
-    fn crashed_at(&self, alloc: Global, row: &Value, from: u64, way: u64) -> Result<MemHost, Fail> {
+    fn crashed_at(
+        &self,
+        alloc: Global,
+        row: &Value,
+        from: u64,
+        way: &str,
+    ) -> Result<MemHost, Fail> {
         let pick = pick(alloc, way)?;
         let host = self.stopped_at(alloc, row, Some(from))?;
         Ok(host.crash(alloc, &pick)?)
@@ -66,13 +80,15 @@ impl<'a> Stops<'a> {
         from: u64,
     ) -> Result<Option<usize>, Fail> {
         let host = self.stopped_at(alloc, row, Some(from))?;
-        acknowledged(alloc, row, host.output())
+        let done = acknowledged(alloc, row, host.output());
+        drop(host);
+        done
     }
 
     /// Whether each crash at that call leaves what the row says.
     fn is_safe_at(&self, alloc: Global, row: &Value, from: u64) -> Result<bool, Fail> {
         let done = self.acknowledged_at(alloc, row, from)?;
-        for way in 0..WAYS {
+        for way in WAYS {
             if !self.is_safe_in(alloc, row, from, way, done)? {
                 return Ok(false);
             }
@@ -86,11 +102,13 @@ impl<'a> Stops<'a> {
         alloc: Global,
         row: &Value,
         from: u64,
-        way: u64,
+        way: &str,
         done: Option<usize>,
     ) -> Result<bool, Fail> {
         let mut left = self.crashed_at(alloc, row, from, way)?;
-        is_safe(alloc, row, &mut left, done)
+        let safe = is_safe(alloc, row, &mut left, done);
+        drop(left);
+        safe
     }
 }
 
@@ -107,19 +125,26 @@ fn is_safe(
     Ok(restarted && same_files && stands)
 }
 
-/// How a crash picks what is left.
-fn pick(alloc: Global, way: u64) -> Result<Pick, Fail> {
+/// How a crash picks what is left: it leaves a file of some bytes, or as the word says.
+fn pick(alloc: Global, way: &str) -> Result<Pick, Fail> {
     match way {
-        0 => Ok(Pick::Gone),
-        1 => half_pick(alloc),
-        2 => Ok(Pick::Before),
-        _ => Ok(Pick::After),
+        "half" => {
+            let half = way.as_bytes().to_vec(alloc)?;
+            Ok(Pick::Bytes(Sequence::from_vec(half)))
+        }
+        _ => pick_named(way),
     }
 }
 
-fn half_pick(alloc: Global) -> Result<Pick, Fail> {
-    let half = b"half".to_vec(alloc)?;
-    Ok(Pick::Bytes(Sequence::from_vec(half)))
+/// Whether these services begin the `restarts` of the row.
+fn begin_restarts(row: &Value, restarts: &Names) -> Result<bool, Fail> {
+    let said = items_at(row, "restarts")?;
+    for (name, text) in restarts.items().iter().zip(said) {
+        if !is_word(text, name.as_str()) {
+            return Ok(false);
+        }
+    }
+    Ok(restarts.len() <= said.len())
 }
 
 /// Whether that is what the command prints where it is not stopped.
@@ -189,12 +214,14 @@ fn is_config(alloc: Global, host: &mut MemHost, config: Option<&Value>) -> Resul
 
 /// Whether the files that are whole or not there are so.
 fn are_whole(alloc: Global, row: &Value, host: &MemHost) -> Result<bool, Fail> {
-    let Some(whole) = row.get("whole") else {
+    if !has(row, "whole") {
         return Ok(true);
-    };
-    for (name, _) in whole.as_object().ok_or(Fail::Row)? {
-        if let Some(bytes) = host.file(name.as_str()) {
-            if !is_written(alloc, whole, name.as_str(), bytes)? {
+    }
+    let whole = value_at(row, "whole")?;
+    let names = names_in(alloc, whole)?;
+    for name in &names {
+        if let Some(bytes) = host.file(*name) {
+            if !is_written(alloc, whole, *name, bytes)? {
                 return Ok(false);
             }
         }

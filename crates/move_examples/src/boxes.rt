@@ -5,11 +5,12 @@ ghost use Rattle.move_core.specs.Moves.{IsDefined};
 ghost use Rattle.move_examples.specs.Situations.{IsReady};
 
 use crate::kits::{KitTable, ask_full};
-use crate::move_texts::{Lines, are_lines, line_of, move_text, place_text, push_word};
+use crate::move_texts::{Lines, are_lines, move_text, place_text};
 use crate::ranks::class_name;
 use crate::situations::{Situation, situation_at};
 use conf_doc::Config;
-use example_rows::{Fail, Table, items_at, text_bytes};
+use example_rows::{Fail, Table, has, is_text, items_at, line_of, push_word, value_at};
+use host_core::Memory;
 use move_core::{Boxes as KitBoxes, Generated, Kit, Move, Moves, listed_moves_are_defined, step};
 use move_lists::listed;
 use serde_json::Value;
@@ -31,7 +32,9 @@ pub struct Boxes<'a> {
 impl<'a> Table for Boxes<'a> {
     fn is_as_said(&self, alloc: Global, row: &Value) -> Result<bool, Fail> {
         let situation = situation_at(alloc, self.inputs, row)?;
-        ask_full(alloc, self, &situation, row)
+        let as_said = ask_full(alloc, self, &situation, row);
+        drop(situation);
+        as_said
     }
 }
 
@@ -46,7 +49,9 @@ impl<'a> KitTable for Boxes<'a> {
         let said = items_at(row, "moves")?;
         let same = are_generated(alloc, situation, kit, items_at(row, "generated")?)?;
         let moves = listed_moves(alloc, situation, kit)?;
-        Ok(are_moves(alloc, situation, kit, moves.items(), said)? && same)
+        let as_said = are_moves(alloc, situation, kit, moves.items(), said);
+        drop(moves);
+        Ok(as_said? && same)
     }
 }
 
@@ -126,9 +131,23 @@ fn generate(
 {
     let Situation { ctx, cur, goal, .. } = situation;
     let mut out = Vec::new(alloc);
-    kit.moves_at(alloc, i, ctx, cur, goal, &mut out)?;
-    for generated in &out {
-        lines.push(generated_line(alloc, KINDS[i], generated)?)?;
+    let pushed = match kit.moves_at(alloc, i, ctx, cur, goal, &mut out) {
+        Ok(()) => push_generated(alloc, KINDS[i], &out, lines),
+        Err(Memory) => Err(Fail::Memory),
+    };
+    drop(out);
+    pushed
+}
+
+/// Adds a line for each of the moves of a generator.
+fn push_generated(
+    alloc: Global,
+    kind: &str,
+    moves: &[Generated],
+    lines: &mut Lines,
+) -> Result<(), Fail> {
+    for generated in moves {
+        lines.push(generated_line(alloc, kind, generated)?)?;
     }
     Ok(())
 }
@@ -199,7 +218,7 @@ fn is_followed(
     if !is_move(alloc, mv, row)? {
         return Ok(false);
     }
-    if row.get("extensions").is_none() {
+    if !has(row, "extensions") {
         return Ok(true);
     }
     let said = items_at(row, "extensions")?;
@@ -209,9 +228,8 @@ fn is_followed(
 
 /// Whether a move is that of a row.
 fn is_move(alloc: Global, mv: &Move, row: &Value) -> Result<bool, Fail> {
-    let said = text_bytes(alloc, row, "move")?;
     let text = move_text(alloc, mv)?;
-    Ok(text == said)
+    is_text(alloc, row, "move", &text)
 }
 
 /// What all extenders give, a line each.
@@ -267,9 +285,23 @@ fn extend(
 {
     let Situation { ctx, cur, goal, .. } = situation;
     let mut out = Vec::new(alloc);
-    kit.extend_at(alloc, i, ctx, cur, goal, mv, &mut out)?;
-    for extension in &out {
-        lines.push(extension_line(alloc, KINDS[i], extension)?)?;
+    let pushed = match kit.extend_at(alloc, i, ctx, cur, goal, mv, &mut out) {
+        Ok(()) => push_extensions(alloc, KINDS[i], &out, lines),
+        Err(Memory) => Err(Fail::Memory),
+    };
+    drop(out);
+    pushed
+}
+
+/// Adds a line for each of the moves of an extender.
+fn push_extensions(
+    alloc: Global,
+    kind: &str,
+    moves: &[Move],
+    lines: &mut Lines,
+) -> Result<(), Fail> {
+    for extension in moves {
+        lines.push(extension_line(alloc, kind, extension)?)?;
     }
     Ok(())
 }
@@ -318,8 +350,10 @@ fn is_judged(
     ensures fits { ⟦<Kit as KitBoxes>⟧.IsFit kit.new situation.now.ctx.models }
 {
     let next = step(alloc, &situation.cur, mv)?;
-    let same = next.same(&situation.cur) == row.get("same").is_some();
-    Ok(are_refusals(alloc, situation, kit, &next, mv, row)? && same)
+    let same = next.same(&situation.cur) == has(row, "same");
+    let refused = are_refusals(alloc, situation, kit, &next, mv, row);
+    drop(next);
+    Ok(refused? && same)
 }
 
 /// Whether the rules that refuse a move with that result are those of its row.
@@ -340,7 +374,7 @@ fn are_refusals(
 {
     let mut refused = Vec::new(alloc);
     judge_all(situation, kit, next, mv, &mut refused)?;
-    let said = line_of(alloc, row.get("refused").ok_or(Fail::Row)?)?;
+    let said = line_of(alloc, value_at(row, "refused")?)?;
     Ok(refused == said)
 }
 

@@ -2,11 +2,10 @@
 ghost use Rattle.std.specs.Prelude.{IfOk, OnOk};
 ghost use Rattle.move_examples.specs.Situations.{AreSmall, IsSmall};
 
-use example_rows::{Fail, items_at, read_rows, text_at, written_at};
+use example_rows::{Fail, items_at, text_at, text_of, value_at, written_at};
 use host_core::{Sequence, Txt};
 use serde_json::Value;
 use std::alloc::Global;
-use std::rt::Files;
 use yang_model::{ModelError, Models, compile};
 use yang_text::{Statements, TextError, parse};
 
@@ -19,19 +18,28 @@ const MODEL_LIMIT: usize = 1_048_576;
 /// Statements, each text with its name.
 type Texts = Sequence<(Txt, Statements)>;
 
-/// The inputs that the rows share: the first row of a file.
-pub fn read_inputs<R: Files + AllocGlobal>(rt: &R, file: &str) -> Result<Value, Fail> {
-    let mut rows = read_rows(rt, file)?;
-    rows.pop().ok_or(Fail::Row)
-}
-
 /// The models that a row names: those of the texts that the list of that name has.
 pub fn models_at(alloc: Global, inputs: &Value, row: &Value) -> Result<Models, Fail> {
-    let lists = inputs.get("models").ok_or(Fail::Row)?;
+    let lists = value_at(inputs, "models")?;
     let names = items_at(lists, text_at(row, "models")?)?;
-    let texts = inputs.get("texts").ok_or(Fail::Row)?;
-    let texts = read_texts(alloc, texts, Sequence::new(alloc), names)?;
-    models_of(alloc, &texts)
+    let texts = value_at(inputs, "texts")?;
+    let mut read = Sequence::new(alloc);
+    let models = read_models(alloc, texts, &mut read, names);
+    drop(read);
+    models
+}
+
+/// The models of the texts of some names, whose statements are kept beside.
+fn read_models(
+    alloc: Global,
+    texts: &Value,
+    read: &mut Texts,
+    names: &[Value],
+) -> Result<Models, Fail>
+    requires { AreSmall read.old }
+{
+    read_texts(alloc, texts, read, names)?;
+    models_of(alloc, read)
 }
 
 /// The models of some texts.
@@ -48,15 +56,15 @@ fn models_of(alloc: Global, texts: &Texts) -> Result<Models, Fail>
     }
 }
 
-/// The statements of the texts of some names, behind those that were read before.
-fn read_texts(alloc: Global, texts: &Value, mut read: Texts, names: &[Value]) -> Result<Texts, Fail>
-    requires { AreSmall read }
-    ensures { IfOk result AreSmall }
+/// Adds the statements of the texts of some names.
+fn read_texts(alloc: Global, texts: &Value, read: &mut Texts, names: &[Value]) -> Result<(), Fail>
+    requires { AreSmall read.old }
+    ensures { OnOk result (AreSmall read.new) }
 {
     match names {
-        [] => Ok(read),
+        [] => Ok(()),
         [name, rest @ ..] => {
-            push_text(alloc, texts, &mut read, name)?;
+            push_text(alloc, texts, read, name)?;
             read_texts(alloc, texts, read, rest)
         }
     }
@@ -67,10 +75,10 @@ fn push_text(alloc: Global, texts: &Value, read: &mut Texts, name: &Value) -> Re
     requires { AreSmall read.old }
     ensures { OnOk result (AreSmall read.new) }
 {
-    let name = name.as_str().ok_or(Fail::Row)?;
+    let name = text_of(name)?;
+    let key = Txt::new(alloc, name)?;
     let statements = read_text(alloc, texts, name)?;
-    let name = Txt::new(alloc, name)?;
-    read.push((name, statements))?;
+    read.push((key, statements))?;
     Ok(())
 }
 

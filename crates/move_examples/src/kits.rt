@@ -1,7 +1,9 @@
-//! Kits of all boxes, with one or the other first rule.
+//! Kits of all boxes, with one or the other first rule, whose boxes count how often they are asked. Who makes
+//! a box may not hand it out, so each function here passes what it made on to the next one.
 ghost use Rattle.move_core.specs.Kinds.{AreOfKinds, generator_kinds, rule_kinds};
 ghost use Rattle.move_examples.specs.Situations.{IsReady};
 
+use crate::counted::{Counters, Tally, counting_box};
 use crate::situations::Situation;
 use example_rows::Fail;
 use move_core::{Boxes, Kit, MoveGen, MoveRule, kit_extenders, kit_generators, kit_rules};
@@ -35,15 +37,10 @@ pub fn ask_full<T: KitTable>(
 ) -> Result<bool, Fail>
     requires { IsReady situation.now }
 {
-    let rules = kit_rules(
-        alloc,
-        Box::new(alloc, FullRule::new())?,
-        Box::new(alloc, NoDependencyRule::new())?,
-        Box::new(alloc, NoEmptyRule::new())?,
-        Box::new(alloc, CreateOnlyRule::new())?,
-        Box::new(alloc, RequiredRule::new())?,
-    )?;
-    ask_rules(alloc, rules, table, situation, row)
+    let mut tally = Tally::new(alloc);
+    let said = ask_counted(alloc, &mut tally, table, situation, row);
+    drop(tally);
+    said
 }
 
 /// Asks a kit whose first rule looks at what changed.
@@ -55,20 +52,60 @@ pub fn ask_recheck<T: KitTable>(
 ) -> Result<bool, Fail>
     requires { IsReady situation.now }
 {
+    let mut tally = Tally::new(alloc);
+    let said = ask_rechecking(alloc, &mut tally, table, situation, row);
+    drop(tally);
+    said
+}
+
+/// Asks a kit whose first rule looks at the whole configuration, with the counters of a tally.
+pub fn ask_counted<T: KitTable>(
+    alloc: Global,
+    tally: &mut Tally,
+    table: &T,
+    situation: &Situation,
+    row: &Value,
+) -> Result<bool, Fail>
+    requires { IsReady situation.now }
+{
+    let all = &mut tally.rules;
     let rules = kit_rules(
         alloc,
-        Box::new(alloc, RecheckRule::new(alloc))?,
-        Box::new(alloc, NoDependencyRule::new())?,
-        Box::new(alloc, NoEmptyRule::new())?,
-        Box::new(alloc, CreateOnlyRule::new())?,
-        Box::new(alloc, RequiredRule::new())?,
+        counting_box(alloc, FullRule::new(), all)?,
+        counting_box(alloc, NoDependencyRule::new(), all)?,
+        counting_box(alloc, NoEmptyRule::new(), all)?,
+        counting_box(alloc, CreateOnlyRule::new(), all)?,
+        counting_box(alloc, RequiredRule::new(), all)?,
     )?;
-    ask_rules(alloc, rules, table, situation, row)
+    ask_rules(alloc, tally, rules, table, situation, row)
+}
+
+/// The same with the first rule that looks at what changed.
+fn ask_rechecking<T: KitTable>(
+    alloc: Global,
+    tally: &mut Tally,
+    table: &T,
+    situation: &Situation,
+    row: &Value,
+) -> Result<bool, Fail>
+    requires { IsReady situation.now }
+{
+    let all = &mut tally.rules;
+    let rules = kit_rules(
+        alloc,
+        counting_box(alloc, RecheckRule::new(alloc), all)?,
+        counting_box(alloc, NoDependencyRule::new(), all)?,
+        counting_box(alloc, NoEmptyRule::new(), all)?,
+        counting_box(alloc, CreateOnlyRule::new(), all)?,
+        counting_box(alloc, RequiredRule::new(), all)?,
+    )?;
+    ask_rules(alloc, tally, rules, table, situation, row)
 }
 
 /// Asks a kit with these rules.
 fn ask_rules<T: KitTable>(
     alloc: Global,
+    tally: &mut Tally,
     rules: Vec<Box<dyn MoveRule>>,
     table: &T,
     situation: &Situation,
@@ -77,20 +114,30 @@ fn ask_rules<T: KitTable>(
     requires rules { AreOfKinds (λ b. (MoveRule-box b).rule_kind b.value) rule_kinds rules.items }
     requires ready { IsReady situation.now }
 {
+    let all = &mut tally.generators;
     let gens = kit_generators(
         alloc,
-        Box::new(alloc, TableGen::new())?,
-        Box::new(alloc, KeyGen::new())?,
-        Box::new(alloc, FieldGen::new())?,
-        Box::new(alloc, SeedGen::new())?,
-        Box::new(alloc, ItemGen::new())?,
+        counting_box(alloc, TableGen::new(), all)?,
+        counting_box(alloc, KeyGen::new(), all)?,
+        counting_box(alloc, FieldGen::new(), all)?,
+        counting_box(alloc, SeedGen::new(), all)?,
+        counting_box(alloc, ItemGen::new(), all)?,
     )?;
-    ask_both(alloc, gens, rules, table, situation, row)
+    ask_both(
+        alloc,
+        &mut tally.extenders,
+        gens,
+        rules,
+        table,
+        situation,
+        row,
+    )
 }
 
 /// Asks a kit with these generators and rules.
 fn ask_both<T: KitTable>(
     alloc: Global,
+    all: &mut Counters,
     gens: Vec<Box<dyn MoveGen>>,
     rules: Vec<Box<dyn MoveRule>>,
     table: &T,
@@ -103,11 +150,13 @@ fn ask_both<T: KitTable>(
 {
     let exts = kit_extenders(
         alloc,
-        Box::new(alloc, UpperExt::new())?,
-        Box::new(alloc, DeleteExt::new())?,
-        Box::new(alloc, ReferrersExt::new())?,
-        Box::new(alloc, RequiredExt::new())?,
+        counting_box(alloc, UpperExt::new(), all)?,
+        counting_box(alloc, DeleteExt::new(), all)?,
+        counting_box(alloc, ReferrersExt::new(), all)?,
+        counting_box(alloc, RequiredExt::new(), all)?,
     )?;
     let mut kit = Kit { gens, exts, rules };
-    table.is_said_by(alloc, &mut kit, situation, row)
+    let said = table.is_said_by(alloc, &mut kit, situation, row);
+    drop(kit);
+    said
 }

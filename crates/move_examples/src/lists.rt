@@ -24,7 +24,9 @@ pub struct Lists<'a> {
 impl<'a> Table for Lists<'a> {
     fn is_as_said(&self, alloc: Global, row: &Value) -> Result<bool, Fail> {
         let situation = situation_at(alloc, self.inputs, row)?;
-        ask_full(alloc, self, &situation, row)
+        let as_said = ask_full(alloc, self, &situation, row);
+        drop(situation);
+        as_said
     }
 }
 
@@ -70,8 +72,12 @@ fn is_part(
         goal,
     } = situation;
     let firsts = first_moves(alloc, ctx, kit, start, cur, goal)?;
-    let moves = listed_in_part(alloc, ctx, kit, start, cur, goal, &firsts, part)?;
-    are_texts(alloc, &moves, said, Some(part))
+    let found = listed_in_part(alloc, ctx, kit, start, cur, goal, &firsts, part);
+    drop(firsts);
+    let moves = found?;
+    let same = are_texts(alloc, &moves, said, Some(part));
+    drop(moves);
+    same
 }
 
 /// Whether the whole list is what is said, and so are the ranks.
@@ -91,7 +97,9 @@ fn is_list(
         goal,
     } = situation;
     let moves = listed(alloc, ctx, kit, start, cur, goal)?;
-    are_listed(alloc, moves.items(), said)
+    let same = are_listed(alloc, moves.items(), said);
+    drop(moves);
+    same
 }
 
 fn are_listed(alloc: Global, moves: &[Move], said: &[Value]) -> Result<bool, Fail> {
@@ -139,10 +147,24 @@ fn part_said(row: &Value) -> Result<u8, Fail> {
 /// Whether the moves with the ranks that are said are in order.
 fn are_ranked(alloc: Global, moves: &[Move], said: &[Value]) -> Result<bool, Fail> {
     let mut ranked = Vec::new(alloc);
+    let pushed = push_ranked(alloc, moves, said, &mut ranked);
+    let in_order = are_in_order(&ranked);
+    drop(ranked);
+    pushed?;
+    Ok(in_order)
+}
+
+/// Adds the moves with the ranks that are said.
+fn push_ranked(
+    alloc: Global,
+    moves: &[Move],
+    said: &[Value],
+    ranked: &mut Vec<Ranked>,
+) -> Result<(), Fail> {
     for (mv, row) in moves.iter().zip(said) {
         ranked.push(ranked_copy(alloc, mv, row)?)?;
     }
-    Ok(are_in_order(&ranked))
+    Ok(())
 }
 
 fn ranked_copy(alloc: Global, mv: &Move, row: &Value) -> Result<Ranked, Fail> {

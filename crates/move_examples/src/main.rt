@@ -2,6 +2,7 @@
 #![tactic(auto)]
 
 mod boxes;
+mod counted;
 mod counts;
 mod inputs;
 mod kits;
@@ -17,26 +18,34 @@ mod situations;
 
 use boxes::Boxes;
 use counts::Counts;
-use example_rows::{Fail, tell};
-use inputs::read_inputs;
+use example_rows::{Fail, read_inputs, tell};
 use lists::Lists;
 use operators::Operators;
 use orders::Orders;
 use plans::Plans;
 use rechecks::Rechecks;
 use rules_files::RulesFiles;
+use serde_json::Value;
+use std::rt::Files;
 
 fn main(rt: HostRuntime) -> Result<(), Fail> {
     tell(&rt, "rules_files.json", &RulesFiles)?;
     tell(&rt, "orders.json", &Orders)?;
     let inputs = read_inputs(&rt, "inputs.json")?;
-    tell(&rt, "boxes.json", &Boxes { inputs: &inputs })?;
-    tell(&rt, "item_boxes.json", &Boxes { inputs: &inputs })?;
-    tell(&rt, "lists.json", &Lists { inputs: &inputs })?;
-    tell(&rt, "item_lists.json", &Lists { inputs: &inputs })?;
-    tell(&rt, "plans.json", &Plans { inputs: &inputs })?;
-    tell(&rt, "item_plans.json", &Plans { inputs: &inputs })?;
-    tell(&rt, "rechecks.json", &Rechecks { inputs: &inputs })?;
-    tell(&rt, "counts.json", &Counts { inputs: &inputs })?;
-    tell(&rt, "operators.json", &Operators { inputs: &inputs })
+    let told = tell_situations(&rt, &inputs);
+    drop(inputs);
+    told
+}
+
+/// Asks the rows that share models and rules.
+fn tell_situations<R: Files + Print + AllocGlobal>(rt: &R, inputs: &Value) -> Result<(), Fail> {
+    tell(rt, "boxes.json", &Boxes { inputs })?;
+    tell(rt, "item_boxes.json", &Boxes { inputs })?;
+    tell(rt, "lists.json", &Lists { inputs })?;
+    tell(rt, "item_lists.json", &Lists { inputs })?;
+    tell(rt, "plans.json", &Plans { inputs })?;
+    tell(rt, "item_plans.json", &Plans { inputs })?;
+    tell(rt, "rechecks.json", &Rechecks { inputs })?;
+    tell(rt, "counts.json", &Counts { inputs })?;
+    tell(rt, "operators.json", &Operators { inputs })
 }

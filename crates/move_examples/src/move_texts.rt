@@ -1,6 +1,6 @@
 //! Moves as the texts of their operations, and lines that rows say.
 use conf_doc::{Path, pointer_of};
-use example_rows::Fail;
+use example_rows::{Fail, line_of};
 use host_core::{Memory, Names, Txt};
 use move_core::{Move, operation_of};
 use patch_core::operation_bytes;
@@ -13,7 +13,9 @@ pub type Lines = Vec<Vec<u8>>;
 /// The compact text of a move's operation.
 pub fn move_text(alloc: Global, mv: &Move) -> Result<Vec<u8>, Memory> {
     let operation = operation_of(alloc, mv)?;
-    operation_bytes(alloc, &operation)
+    let text = operation_bytes(alloc, &operation);
+    drop(operation);
+    text
 }
 
 /// The compact texts of moves' operations.
@@ -25,40 +27,32 @@ pub fn move_texts(alloc: Global, moves: &[Move]) -> Result<Lines, Memory> {
     Ok(texts)
 }
 
-/// A line of what a list has: its texts as they are, and the compact text of all else.
-pub fn line_of(alloc: Global, list: &Value) -> Result<Vec<u8>, Fail> {
-    let mut line = Vec::new(alloc);
-    let Value::Array(words) = list else {
-        return Err(Fail::Row);
-    };
-    for word in words {
-        match word {
-            Value::String(text) => push_word(&mut line, text.as_bytes())?,
-            other => push_word(&mut line, &other.to_vec(alloc)?)?,
-        }
-    }
-    Ok(line)
-}
-
-/// Adds a word, behind a blank where it isn't the first.
-pub fn push_word(line: &mut Vec<u8>, word: &[u8]) -> Result<(), Fail> {
-    if !line.is_empty() {
-        line.push(b' ')?;
-    }
-    line.extend_from_slice(word)?;
-    Ok(())
-}
-
 /// Whether the lines are those that are said, in any order.
 pub fn are_lines(alloc: Global, found: Lines, said: &[Value]) -> Result<bool, Fail> {
+    let mut found = found;
     let mut lines = Vec::new(alloc);
+    let same = match push_lines(alloc, said, &mut lines) {
+        Ok(()) => are_same(&mut found, &mut lines),
+        Err(fail) => Err(fail),
+    };
+    drop(lines);
+    drop(found);
+    same
+}
+
+/// Adds the lines that are said.
+fn push_lines(alloc: Global, said: &[Value], lines: &mut Lines) -> Result<(), Fail> {
     for list in said {
         lines.push(line_of(alloc, list)?)?;
     }
-    let mut found = found;
-    found.sort()?;
-    lines.sort()?;
-    Ok(found == lines)
+    Ok(())
+}
+
+/// Whether two lists have the same lines. They are sorted then.
+fn are_same(some: &mut Lines, others: &mut Lines) -> Result<bool, Fail> {
+    some.sort()?;
+    others.sort()?;
+    Ok(*some == *others)
 }
 
 /// The pointer to a place.

@@ -5,11 +5,13 @@ ghost use Rattle.move_core.specs.Plans.{IsPlan};
 ghost use Rattle.sessions.specs.Worlds.{session_of};
 
 use crate::kits::{KitTable, ask_recheck};
-use crate::move_texts::{line_of, move_text, push_word};
+use crate::move_texts::move_text;
 use crate::plans::{AMPLE, budget_of, find_plan};
 use crate::situations::{Situation, ctx_at, situation_at, valid_at};
 use conf_doc::Config;
-use example_rows::{Fail, Table, items_at, number_at, text_at};
+use example_rows::{
+    Fail, Table, byte_at, has, is_word, items_at, line_of, number_at, push_word, text_at, value_at,
+};
 use move_core::{Boxes, Kit, Plan};
 use plan_search::SearchError;
 use serde_json::Value;
@@ -33,7 +35,9 @@ type Aim = Result<(Config, Plan), u8>;
 impl<'a> Table for Operators<'a> {
     fn is_as_said(&self, alloc: Global, row: &Value) -> Result<bool, Fail> {
         let situation = situation_at(alloc, self.inputs, row)?;
-        ask_recheck(alloc, self, &situation, row)
+        let as_said = ask_recheck(alloc, self, &situation, row);
+        drop(situation);
+        as_said
     }
 }
 
@@ -46,7 +50,9 @@ impl<'a> KitTable for Operators<'a> {
         row: &Value,
     ) -> Result<bool, Fail> {
         let mut world = opened_world(alloc, self.inputs, row)?;
-        is_run(alloc, &mut world, kit, situation, row)
+        let as_said = is_run(alloc, &mut world, kit, situation, row);
+        drop(world);
+        as_said
     }
 }
 
@@ -55,8 +61,17 @@ fn opened_world(alloc: Global, inputs: &Value, row: &Value) -> Result<World, Fai
     ensures { IfOk result (λ w. IsNamed w.ctx) }
 {
     let ctx = ctx_at(alloc, inputs, row)?;
-    let config = valid_at(alloc, &ctx, row, "cur")?;
-    Ok(World::new(alloc, ctx, &config)?)
+    match valid_at(alloc, &ctx, row, "cur") {
+        Ok(config) => {
+            let world = World::new(alloc, ctx, &config);
+            drop(config);
+            Ok(world?)
+        }
+        Err(fail) => {
+            drop(ctx);
+            Err(fail)
+        }
+    }
 }
 
 /// Whether the events of a row have the replies, the commits and the configuration that it says.
@@ -78,7 +93,7 @@ fn is_run(
 
 /// The budget of a row, or an ample one.
 fn budget_at(row: &Value) -> Result<u64, Fail> {
-    if row.get("budget").is_some() {
+    if has(row, "budget") {
         number_at(row, "budget")
     } else {
         Ok(u64::from(AMPLE))
@@ -88,7 +103,7 @@ fn budget_at(row: &Value) -> Result<u64, Fail> {
 /// Whether commits are of sessions of these names.
 fn are_names(commits: &Commits, said: &[Value]) -> bool {
     for (commit, said) in commits.items().iter().zip(said) {
-        if said.as_str() != Some(commit.name.as_str()) {
+        if !is_word(said, commit.name.as_str()) {
             return false;
         }
     }
@@ -131,12 +146,14 @@ fn is_told(
     ensures ctx { world.new.ctx ≡ world.old.ctx }
 {
     let reply = reply_to(alloc, world, kit, budget, event)?;
-    is_reply(alloc, &reply, event)
+    let same = is_reply(alloc, &reply, event);
+    drop(reply);
+    same
 }
 
 /// Whether a reply is the one of an event.
 fn is_reply(alloc: Global, reply: &Reply, event: &Value) -> Result<bool, Fail> {
-    let said = line_of(alloc, event.get("reply").ok_or(Fail::Row)?)?;
+    let said = line_of(alloc, value_at(event, "reply")?)?;
     Ok(reply_line(alloc, reply)? == said)
 }
 
@@ -154,13 +171,13 @@ fn reply_to(
     ensures kinds { ⟦<Kit as Boxes>⟧.HasKinds kit.new }
     ensures ctx { world.new.ctx ≡ world.old.ctx }
 {
-    if event.get("begin").is_some() {
+    if has(event, "begin") {
         return begin(alloc, world, kit, budget, event);
     }
-    if event.get("retarget").is_some() {
+    if has(event, "retarget") {
         return retarget(alloc, world, kit, budget, event);
     }
-    if event.get("step").is_some() {
+    if has(event, "step") {
         return step(alloc, world, text_at(event, "step")?);
     }
     Ok(end(world, text_at(event, "end")?))
@@ -185,7 +202,11 @@ fn begin(
         return Ok(Reply::Exists);
     }
     match aim_at(alloc, world, kit, budget, event)? {
-        Ok((goal, plan)) => Ok(world.begin(alloc, name, &goal, plan)?),
+        Ok((goal, plan)) => {
+            let reply = world.begin(alloc, name, &goal, plan);
+            drop(goal);
+            Ok(reply?)
+        }
         Err(number) => Ok(Reply::Refused { number }),
     }
 }
@@ -209,7 +230,11 @@ fn retarget(
         return Ok(Reply::Unknown);
     }
     match aim_at(alloc, world, kit, budget, event)? {
-        Ok((goal, plan)) => Ok(world.retarget(alloc, name, &goal, plan)?),
+        Ok((goal, plan)) => {
+            let reply = world.retarget(alloc, name, &goal, plan);
+            drop(goal);
+            Ok(reply?)
+        }
         Err(number) => Ok(Reply::Refused { number }),
     }
 }
@@ -251,9 +276,8 @@ fn aim_at(
     ensures plan { IfOk result (λ aim.
         IfOk aim (λ to. IsPlan (rulebook world.now.ctx) world.now.config to.0 to.1)) }
 {
-    if event.get("refused").is_some() {
-        let number = number_at(event, "refused")?;
-        return Ok(Err(u8::try_from(number).map_err(|_| Fail::Row)?));
+    if has(event, "refused") {
+        return Ok(Err(byte_at(event, "refused")?));
     }
     let goal = valid_at(alloc, world.ctx(), event, "goal")?;
     aim(alloc, world, kit, budget, goal)
@@ -272,9 +296,19 @@ fn aim(alloc: Global, world: &World, kit: &mut Kit, budget: u32, goal: Config) -
     let (found, _) = find_plan(alloc, world.ctx(), kit, world.config(), &goal, budget);
     match found {
         Ok(plan) => Ok(Ok((goal, plan))),
-        Err(SearchError::Unorderable) => Ok(Err(20)),
-        Err(SearchError::Budget(_)) => Ok(Err(21)),
-        Err(SearchError::Memory) => Err(Fail::Memory),
+        Err(error) => {
+            drop(goal);
+            Ok(Err(number_of(error)?))
+        }
+    }
+}
+
+/// The number of the refusal where a search finds no plan.
+fn number_of(error: SearchError) -> Result<u8, Fail> {
+    match error {
+        SearchError::Unorderable => Ok(20),
+        SearchError::Budget(_) => Ok(21),
+        SearchError::Memory => Err(Fail::Memory),
     }
 }
 

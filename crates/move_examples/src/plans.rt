@@ -8,7 +8,7 @@ use crate::kits::{KitTable, ask_full, ask_recheck};
 use crate::move_texts::{Lines, move_texts};
 use crate::situations::{Situation, situation_at};
 use conf_doc::Config;
-use example_rows::{Fail, Table, number_at};
+use example_rows::{Fail, Table, has, items_at, number_at, text_at, value_bytes};
 use move_core::{Boxes, Ctx, Kit, Plan};
 use plan_search::{SearchError, Steps, search};
 use serde_json::Value;
@@ -33,7 +33,9 @@ pub const AMPLE: u32 = 10_000;
 impl<'a> Table for Plans<'a> {
     fn is_as_said(&self, alloc: Global, row: &Value) -> Result<bool, Fail> {
         let situation = situation_at(alloc, self.inputs, row)?;
-        self.ask_both(alloc, &situation, row)
+        let as_said = self.ask_both(alloc, &situation, row);
+        drop(situation);
+        as_said
     }
 }
 
@@ -71,7 +73,7 @@ fn answers_as_said(
     requires kinds { ⟦<Kit as Boxes>⟧.HasKinds kit.old }
     requires ready { IsReady situation.now }
 {
-    if row.get("budget").is_some() {
+    if has(row, "budget") {
         let budget = budget_of(number_at(row, "budget")?)?;
         return is_answer(alloc, situation, kit, budget, said);
     }
@@ -100,17 +102,16 @@ fn is_answer(
 
 /// What the row says: the texts of the steps, or why there is no plan.
 fn said_lines(alloc: Global, row: &Value) -> Result<Lines, Fail> {
-    match row.get("plan") {
-        Some(Value::String(why)) => why_line(alloc, why.as_str()),
-        Some(Value::Array(steps)) => step_lines(alloc, steps.as_slice()),
-        _ => Err(Fail::Row),
+    match text_at(row, "plan") {
+        Ok(why) => why_line(alloc, why),
+        Err(_) => step_lines(alloc, items_at(row, "plan")?),
     }
 }
 
 fn step_lines(alloc: Global, steps: &[Value]) -> Result<Lines, Fail> {
     let mut lines = Vec::new(alloc);
     for step in steps {
-        lines.push(step.to_vec(alloc)?)?;
+        lines.push(value_bytes(alloc, step)?)?;
     }
     Ok(lines)
 }
@@ -154,10 +155,15 @@ fn answer(alloc: Global, situation: &Situation, kit: &mut Kit, budget: u32) -> R
     let Situation { ctx, cur, goal, .. } = situation;
     let (found, expanded) = find_plan(alloc, ctx, kit, cur, goal, budget);
     if expanded >= u64::from(budget) {
+        drop(found);
         return why_line(alloc, "too many expanded");
     }
     match found {
-        Ok(plan) => Ok(move_texts(alloc, plan.items())?),
+        Ok(plan) => {
+            let texts = move_texts(alloc, plan.items());
+            drop(plan);
+            Ok(texts?)
+        }
         Err(SearchError::Unorderable) => why_line(alloc, "unorderable"),
         Err(SearchError::Budget(_)) => why_line(alloc, "budget"),
         Err(SearchError::Memory) => Err(Fail::Memory),

@@ -1,22 +1,27 @@
 //! The rank of a listed move, as rows say it.
-use example_rows::{Fail, number_at, text_at};
+use example_rows::{Fail, byte_at, size_at, text_at};
 use move_core::{Move, Ranked};
 use serde_json::Value;
 
 /// A move with its `tier`, its number of `extensions` and its `class`.
 pub fn ranked_at(row: &Value, mv: Move) -> Result<Ranked, Fail> {
-    let (tier, depth, class) = rank_at(row)?;
-    Ok(Ranked {
-        tier,
-        depth,
-        class,
-        mv,
-    })
+    match rank_at(row) {
+        Ok((tier, depth, class)) => Ok(Ranked {
+            tier,
+            depth,
+            class,
+            mv,
+        }),
+        Err(fail) => {
+            drop(mv);
+            Err(fail)
+        }
+    }
 }
 
 fn rank_at(row: &Value) -> Result<(u8, usize, u8), Fail> {
-    let tier = u8::try_from(number_at(row, "tier")?).map_err(|_| Fail::Row)?;
-    let depth = usize::try_from(number_at(row, "extensions")?).map_err(|_| Fail::Row)?;
+    let tier = byte_at(row, "tier")?;
+    let depth = size_at(row, "extensions")?;
     Ok((tier, depth, class_named(text_at(row, "class")?)?))
 }
 

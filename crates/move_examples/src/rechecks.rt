@@ -1,10 +1,9 @@
 //! How many entries the first rule checks, where it looks again only at what changed.
 ghost use Rattle.move_core.specs.Contexts.{IsNamed};
 
-use crate::orders::path_of;
-use crate::situations::{config_at, ctx_at};
+use crate::situations::ctx_at;
 use conf_doc::{Config, Path};
-use example_rows::{Fail, Table, items_at, number_at};
+use example_rows::{Fail, Table, config_at, has, items_at, number_at, path_at, truth_at};
 use move_core::{Ctx, Move, MoveRule};
 use recheck::RecheckRule;
 use serde_json::Value;
@@ -22,10 +21,14 @@ pub struct Rechecks<'a> {
 
 impl<'a> Table for Rechecks<'a> {
     fn is_as_said(&self, alloc: Global, row: &Value) -> Result<bool, Fail> {
+        let asked = items_at(row, "asked")?;
         let ctx = ctx_at(alloc, self.inputs, row)?;
         let mut rule = RecheckRule::new(alloc);
         rule.begin(&ctx);
-        answers_all(alloc, &ctx, &mut rule, items_at(row, "asked")?)
+        let answered = answers_all(alloc, &ctx, &mut rule, asked);
+        drop(rule);
+        drop(ctx);
+        answered
     }
 }
 
@@ -54,22 +57,24 @@ fn answers(alloc: Global, ctx: &Ctx, rule: &mut RecheckRule, asked: &Value) -> R
     requires fits { ⟦<RecheckRule as MoveRule>⟧.fits rule.old ctx.now.models }
     ensures fits { ⟦<RecheckRule as MoveRule>⟧.fits rule.new ctx.now.models }
 {
-    let said = asked.get("valid").and_then(Value::as_bool);
+    let said = truth_at(asked, "valid")?;
     let count = number_at(asked, "checked")?;
-    if asked.get("begins").is_some() {
+    if has(asked, "begins") {
         rule.begin(ctx);
     }
-    let config = config_at(alloc, asked, "config")?;
     let place = moved_place(alloc, asked)?;
+    let config = config_at(alloc, asked, "config")?;
     let valid = allows(alloc, ctx, rule, &config, place);
-    Ok(said == Some(valid) && rule.checked() == count)
+    drop(config);
+    Ok(said == valid && rule.checked() == count)
 }
 
 /// The place of the move that led to a configuration.
 fn moved_place(alloc: Global, asked: &Value) -> Result<Path, Fail> {
-    match asked.get("at") {
-        Some(_) => path_of(alloc, items_at(asked, "at")?),
-        None => Ok(Path::new(alloc, &["PORT"])?),
+    if has(asked, "at") {
+        path_at(alloc, asked, "at")
+    } else {
+        Ok(Path::new(alloc, &["PORT"])?)
     }
 }
 
@@ -80,5 +85,7 @@ fn allows(alloc: Global, ctx: &Ctx, rule: &mut RecheckRule, config: &Config, pla
     ensures fits { ⟦<RecheckRule as MoveRule>⟧.fits rule.new ctx.now.models }
 {
     let mv = Move::Remove(place);
-    rule.allows(ctx, config, config, config, &mv)
+    let allowed = rule.allows(ctx, config, config, config, &mv);
+    drop(mv);
+    allowed
 }

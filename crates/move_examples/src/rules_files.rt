@@ -1,5 +1,5 @@
 //! Rules files that are read, with their settings, or refused.
-use example_rows::{Fail, Table, bytes_at, written_at};
+use example_rows::{Fail, Table, is_written, says, written_at};
 use host_core::{Names, Sequence};
 use move_core::{Required, Requiring, RulesError, RulesWhy, Settings, read_rules};
 use serde_json::Value;
@@ -11,12 +11,15 @@ pub struct RulesFiles;
 
 impl Table for RulesFiles {
     fn is_as_said(&self, alloc: Global, row: &Value) -> Result<bool, Fail> {
-        let bytes = bytes_at(alloc, row, "text")?;
-        let fault = row.get("fault").and_then(Value::as_str);
+        let bytes = written_at(alloc, row, "text")?;
         match read_rules(alloc, &bytes) {
-            Ok(settings) => are_settings(alloc, row, &settings),
-            Err(RulesError::BadJson) => Ok(fault == Some("BadJson")),
-            Err(RulesError::Bad { why }) => Ok(fault == Some(name_of(why))),
+            Ok(settings) => {
+                let as_said = are_settings(alloc, row, &settings);
+                drop(settings);
+                as_said
+            }
+            Err(RulesError::BadJson) => Ok(says(row, "fault", "BadJson")),
+            Err(RulesError::Bad { why }) => Ok(says(row, "fault", name_of(why))),
             Err(RulesError::Memory) => Err(Fail::Memory),
         }
     }
@@ -24,9 +27,8 @@ impl Table for RulesFiles {
 
 /// Whether the settings are those of the row.
 fn are_settings(alloc: Global, row: &Value, settings: &Settings) -> Result<bool, Fail> {
-    let said = written_at(alloc, row, "settings")?;
     let lines = settings_lines(alloc, settings)?;
-    Ok(lines.as_str().as_bytes() == said.as_slice())
+    is_written(alloc, row, "settings", lines.as_str().as_bytes())
 }
 
 fn name_of(why: RulesWhy) -> &'static str {

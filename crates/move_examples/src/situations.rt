@@ -6,8 +6,8 @@ ghost use Rattle.move_examples.specs.Situations.{IsReady};
 
 use crate::inputs::models_at;
 use conf_check::check;
-use conf_doc::{Config, ReadError, ShapeError, Tree, config_of_tree, read_tree};
-use example_rows::{Fail, text_bytes};
+use conf_doc::Config;
+use example_rows::{Fail, config_at, has, text_bytes};
 use move_core::{Ctx, RulesError, Settings, read_rules};
 use serde_json::Value;
 use std::alloc::Global;
@@ -27,13 +27,18 @@ pub fn situation_at(alloc: Global, inputs: &Value, row: &Value) -> Result<Situat
     ensures { IfOk result IsReady }
 {
     let ctx = ctx_at(alloc, inputs, row)?;
-    let (start, cur, goal) = configs_at(alloc, &ctx, row)?;
-    Ok(Situation {
-        ctx,
-        start,
-        cur,
-        goal,
-    })
+    match configs_at(alloc, &ctx, row) {
+        Ok((start, cur, goal)) => Ok(Situation {
+            ctx,
+            start,
+            cur,
+            goal,
+        }),
+        Err(fail) => {
+            drop(ctx);
+            Err(fail)
+        }
+    }
 }
 
 /// The three configurations of a row.
@@ -43,17 +48,32 @@ fn configs_at(alloc: Global, ctx: &Ctx, row: &Value) -> Result<(Config, Config, 
     ensures goal { IfOk result (λ configs. IsValidIn ctx.now configs.2) }
 {
     let cur = valid_at(alloc, ctx, row, "cur")?;
+    match ends_at(alloc, ctx, row) {
+        Ok((start, goal)) => Ok((start, cur, goal)),
+        Err(fail) => {
+            drop(cur);
+            Err(fail)
+        }
+    }
+}
+
+/// Where the plan of a row began, and where it leads to.
+fn ends_at(alloc: Global, ctx: &Ctx, row: &Value) -> Result<(Config, Config), Fail>
+    ensures start { IfOk result (λ ends. IsValidIn ctx.now ends.0) }
+    ensures goal { IfOk result (λ ends. IsValidIn ctx.now ends.1) }
+{
     let goal = valid_at(alloc, ctx, row, "goal")?;
-    let start = valid_at(alloc, ctx, row, start_name(row))?;
-    Ok((start, cur, goal))
+    match valid_at(alloc, ctx, row, start_name(row)) {
+        Ok(start) => Ok((start, goal)),
+        Err(fail) => {
+            drop(goal);
+            Err(fail)
+        }
+    }
 }
 
 fn start_name(row: &Value) -> &'static str {
-    if row.get("start").is_some() {
-        "start"
-    } else {
-        "cur"
-    }
+    if has(row, "start") { "start" } else { "cur" }
 }
 
 /// The models that a row names, and its rules or those of the inputs.
@@ -61,15 +81,20 @@ pub fn ctx_at(alloc: Global, inputs: &Value, row: &Value) -> Result<Ctx, Fail>
     ensures { IfOk result IsNamed }
 {
     let settings = rules_at(alloc, inputs, row)?;
-    let models = models_at(alloc, inputs, row)?;
-    Ok(Ctx { models, settings })
+    match models_at(alloc, inputs, row) {
+        Ok(models) => Ok(Ctx { models, settings }),
+        Err(fail) => {
+            drop(settings);
+            Err(fail)
+        }
+    }
 }
 
 /// The rules of a row, or those of the inputs.
 fn rules_at(alloc: Global, inputs: &Value, row: &Value) -> Result<Settings, Fail>
     ensures { IfOk result HasNames }
 {
-    if row.get("rules").is_some() {
+    if has(row, "rules") {
         settings_at(alloc, row)
     } else {
         settings_at(alloc, inputs)
@@ -94,25 +119,9 @@ pub fn valid_at(alloc: Global, ctx: &Ctx, row: &Value, name: &str) -> Result<Con
     let config = config_at(alloc, row, name)?;
     match check(&ctx.models, &config) {
         Ok(()) => Ok(config),
-        Err(_) => Err(Fail::Row),
-    }
-}
-
-/// The configuration under a name.
-pub fn config_at(alloc: Global, row: &Value, name: &str) -> Result<Config, Fail> {
-    let bytes = text_bytes(alloc, row, name)?;
-    match read_tree(alloc, &bytes) {
-        Ok(tree) => config_of(alloc, tree),
-        Err(ReadError::Memory) => Err(Fail::Memory),
-        Err(_) => Err(Fail::Row),
-    }
-}
-
-/// The configuration of a tree.
-fn config_of(alloc: Global, tree: Tree) -> Result<Config, Fail> {
-    match config_of_tree(alloc, tree) {
-        Ok(config) => Ok(config),
-        Err(ShapeError::Memory) => Err(Fail::Memory),
-        Err(ShapeError::Shape { .. }) => Err(Fail::Row),
+        Err(_) => {
+            drop(config);
+            Err(Fail::Row)
+        }
     }
 }

@@ -1,10 +1,11 @@
 //! Inputs that no command takes.
-use crate::boxes::run_all;
-use crate::hosts::host_with;
-use crate::stops::plain_stops;
+use crate::hosts::{file_of, host_behind};
+use crate::runs::{plain_stops, run_on};
 use command_runs::Ran;
-use example_rows::{Fail, Table, items_at, number_at, text_at, text_bytes, written_at};
-use host_core::Txt;
+use example_rows::{
+    Fail, Pairs, Table, faults_from, has, is_written, items_at, number_at, text_at, text_bytes,
+};
+use host_core::MemHost;
 use serde_json::Value;
 use std::alloc::Global;
 
@@ -20,7 +21,7 @@ pub struct BadInputs<'a> {
 impl<'a> Table for BadInputs<'a> {
     fn is_as_said(&self, alloc: Global, row: &Value) -> Result<bool, Fail> {
         let bytes = input_at(alloc, row)?;
-        if row.get("cut").is_none() {
+        if !has(row, "cut") {
             return self.is_refused(alloc, row, &bytes);
         }
         for len in 0..bytes.len() {
@@ -36,32 +37,36 @@ impl<'a> BadInputs<'a> {
     /// Whether the command prints what the row says where the input is that.
     fn is_refused(&self, alloc: Global, row: &Value, bytes: &[u8]) -> Result<bool, Fail> {
         let rans = self.run_row(alloc, row, bytes)?;
-        print_output(alloc, row, &rans)
+        let same = print_output(alloc, row, &rans);
+        drop(rans);
+        same
     }
 
     /// Runs the command of a row where the input is that.
     fn run_row(&self, alloc: Global, row: &Value, bytes: &[u8]) -> Result<Vec<Ran>, Fail> {
         let stops = plain_stops(alloc, items_at(row, "words")?)?;
-        let first = input_with(alloc, row, bytes)?;
-        let host = host_with(alloc, self.shared, row, first)?;
-        let (_host, rans) = run_all(alloc, stops, host)?;
+        let (host, rans) = run_on(alloc, stops, self.host_of(alloc, row, bytes))?;
+        drop(host);
         Ok(rans)
+    }
+
+    /// The host of a row where the input is that.
+    fn host_of(&self, alloc: Global, row: &Value, bytes: &[u8]) -> Result<MemHost, Fail> {
+        let first = input_with(alloc, row, bytes)?;
+        let faults = faults_from(alloc, None);
+        host_behind(alloc, Some(self.shared), row, first, faults)
     }
 }
 
 /// The input of a row, of these bytes.
-fn input_with(alloc: Global, row: &Value, bytes: &[u8]) -> Result<Vec<(Txt, Vec<u8>)>, Fail> {
-    let mut inputs = Vec::new(alloc);
-    let path = Txt::new(alloc, text_at(row, "path")?)?;
-    inputs.push((path, bytes.to_vec(alloc)?))?;
-    Ok(inputs)
+fn input_with(alloc: Global, row: &Value, bytes: &[u8]) -> Result<Pairs, Fail> {
+    file_of(alloc, text_at(row, "path")?, bytes.to_vec(alloc)?)
 }
 
 /// Whether the first of the commands prints the `output` of the row.
 fn print_output(alloc: Global, row: &Value, rans: &[Ran]) -> Result<bool, Fail> {
     let ran = rans.first().ok_or(Fail::Row)?;
-    let said = written_at(alloc, row, "output")?;
-    Ok(ran.output.as_slice() == said.as_slice())
+    is_written(alloc, row, "output", &ran.output)
 }
 
 /// The bytes of the input.

@@ -1,12 +1,8 @@
 //! One command that fails, or is stopped, at each of its calls, and another one behind it.
-use crate::boxes::run_all;
-use crate::hosts::host_at;
-use crate::notes::{are_found, has_status};
-use crate::stops::{call_at, count_calls, pick_of, stop_with, words_of};
+use crate::hosts::stands_for;
+use crate::runs::{are_found, call_at, count_calls, has_status, pick_of, run_row, stop_with};
 use command_runs::{Ran, Stop};
-use conf_doc::file_bytes;
-use conf_store::{LoadError, load};
-use example_rows::{Fail, Table, items_at, number_at};
+use example_rows::{Fail, Table, items_at, number_at, size_at, value_at};
 use host_core::MemHost;
 use serde_json::Value;
 use std::alloc::Global;
@@ -65,9 +61,12 @@ impl<'a> Sweeps<'a> {
         line: &Value,
         stops: Vec<Stop>,
     ) -> Result<bool, Fail> {
-        let host = host_at(alloc, self.shared, row)?;
-        let (mut host, rans) = run_all(alloc, stops, host)?;
-        Ok(are_ran(alloc, line, &rans)? && is_left(alloc, row, line, &mut host)?)
+        let (mut host, rans) = run_row(alloc, self.shared, row, stops)?;
+        let ran = are_ran(alloc, line, &rans);
+        drop(rans);
+        let left = is_left(alloc, row, line, &mut host);
+        drop(host);
+        Ok(ran? && left?)
     }
 }
 
@@ -78,14 +77,30 @@ fn stops_at(
     call: Option<u64>,
     pick: &Value,
 ) -> Result<Vec<Stop>, Fail> {
-    let first = words_of(alloc, items_at(row, "words")?)?;
-    let then = words_of(alloc, items_at(row, "then")?)?;
+    let mut stops = Vec::new(alloc);
+    match push_stops(alloc, row, call, pick, &mut stops) {
+        Ok(()) => Ok(stops),
+        Err(fail) => {
+            drop(stops);
+            Err(fail)
+        }
+    }
+}
+
+fn push_stops(
+    alloc: Global,
+    row: &Value,
+    call: Option<u64>,
+    pick: &Value,
+    stops: &mut Vec<Stop>,
+) -> Result<(), Fail> {
+    let first = items_at(row, "words")?;
+    let then = items_at(row, "then")?;
     let pick = pick_of(alloc, pick)?;
     let is_last = pick.is_some();
-    let mut stops = Vec::new(alloc);
     stops.push(stop_with(alloc, first, call, is_last, pick)?)?;
     stops.push(stop_with(alloc, then, None, false, None)?)?;
-    Ok(stops)
+    Ok(())
 }
 
 /// Whether both commands ended as the line says, and the second found what it says.
@@ -93,8 +108,8 @@ fn are_ran(alloc: Global, line: &Value, rans: &[Ran]) -> Result<bool, Fail> {
     let [first, second] = rans else {
         return Ok(false);
     };
-    let finds = line.get("finds").ok_or(Fail::Row)?;
-    let same_ends = has_status(line.get("status"), first) && has_status(line.get("next"), second);
+    let finds = value_at(line, "finds")?;
+    let same_ends = has_status(line, "status", first) && has_status(line, "next", second);
     let same_acked = acked(&first.output) == number_at(line, "acked")?;
     Ok(same_ends && same_acked && are_found(alloc, finds, &second.before)?)
 }
@@ -119,22 +134,8 @@ fn is_acknowledgement(text: &[u8]) -> bool {
 
 /// Whether the folder stands for what the line says, and as many services are restarted.
 fn is_left(alloc: Global, row: &Value, line: &Value, host: &mut MemHost) -> Result<bool, Fail> {
-    let position = usize::try_from(number_at(line, "stands")?).map_err(|_| Fail::Row)?;
-    let said = items_at(row, "configurations")?
-        .get(position)
-        .and_then(Value::as_str);
+    let position = size_at(line, "stands")?;
+    let said = items_at(row, "configurations")?.get(position);
     let as_many = host.restarts().len() as u64 == number_at(line, "restarts")?;
     Ok(as_many && stands_for(alloc, host, said.ok_or(Fail::Row)?)?)
-}
-
-/// Whether the folder stands for the configuration of that text.
-fn stands_for(alloc: Global, host: &mut MemHost, text: &str) -> Result<bool, Fail> {
-    match load(alloc, host) {
-        Ok(found) => {
-            let bytes = file_bytes(alloc, &found.config)?;
-            Ok(bytes.as_slice() == text.as_bytes())
-        }
-        Err(LoadError::Memory) => Err(Fail::Memory),
-        Err(_) => Ok(false),
-    }
 }

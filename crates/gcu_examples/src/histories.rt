@@ -1,10 +1,7 @@
 //! Lists of commands, each run to its end or stopped at a call.
-use crate::boxes::run_all;
-use crate::hosts::host_at;
-use crate::notes::{are_found, has_status};
-use crate::stops::{call_at, count_calls, pick_of, stop_with, words_of};
+use crate::runs::{are_found, call_at, count_calls, has_status, pick_of, run_row, stop_with};
 use command_runs::{Ran, Stop};
-use example_rows::{Fail, Table, items_at, written_at};
+use example_rows::{Fail, Table, are_names, has, is_written, items_at, value_at};
 use host_core::MemHost;
 use serde_json::Value;
 use std::alloc::Global;
@@ -22,9 +19,11 @@ pub struct Histories<'a> {
 impl<'a> Table for Histories<'a> {
     fn is_as_said(&self, alloc: Global, row: &Value) -> Result<bool, Fail> {
         let stops = self.stops_at(alloc, row)?;
-        let host = host_at(alloc, self.shared, row)?;
-        let (host, rans) = run_all(alloc, stops, host)?;
-        is_history(alloc, row, &host, &rans)
+        let (host, rans) = run_row(alloc, self.shared, row, stops)?;
+        let as_said = is_history(alloc, row, &host, &rans);
+        drop(host);
+        drop(rans);
+        as_said
     }
 }
 
@@ -35,27 +34,44 @@ impl<'a> Histories<'a> {
         let first = said.first().ok_or(Fail::Row)?;
         let calls = count_calls(alloc, self.shared, row, items_at(first, "words")?)?;
         let mut stops = Vec::new(alloc);
-        for stop in said {
-            stops.push(stop_of(alloc, stop, calls)?)?;
+        match push_stops(alloc, said, calls, &mut stops) {
+            Ok(()) => Ok(stops),
+            Err(fail) => {
+                drop(stops);
+                Err(fail)
+            }
         }
-        Ok(stops)
     }
+}
+
+/// Adds the commands that are said, of which the first makes so many calls.
+fn push_stops(
+    alloc: Global,
+    said: &[Value],
+    calls: u64,
+    stops: &mut Vec<Stop>,
+) -> Result<(), Fail> {
+    for stop in said {
+        stops.push(stop_of(alloc, stop, calls)?)?;
+    }
+    Ok(())
 }
 
 /// A command of a row, which makes so many calls.
 fn stop_of(alloc: Global, said: &Value, calls: u64) -> Result<Stop, Fail> {
-    let words = words_of(alloc, items_at(said, "words")?)?;
-    let pick = match said.get("pick") {
-        Some(pick) => pick_of(alloc, pick)?,
-        None => None,
+    let words = items_at(said, "words")?;
+    let pick = if has(said, "pick") {
+        pick_of(alloc, value_at(said, "pick")?)?
+    } else {
+        None
     };
-    let is_last = said.get("stopped").is_some();
+    let is_last = has(said, "stopped");
     stop_with(alloc, words, call_at(said, calls), is_last, pick)
 }
 
 /// Whether all is as the row says.
 fn is_history(alloc: Global, row: &Value, host: &MemHost, rans: &[Ran]) -> Result<bool, Fail> {
-    let same_restarts = are_restarted(items_at(row, "restarts")?, host);
+    let same_restarts = are_names(items_at(row, "restarts")?, host.restarts());
     Ok(same_restarts && are_ran(alloc, items_at(row, "ran")?, rans)?)
 }
 
@@ -70,17 +86,7 @@ fn are_ran(alloc: Global, said: &[Value], rans: &[Ran]) -> Result<bool, Fail> {
 }
 
 fn is_ran(alloc: Global, said: &Value, ran: &Ran) -> Result<bool, Fail> {
-    let output = written_at(alloc, said, "output")?;
-    let same = ran.output.as_slice() == output.as_slice() && ran.starved == 0;
-    let finds = said.get("finds").ok_or(Fail::Row)?;
-    Ok(same && has_status(said.get("status"), ran) && are_found(alloc, finds, &ran.before)?)
-}
-
-fn are_restarted(said: &[Value], host: &MemHost) -> bool {
-    let restarts = host.restarts().items();
-    let same = restarts
-        .iter()
-        .zip(said)
-        .all(|(name, text)| text.as_str() == Some(name.as_str()));
-    same && restarts.len() == said.len()
+    let same = is_written(alloc, said, "output", &ran.output)? && ran.starved == 0;
+    let finds = value_at(said, "finds")?;
+    Ok(same && has_status(said, "status", ran) && are_found(alloc, finds, &ran.before)?)
 }
