@@ -247,17 +247,17 @@ impl Entries {
         same_pair(self.list.pair_at(i), other.list.pair_at(j))
     }
 
-    /// How many entries are the same in both, each from an index on, compared one by one, and so many at most.
+    /// How many entries are the same in both, each from an index on where the first are, compared one by one, and so
+    /// many at most.
     fn count_singly(&self, i: usize, other: &Entries, j: usize, most: usize) -> usize
         requires some { 0 < most }
-        requires first { i ≤ length self.now }
-        requires second { j ≤ length other.now }
+        requires first { AreSame self.now i other.now j 1 }
         ensures same { AreSame self.now i other.now j result }
-        ensures none { result ≡ 0 → AreApart self.now i other.now j }
+        ensures some { 0 < result }
     {
         let _ = self.list.len();
         let _ = other.list.len();
-        for k in 0..most {
+        for k in 1..most {
             if !self.is_same_at(i + k, other, j + k) {
                 return k;
             }
@@ -266,13 +266,16 @@ impl Entries {
     }
 
     /// How many entries are the same in both, each from an index on: of two blocks, or of those before the next
-    /// block, or none where there is no such entry.
+    /// block, or none where there is no such entry. The first are compared before a block is looked for.
     fn count_next(&self, i: usize, other: &Entries, j: usize) -> usize
         requires first { i ≤ length self.now }
         requires second { j ≤ length other.now }
         ensures same { AreSame self.now i other.now j result }
         ensures none { result ≡ 0 → AreApart self.now i other.now j }
     {
+        if !self.is_same_at(i, other, j) {
+            return 0;
+        }
         let many = self.count_in_blocks(i, other, j);
         if many > 0 {
             return many;
@@ -308,17 +311,17 @@ impl Entries {
         self.list.name_at(i) == other.list.name_at(j)
     }
 
-    /// How many keys are the same in both, each from an index on, compared one by one, and so many at most.
+    /// How many keys are the same in both, each from an index on where the first are, compared one by one, and so many
+    /// at most.
     fn count_keys_singly(&self, i: usize, other: &Entries, j: usize, most: usize) -> usize
         requires some { 0 < most }
-        requires first { i ≤ length self.now }
-        requires second { j ≤ length other.now }
+        requires first { AreSame (keys_of self.now) i (keys_of other.now) j 1 }
         ensures same { AreSame (keys_of self.now) i (keys_of other.now) j result }
-        ensures none { result ≡ 0 → AreApart (keys_of self.now) i (keys_of other.now) j }
+        ensures some { 0 < result }
     {
         let _ = self.list.len();
         let _ = other.list.len();
-        for k in 0..most {
+        for k in 1..most {
             if !self.is_same_key_at(i + k, other, j + k) {
                 return k;
             }
@@ -333,6 +336,9 @@ impl Entries {
         ensures same { AreSame (keys_of self.now) i (keys_of other.now) j result }
         ensures none { result ≡ 0 → AreApart (keys_of self.now) i (keys_of other.now) j }
     {
+        if !self.is_same_key_at(i, other, j) {
+            return 0;
+        }
         let many = self.count_keys_in_blocks(i, other, j);
         if many > 0 {
             return many;

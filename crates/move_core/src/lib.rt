@@ -27,7 +27,7 @@ pub use laws::{
     listed_moves_are_defined, listed_moves_have_models, listed_order_is_total,
     move_is_its_operation,
 };
-pub use listed_order::cmp_listed;
+pub use listed_order::{cmp_listed, cmp_moves};
 pub use moves::{Generated, Move, Moves, Plan, Ranked};
 pub use operations::operation_of;
 pub use plan_texts::plan_text;

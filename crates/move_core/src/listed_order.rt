@@ -36,8 +36,9 @@ fn cmp_ranks(a: &Ranked, b: &Ranked) -> Ordering
     }
 }
 
-/// By action, then by path, then by value.
-fn cmp_moves(a: &Move, b: &Move) -> Ordering
+/// Compares two moves of one rank: Remove before Replace before Add, then by the path name by name, an item's index as a
+/// number, and last by the value. Takes no memory.
+pub fn cmp_moves(a: &Move, b: &Move) -> Ordering
     ensures { result ≡ move_cmp a.now b.now }
 {
     match action(a).cmp(&action(b)) {
