@@ -9,7 +9,7 @@ use crate::ranks::ranked_at;
 use crate::situations::{Situation, situation_at};
 use example_rows::{Fail, Table, items_at, number_at, text_bytes};
 use move_core::{Boxes, Kit, Move, Ranked};
-use move_lists::{first_moves, listed, listed_in_part};
+use move_lists::{first_moves, leading_move, listed, listed_in_part, offered_moves};
 use serde_json::Value;
 use std::alloc::Global;
 
@@ -39,6 +39,7 @@ impl<'a> KitTable for Lists<'a> {
         row: &Value,
     ) -> Result<bool, Fail> {
         let said = items_at(row, "list")?;
+        let leading = is_leading(alloc, situation, kit, said)?;
         let alone = is_part(alloc, situation, kit, 1, said)?;
         let once = is_part(alloc, situation, kit, 2, said)?;
         let twice = is_part(alloc, situation, kit, 3, said)?;
@@ -47,8 +48,44 @@ impl<'a> KitTable for Lists<'a> {
         let restoring = is_part(alloc, situation, kit, 6, said)?;
         let others = is_part(alloc, situation, kit, 7, said)?;
         let extended = once && twice && thrice && far;
-        Ok(alone && extended && restoring && others && is_list(alloc, situation, kit, said)?)
+        let parts = leading && alone && extended && restoring && others;
+        Ok(parts && is_list(alloc, situation, kit, said)?)
     }
+}
+
+/// Whether the move that the list begins with is the first that is said of part 1, or there is none.
+fn is_leading(
+    alloc: Global,
+    situation: &Situation,
+    kit: &mut Kit,
+    said: &[Value],
+) -> Result<bool, Fail>
+    requires kinds { ⟦<Kit as Boxes>⟧.HasKinds kit.old }
+    requires ready { IsReady situation.now }
+    ensures kinds { ⟦<Kit as Boxes>⟧.HasKinds kit.new }
+{
+    let Situation {
+        ctx,
+        start,
+        cur,
+        goal,
+    } = situation;
+    let offers = offered_moves(alloc, ctx, kit, start, cur, goal)?;
+    let found = leading_move(alloc, ctx, start, cur, goal, &offers);
+    drop(offers);
+    is_first(alloc, found?, said)
+}
+
+/// Whether a move, or none, is the first that is said of part 1.
+fn is_first(alloc: Global, found: Option<Move>, said: &[Value]) -> Result<bool, Fail> {
+    let mut moves = Vec::new(alloc);
+    if let Some(mv) = found {
+        moves.push(mv)?;
+    }
+    let mut said = said_texts(alloc, said, Some(1))?;
+    said.truncate(1);
+    let texts = move_texts(alloc, &moves)?;
+    Ok(texts == said)
 }
 
 /// Whether the moves of a part are those that are said.
@@ -71,7 +108,8 @@ fn is_part(
         cur,
         goal,
     } = situation;
-    let firsts = first_moves(alloc, ctx, kit, start, cur, goal)?;
+    let offers = offered_moves(alloc, ctx, kit, start, cur, goal)?;
+    let firsts = first_moves(alloc, ctx, start, cur, goal, offers)?;
     let found = listed_in_part(alloc, ctx, kit, start, cur, goal, &firsts, part);
     drop(firsts);
     let moves = found?;

@@ -25,12 +25,12 @@ use Rattle.move_lists.proofs.PartOrder.{less_part}
 
 -- ---- orders
 
-not_gt : (o : Ordering) → is_gt o ≡ false → o ≢ Greater
+pub not_gt : (o : Ordering) → is_gt o ≡ false → o ≢ Greater
 not_gt Less e g = absurd (cc)
 not_gt Equal e g = absurd (cc)
 not_gt Greater e g = true≢false e
 
-gt_false : (o : Ordering) → o ≢ Greater → is_gt o ≡ false
+pub gt_false : (o : Ordering) → o ≢ Greater → is_gt o ≡ false
 gt_false Less n = refl
 gt_false Equal n = refl
 gt_false Greater n = absurd (n refl)
@@ -55,7 +55,7 @@ by_rank Less p n e = absurd (cc)
 by_rank Equal p n e = absurd (cc)
 by_rank Greater p n e = n refl
 
-itself : (r : Ranked) → listed_cmp r r ≢ Greater
+pub itself : (r : Ranked) → listed_cmp r r ≢ Greater
 itself r = not_gt _ (ap is_gt (tied_itself listed_total r))
 
 -- ---- sorted lists

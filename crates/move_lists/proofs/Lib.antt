@@ -3,6 +3,7 @@ pub mod Chains
 pub mod MoveChoices
 pub mod PartLists
 pub mod ListExistence
+pub mod LeadingMoves
 pub mod FiniteSets
 pub mod FirstChains
 pub mod BoxResults

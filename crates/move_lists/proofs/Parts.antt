@@ -54,7 +54,7 @@ part_case start goal g (suc n) t has = by (early_or_not start goal g)
 -- ---- the parts of early chains
 
 -- they are greater than 1 and no greater than 5
-early_bounds : (n : ℕ) → 0 < n → (1 < chain_part 2 n) × (chain_part 2 n ≤ 5)
+pub early_bounds : (n : ℕ) → 0 < n → (1 < chain_part 2 n) × (chain_part 2 n ≤ 5)
 early_bounds n pos = by (early_at n)
   where
     by : ((n ≤ 3) × (chain_part 2 n ≡ 1 + n)) ⊎ ((3 < n) × (chain_part 2 n ≡ 5)) → (1 < chain_part 2 n) × (chain_part 2 n ≤ 5)

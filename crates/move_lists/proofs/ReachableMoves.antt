@@ -6,7 +6,7 @@ use Rattle.std.proofs.lemmas.Option.{slice_get_within, slice_get-get_or, get_or_
 use Rattle.move_core.specs.Contexts.{rulebook}
 use Rattle.move_core.specs.Extensions.{IsUpper, as_in_goal, upper_place}
 use Rattle.move_core.specs.Listed.{IsListed}
-use Rattle.move_core.specs.Moves.{IsDefined, place}
+use Rattle.move_core.specs.Moves.{IsDefined}
 use Rattle.move_core.specs.declared.moves.Move.{Move}
 use Rattle.move_lists.specs.Questions.{FollowsIn, LeadsIn}
 use Rattle.move_lists.specs.Reaches.{AreNoted, AreReached, CanSpread, Depths, HasBelow, HasMove, HasWithin, HoldsAll, HoldsWithin, IsClosed, IsOfferedMove, IsLedTo, IsNoted, IsSpread, IsSpreadBefore, SharesAbove, most_moves}

@@ -2,7 +2,7 @@
 use Rattle.std.specs.Prelude.{◌≡◌, ◌⊎◌, ℕ, ◌+◌, ◌<◌, ◌≤◌, List, [], ◌∷◌, ◌++◌, Some, slice_get, All}
 use Rattle.std.specs.List.{Contains}
 use Rattle.move_core.specs.Extensions.{upper_place}
-use Rattle.move_core.specs.Moves.{IsDefined, place}
+use Rattle.move_core.specs.Moves.{IsDefined}
 use Rattle.move_core.specs.declared.moves.Generated.{Generated}
 use Rattle.move_core.specs.declared.moves.Move.{Move}
 use Rattle.move_lists.specs.Questions.{FollowsIn, IsOffered, LeadsIn}

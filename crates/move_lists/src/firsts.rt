@@ -1,14 +1,15 @@
 //! The generated moves at a configuration, each with whether it is restoring.
 ghost use Rattle.std.specs.Prelude.{◌≡◌, ◌↔◌, All, IfOk, IsTrue};
-ghost use Rattle.move_core.specs.Contexts.{IsNamed, IsValidIn, rulebook};
+ghost use Rattle.move_core.specs.Contexts.{rulebook};
 ghost use Rattle.move_core.specs.Generated.{IsRestoring};
 ghost use Rattle.move_lists.specs.Firsts.{AreFirstsOf, IsTold, LeavesGoals, generated_of};
+ghost use Rattle.move_lists.specs.Offers.{AreOffersOf};
 
 use crate::agreeing::{agree_at, agree_at_entry, has_value};
-use crate::asking::{Question, generated_moves};
+use crate::offers::Offers;
 use conf_doc::Config;
 use host_core::Memory;
-use move_core::{Boxes, Ctx, Generated, Kit};
+use move_core::{Ctx, Generated};
 use std::alloc::Global;
 use std::marker::Model;
 
@@ -44,39 +45,29 @@ impl Firsts {
     }
 }
 
-/// The generated moves at a configuration towards goal, each with whether it is restoring: whether start and goal
-/// agree at its place.
+/// The generated moves at a configuration, each with whether it is restoring: whether start and goal agree at its place.
+/// The context and the configuration are there for the contract alone.
 pub fn first_moves(
     alloc: Global,
     ctx: &Ctx,
-    kit: &mut Kit,
     start: &Config,
     cur: &Config,
     goal: &Config,
+    offers: Offers,
 ) -> Result<Firsts, Memory>
-    requires kinds { ⟦<Kit as Boxes>⟧.HasKinds kit.old }
-    requires named { IsNamed ctx.now }
-    requires cur { IsValidIn ctx.now cur.now }
-    requires goal { IsValidIn ctx.now goal.now }
-    ensures kinds { ⟦<Kit as Boxes>⟧.HasKinds kit.new }
-    ensures rules { kit.new.rules ≡ kit.old.rules }
+    requires offers { AreOffersOf (rulebook ctx.now) cur.now goal.now offers }
     ensures firsts { IfOk result (AreFirstsOf (rulebook ctx.now) start.now cur.now goal.now) }
 {
-    let question = Question {
-        ctx,
-        start,
-        cur,
-        goal,
-    };
-    let moves = generated_moves(alloc, &question, kit)?;
-    let firsts = tell_restoring(alloc, start, goal, moves)?;
+    let _ = ctx;
+    let _ = cur;
+    let firsts = tell_restoring(alloc, start, goal, offers.into_moves())?;
     Ok(Firsts { firsts })
 }
 
 /// Whether a generated move is restoring. What it leaves tells of goal, unless it is an item's: at a field it is what
 /// goal has there, and start alone is looked at; at an entry it tells whether goal has one, and goal is looked at only
 /// where start has one too.
-fn is_restoring(start: &Config, goal: &Config, generated: &Generated) -> bool
+pub(crate) fn is_restoring(start: &Config, goal: &Config, generated: &Generated) -> bool
     requires { LeavesGoals goal.now generated.now }
     ensures { IsTrue result ↔ IsRestoring start.now goal.now generated.now }
 {

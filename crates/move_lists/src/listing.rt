@@ -12,6 +12,7 @@ ghost use Rattle.move_lists.specs.declared.ranking.Choice.TheVariants.{Early, La
 
 use crate::asking::Question;
 use crate::firsts::{First, Firsts, first_moves};
+use crate::offers::offered_moves;
 use crate::ranking::{Choice, chosen_moves, rank_alone, rank_reached};
 use crate::reaches::{Reach, reach_from, reach_within};
 use conf_doc::Config;
@@ -47,7 +48,8 @@ pub fn listed(
     ensures rules { kit.new.rules ≡ kit.old.rules }
     ensures listed { IfOk result (AreListed (rulebook ctx.now) start.now cur.now goal.now) }
 {
-    let firsts = first_moves(alloc, ctx, kit, start, cur, goal)?;
+    let offers = offered_moves(alloc, ctx, kit, start, cur, goal)?;
+    let firsts = first_moves(alloc, ctx, start, cur, goal, offers)?;
     let question = Question {
         ctx,
         start,

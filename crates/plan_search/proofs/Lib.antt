@@ -2,6 +2,7 @@ pub mod AfterMove
 pub mod SearchAnswers
 pub mod AnswerCauses
 pub mod FieldMoves
+pub mod FirstPart
 pub mod Frames
 pub mod PairHashes
 pub mod SearchInvariants

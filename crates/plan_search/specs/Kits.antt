@@ -1,5 +1,5 @@
 -- The problem of a search whose moves come from a kit.
-use Rattle.std.proofs.Common.{◌≡◌, ◌≢◌, ◌⊎◌, inl, inr, ℕ, zero, suc, ◌+◌, Bool, true, false, if◌then◌else◌, IsTrue, nat_le, refl, sym, ap, ◌∙◌, true≢false, arith}
+use Rattle.std.proofs.Common.{◌≡◌, ◌≢◌, ◌⊎◌, inl, inr, ℕ, zero, suc, ◌+◌, ◌-◌, Bool, true, false, if◌then◌else◌, IsTrue, nat_le, refl, sym, ap, ◌∙◌, true≢false, arith}
 use Rattle.std.proofs.lemmas.Bool.Decides.{nat_tests}
 use Rattle.std.specs.Cmp.{tied_itself}
 use Rattle.std.specs.Ordering.{is_gt, is_lt, ordering_reverse}
@@ -18,14 +18,21 @@ use Rattle.move_core.specs.declared.moves.Generated.{Generated}
 use Rattle.move_core.specs.declared.moves.Move.{Move}
 use Rattle.move_core.specs.declared.moves.Move.TheVariants.{Add, Remove, Replace, AddItem, RemoveItem}
 use Rattle.move_core.specs.declared.moves.Ranked.{Ranked}
-use Rattle.move_lists.specs.Parts.{chain_part, part_of}
+use Rattle.move_lists.specs.Offers.{IsLeading}
+use Rattle.move_lists.specs.Parts.{chain_part, part_count, part_of}
 use Rattle.plan_search.specs.FirstWays.{StandsBefore}
-use Rattle.plan_search.specs.Problems.{Problem, IsLawful, part_count}
+use Rattle.plan_search.specs.Problems.{Problem, IsLawful}
 
 -- some chain of that part or a lesser one ends with the move
 abbrev pub IsInParts : Rulebook → Config → Config → Config → ℕ → Move → Type 0
 IsInParts book start goal cur k m =
     (s : Ranked) × EndsChain book start cur goal s × (s.mv ≡ m) × IsTrue (nat_le (part_of s) k)
+
+-- The move that the list begins with is a part of its own before the seven parts of the list: it alone is
+-- within the first part, and from then on it is by the parts of the list.
+abbrev pub IsWithinParts : Rulebook → Config → Config → Config → ℕ → Move → Type 0
+IsWithinParts book start goal cur k m =
+    ((k ≡ 1) × IsLeading book start cur goal m) ⊎ IsInParts book start goal cur (k - 1) m
 
 -- the moves of a context from start to goal; moves can be asked for where a configuration is valid
 abbrev pub move_problem : Ctx → Config → Config → Problem
@@ -35,7 +42,7 @@ move_problem ctx start goal =
       goal = goal;
       IsAllowed = IsAllowed (rulebook ctx) goal;
       IsListed = λ c m. IsListed (rulebook ctx) c goal m;
-      IsWithin = IsInParts (rulebook ctx) start goal;
+      IsWithin = IsWithinParts (rulebook ctx) start goal;
       Precedes = StandsBefore (rulebook ctx) start goal;
       IsFit = IsValidIn ctx;
     }
@@ -69,7 +76,7 @@ no_other (AddItem p i text) (suc d) t e le = true≢false (sym le ∙ ap (λ x. 
 no_other (RemoveItem p i) (suc d) t e le = true≢false (sym le ∙ ap (λ x. nat_le x 0) e)
 
 -- no chain has the part 0
-no_part : (start goal : Config) (g : Generated) (d t : ℕ)
+pub no_part : (start goal : Config) (g : Generated) (d t : ℕ)
     → HasTier start goal g d t → ¬ IsTrue (nat_le (chain_part t d) 0)
 no_part start goal g d t has le =
     no_other g.mv d t
@@ -158,14 +165,21 @@ told_by m n Greater e =
 pub moves_told : (m n : Move) → (m ≡ n) ⊎ (m ≢ n)
 moves_told m n = told_by m n (move_cmp m n) refl
 
+-- no move is within no parts
+none_within : (book : Rulebook) (start goal cur : Config) (m : Move)
+    → ¬ IsWithinParts book start goal cur 0 m
+none_within book start goal cur m (inl h) = absurd (omega (arith, h.0))
+none_within book start goal cur m (inr h) =
+    no_part start goal h.1.first h.0.depth h.0.tier h.1.tier h.3
+
 -- an allowed move is a listed one, and its result is valid; each has a part; the order is one
 pub moves_lawful : (ctx : Ctx) (start goal : Config) → IsLawful (move_problem ctx start goal)
 moves_lawful ctx start goal =
     record {
       listed = λ c m is. is.listed;
       fit = λ c m valid is. is.rules.full;
-      none = λ c m h. no_part start goal h.1.first h.0.depth h.0.tier h.1.tier h.3;
-      all = some_part (rulebook ctx) start goal;
+      none = none_within (rulebook ctx) start goal;
+      all = λ c m is out. some_part (rulebook ctx) start goal c m is (λ within. out (inr within));
       one_way = one_before (rulebook ctx) start goal;
       told = moves_told;
     }

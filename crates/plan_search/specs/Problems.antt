@@ -21,7 +21,7 @@ pub record Problem : Type 1 where
 
 -- into how many parts a list is divided
 abbrev pub part_count : ℕ
-part_count = 7
+part_count = 8
 
 -- An allowed move is a listed one, and after it moves can be asked for again. No move is within no parts,
 -- and none is in no part. No two moves stand before each other. Moves can be told apart.

@@ -1,7 +1,11 @@
 -- The stack of a search as a list, the last configuration first.
 use Rattle.std.specs.Prelude.{◌≡◌, ℕ, ◌+◌, List, [], ◌∷◌, Option, None, Some, reverse, map, length}
 use Rattle.conf_doc.specs.declared.configuration.Config.{Config}
+use Rattle.move_core.specs.declared.moves.Generated.{Generated}
 use Rattle.move_core.specs.declared.moves.Move.{Move}
+use Rattle.move_lists.specs.declared.firsts.First.{First}
+use Rattle.plan_search.specs.declared.searching.Kept.{Kept}
+use Rattle.plan_search.specs.declared.searching.Kept.TheVariants.{Nothing, Offers, Firsts}
 use Rattle.plan_search.specs.declared.stacks.Frame.{Frame}
 use Rattle.plan_search.specs.declared.stacks.Stack.{Stack}
 
@@ -47,6 +51,14 @@ IsTop ss c = OfTop (λ s. s.config ≡ c) ss
 -- something holds of it and a value
 abbrev pub AtTop : {X : Type 0} → (Config → X → Type 0) → List Spot → X → Type 0
 AtTop P ss x = OfTop (λ s. P s.config x) ss
+
+-- what is kept is of it: what the first part of its list is made from, or what the later ones are
+abbrev pub IsKept
+    : (Config → List Generated → Type 0) → (Config → List First → Type 0)
+    → List Spot → Kept → Type 0
+IsKept AreOffers AreFirsts ss Nothing = Unit {0}
+IsKept AreOffers AreFirsts ss (Offers os) = AtTop AreOffers ss os
+IsKept AreOffers AreFirsts ss (Firsts fs) = AtTop AreFirsts ss fs
 
 -- no move of its part is left there
 abbrev pub IsSpent : List Spot → Type 0

@@ -1,10 +1,12 @@
 //! The search for a plan: the moves come from a kit.
-ghost use Rattle.std.specs.Prelude.{◌≡◌, ◌↔◌, ◌+◌, ◌<◌, length, IsTrue};
+ghost use Rattle.std.specs.Prelude.{◌≡◌, ◌↔◌, ◌+◌, ◌<◌, [], ◌∷◌, length, IfOk, IsTrue, MatchOption};
 ghost use Rattle.move_core.specs.Contexts.{IsNamed, IsValidIn, rulebook};
 ghost use Rattle.move_core.specs.Kinds.{AreBefore, AreOfKinds, extender_kinds, generator_kinds, rule_kinds};
 ghost use Rattle.move_lists.specs.Firsts.{AreFirstsOf};
+ghost use Rattle.move_lists.specs.Offers.{AreOffersOf};
 ghost use Rattle.plan_search.specs.Kits.{move_problem, moves_lawful};
 ghost use Rattle.plan_search.specs.Searches.{IsSearchAnswer};
+ghost use Rattle.plan_search.specs.Stacks.{but_first};
 
 use crate::early_refusals::is_refused;
 use crate::expanding::Expanding;
@@ -17,10 +19,13 @@ use host_core::Memory;
 use move_core::{
     Boxes, Ctx, Kit, Move, MoveExt, MoveGen, MoveRule, Plan, listed_moves_are_defined, step,
 };
-use move_lists::{Firsts, first_moves, listed_in_part};
+use move_lists::{Firsts, Offers, first_moves, leading_move, listed_in_part, offered_moves};
 use std::alloc::Global;
 use std::marker::PhantomData;
 use std::sync::ledger::Ledger;
+
+/// The part in which the move stands that the list begins with, which is tried before it.
+const LEADING: u8 = 1;
 
 /// The moves from start to goal that a kit lists and allows. The boxes' types are there for contracts alone.
 #[derive(Drop)]
@@ -46,6 +51,8 @@ impl<'a> Expanding for KitMoves<'a> {
         × AreBefore (length rule_kinds) (λ b. (MoveRule-box b).fits b.value s.ctx.now.models)
         kit.rules.items };
 
+    ghost are_offers = { λ s cur os. AreOffersOf (rulebook s.ctx.now) cur s.goal.now os };
+
     ghost are_firsts = { λ s cur fs.
         AreFirstsOf (rulebook s.ctx.now) s.start.now cur s.goal.now fs };
 
@@ -63,8 +70,18 @@ impl<'a> Expanding for KitMoves<'a> {
         self.goal
     }
 
-    fn firsts(&self, alloc: Global, kit: &mut Kit, cur: &Config) -> Result<Firsts, Memory> {
-        first_moves(alloc, self.ctx, kit, self.start, cur, self.goal.config())
+    fn offers(&self, alloc: Global, kit: &mut Kit, cur: &Config) -> Result<Offers, Memory> {
+        offered_moves(alloc, self.ctx, kit, self.start, cur, self.goal.config())
+    }
+
+    fn leading(&self, alloc: Global, cur: &Config, offers: &Offers) -> Result<Vec<Move>, Memory> {
+        let goal = self.goal.config();
+        let found = leading_move(alloc, self.ctx, self.start, cur, goal, offers)?;
+        moves_of(alloc, found)
+    }
+
+    fn firsts(&self, alloc: Global, cur: &Config, offers: Offers) -> Result<Firsts, Memory> {
+        first_moves(alloc, self.ctx, self.start, cur, self.goal.config(), offers)
     }
 
     fn list(
@@ -75,16 +92,13 @@ impl<'a> Expanding for KitMoves<'a> {
         firsts: &Firsts,
         part: u8,
     ) -> Result<Vec<Move>, Memory> {
-        listed_in_part(
-            alloc,
-            self.ctx,
-            kit,
-            self.start,
-            cur,
-            self.goal.config(),
-            firsts,
-            part + 1,
-        )
+        let goal = self.goal.config();
+        let moves = listed_in_part(alloc, self.ctx, kit, self.start, cur, goal, firsts, part)?;
+        if part == LEADING {
+            Ok(but_first(moves))
+        } else {
+            Ok(moves)
+        }
     }
 
     fn try_move(
@@ -105,6 +119,32 @@ impl<'a> Expanding for KitMoves<'a> {
             Ok(None)
         } else {
             Ok(Some(next))
+        }
+    }
+}
+
+/// All moves but the first.
+fn but_first(moves: Vec<Move>) -> Vec<Move>
+    ensures { result.items ≡ but_first moves.items }
+{
+    let mut moves = moves;
+    if !moves.is_empty() {
+        let first = moves.remove(0);
+        drop(first);
+    }
+    moves
+}
+
+/// A move alone, or nothing.
+fn moves_of(alloc: Global, found: Option<Move>) -> Result<Vec<Move>, Memory>
+    ensures { IfOk result (λ ms. MatchOption found (ms.items ≡ []) (λ mv. ms.items ≡ mv ∷ [])) }
+{
+    let mut moves = Vec::new(alloc);
+    match found {
+        None => Ok(moves),
+        Some(mv) => {
+            moves.push(mv)?;
+            Ok(moves)
         }
     }
 }

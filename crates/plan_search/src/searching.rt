@@ -1,9 +1,10 @@
 //! The search: depth first over the lists of moves, with no configuration expanded twice.
-ghost use Rattle.std.specs.Prelude.{◌≡◌, ◌+◌, ◌<◌, ◌≤◌, [], ◌∷◌, ◌++◌, length, reverse, Err, IfErr, IfOk, IfSome, OnOk, MatchOption, MatchResult, IfNone};
+ghost use Rattle.std.specs.Prelude.{◌≡◌, ◌+◌, ◌<◌, ◌≤◌, [], ◌∷◌, ◌++◌, length, reverse, Err, IfErr, IfOk, OnOk, MatchOption, MatchResult, IfNone};
 ghost use Rattle.std.specs.List.{Contains};
 ghost use Rattle.plan_search.specs.Answers.{IsAnswer};
+ghost use Rattle.plan_search.specs.Problems.{part_count};
 ghost use Rattle.plan_search.specs.Searching.{AreAsked, AreMet, IsFound, IsPassed, IsStillUnderWay, IsTrying, IsUnderWay, LeadsToNew, weight};
-ghost use Rattle.plan_search.specs.Stacks.{AtTop, IsSpent, configs_of, new_spot, spots, taken};
+ghost use Rattle.plan_search.specs.Stacks.{AtTop, IsKept, IsSpent, OfTop, configs_of, new_spot, spots, taken};
 
 use crate::expanding::{Expanding, PART_COUNT};
 use crate::hashed::Hashed;
@@ -12,8 +13,9 @@ use crate::stacks::Stack;
 use crate::{SearchError, Steps};
 use host_core::{Memory, Sequence};
 use move_core::{Move, Plan};
-use move_lists::Firsts;
+use move_lists::{Firsts, Offers};
 use std::alloc::Global;
+use std::mem;
 use std::sync::ledger::Ledger;
 
 /// What the moves that are left lead to.
@@ -25,6 +27,17 @@ enum Found {
     New(Move, Hashed),
     /// No move is left.
     Nothing,
+}
+
+/// What was made for the parts of the list at the stack's last configuration.
+#[derive(Drop)]
+enum Kept {
+    /// Nothing.
+    Nothing,
+    /// What the first part is made from.
+    Offers(Offers),
+    /// What the later parts are made from.
+    Firsts(Firsts),
 }
 
 /// What a move at the stack's last configuration leads to, or None where it leads nowhere new. A new
@@ -88,25 +101,113 @@ fn try_rest<S: Expanding>(
     Ok(None)
 }
 
-/// What the parts at the last configuration are made from, cached or computed.
+/// What the first part at the last configuration is made from.
+fn offers_at_top<S: Expanding>(
+    alloc: Global,
+    source: &S,
+    kit: &mut S::Kit,
+    stack: &Stack,
+) -> Result<Offers, Memory>
+    requires ready { S.is_ready source.now kit.old }
+    requires asked { AreAsked (S.problem source.now) (spots stack.now) }
+    requires some { 0 < length (spots stack.now) }
+    ensures ready { S.is_ready source.now kit.new }
+    ensures offers { IfOk result (AtTop (S.are_offers source.now) (spots stack.now)) }
+{
+    source.offers(alloc, kit, stack.top())
+}
+
+/// What the later parts there are made from, told from what the first one is made from.
+fn firsts_from<S: Expanding>(
+    alloc: Global,
+    source: &S,
+    stack: &Stack,
+    offers: Offers,
+) -> Result<Firsts, Memory>
+    requires some { 0 < length (spots stack.now) }
+    requires offers { AtTop (S.are_offers source.now) (spots stack.now) offers }
+    ensures firsts { IfOk result (AtTop (S.are_firsts source.now) (spots stack.now)) }
+{
+    source.firsts(alloc, stack.top(), offers)
+}
+
+/// What the later parts there are made from: kept, or made from what is kept, or made anew.
 fn firsts_at_top<S: Expanding>(
     alloc: Global,
     source: &S,
     kit: &mut S::Kit,
     stack: &Stack,
-    kept: Option<Firsts>,
+    kept: Kept,
 ) -> Result<Firsts, Memory>
     requires ready { S.is_ready source.now kit.old }
     requires asked { AreAsked (S.problem source.now) (spots stack.now) }
     requires some { 0 < length (spots stack.now) }
-    requires kept { IfSome kept (AtTop (S.are_firsts source.now) (spots stack.now)) }
+    requires kept { IsKept (S.are_offers source.now) (S.are_firsts source.now)
+        (spots stack.now) kept }
     ensures ready { S.is_ready source.now kit.new }
     ensures firsts { IfOk result (AtTop (S.are_firsts source.now) (spots stack.now)) }
 {
     match kept {
-        Some(firsts) => Ok(firsts),
-        None => source.firsts(alloc, kit, stack.top()),
+        Kept::Nothing => {
+            let offers = offers_at_top(alloc, source, kit, stack)?;
+            firsts_from(alloc, source, stack, offers)
+        }
+        Kept::Offers(offers) => firsts_from(alloc, source, stack, offers),
+        Kept::Firsts(firsts) => Ok(firsts),
     }
+}
+
+/// Makes the first part of the last configuration's list: the move that the list begins with. What it is made from is
+/// the result.
+fn lead<S: Expanding>(
+    alloc: Global,
+    source: &S,
+    kit: &mut S::Kit,
+    stack: &mut Stack,
+) -> Result<Offers, Memory>
+    requires ready { S.is_ready source.now kit.old }
+    requires asked { AreAsked (S.problem source.now) (spots stack.old) }
+    requires some { 0 < length (spots stack.old) }
+    requires none { OfTop (λ s. s.parts ≡ 0) (spots stack.old) }
+    ensures ready { S.is_ready source.now kit.new }
+    ensures passed { OnOk result (IsPassed (S.problem source.now)
+        (spots stack.old) (taken stack.old) (spots stack.new) (taken stack.new)) }
+    ensures nearer { OnOk result (weight (spots stack.new) < weight (spots stack.old)) }
+    ensures offers { IfOk result (AtTop (S.are_offers source.now) (spots stack.new)) }
+{
+    let offers = offers_at_top(alloc, source, kit, stack)?;
+    let moves = source.leading(alloc, stack.top(), &offers)?;
+    stack.refill(moves);
+    Ok(offers)
+}
+
+/// Makes the part of it that follows that many, at least one. What the later parts are made from is the result.
+fn make_part<S: Expanding>(
+    alloc: Global,
+    source: &S,
+    kit: &mut S::Kit,
+    stack: &mut Stack,
+    part: u8,
+    kept: Kept,
+) -> Result<Firsts, Memory>
+    requires ready { S.is_ready source.now kit.old }
+    requires asked { AreAsked (S.problem source.now) (spots stack.old) }
+    requires some { 0 < length (spots stack.old) }
+    requires parts { OfTop (λ s. s.parts ≡ part) (spots stack.old) }
+    requires later { 0 < part }
+    requires more { part < part_count }
+    requires kept { IsKept (S.are_offers source.now) (S.are_firsts source.now)
+        (spots stack.old) kept }
+    ensures ready { S.is_ready source.now kit.new }
+    ensures passed { OnOk result (IsPassed (S.problem source.now)
+        (spots stack.old) (taken stack.old) (spots stack.new) (taken stack.new)) }
+    ensures nearer { OnOk result (weight (spots stack.new) < weight (spots stack.old)) }
+    ensures firsts { IfOk result (AtTop (S.are_firsts source.now) (spots stack.new)) }
+{
+    let firsts = firsts_at_top(alloc, source, kit, stack, kept)?;
+    let moves = source.list(alloc, kit, stack.top(), &firsts, part)?;
+    stack.refill(moves);
+    Ok(firsts)
 }
 
 /// Makes one more part of the last configuration's list, or drops the configuration where all are made. What
@@ -116,27 +217,28 @@ fn pass_on<S: Expanding>(
     source: &S,
     kit: &mut S::Kit,
     stack: &mut Stack,
-    kept: &mut Option<Firsts>,
+    kept: &mut Kept,
 ) -> Result<(), Memory>
     requires ready { S.is_ready source.now kit.old }
     requires asked { AreAsked (S.problem source.now) (spots stack.old) }
     requires some { 0 < length (spots stack.old) }
-    requires kept { IfSome kept.old (AtTop (S.are_firsts source.now) (spots stack.old)) }
+    requires kept { IsKept (S.are_offers source.now) (S.are_firsts source.now)
+        (spots stack.old) kept.old }
     ensures ready { S.is_ready source.now kit.new }
     ensures passed { OnOk result (IsPassed (S.problem source.now)
         (spots stack.old) (taken stack.old) (spots stack.new) (taken stack.new)) }
     ensures nearer { OnOk result (weight (spots stack.new) < weight (spots stack.old)) }
-    ensures kept { IfSome kept.new (AtTop (S.are_firsts source.now) (spots stack.new)) }
+    ensures kept { IsKept (S.are_offers source.now) (S.are_firsts source.now)
+        (spots stack.new) kept.new }
 {
     let parts = stack.parts();
-    if parts < PART_COUNT {
-        let firsts = firsts_at_top(alloc, source, kit, stack, kept.take())?;
-        let moves = source.list(alloc, kit, stack.top(), &firsts, parts)?;
-        stack.refill(moves);
-        *kept = Some(firsts);
+    let old = mem::replace(kept, Kept::Nothing);
+    if parts == 0 {
+        *kept = Kept::Offers(lead(alloc, source, kit, stack)?);
+    } else if parts < PART_COUNT {
+        *kept = Kept::Firsts(make_part(alloc, source, kit, stack, parts, old)?);
     } else {
         stack.drop_top();
-        *kept = None;
     }
     Ok(())
 }
@@ -155,7 +257,7 @@ fn find_new<S: Expanding>(
     ensures found { IfOk result
         (IsFound (S.problem source.now) met.old met.new (spots stack.new) (taken stack.new)) }
 {
-    let mut kept = None;
+    let mut kept = Kept::Nothing;
     while !stack.is_empty() {
         match try_rest(alloc, source, kit, met, stack)? {
             Some(found) => return Ok(found),

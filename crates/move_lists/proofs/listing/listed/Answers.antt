@@ -6,26 +6,26 @@ use Rattle.move_lists.specs.declared.asking.Question.{Question}
 use Rattle.move_lists.proofs.PartLists.{whole_listed}
 use Rattle.move_lists.proofs.listing.listed.Goals as goal
 
-pub first_moves-requires-clause-kinds : goal.first_moves-requires-clause-kinds
-first_moves-requires-clause-kinds g c = c.requires.kinds
+pub offered_moves-requires-clause-kinds : goal.offered_moves-requires-clause-kinds
+offered_moves-requires-clause-kinds g c = c.requires.kinds
 
-pub first_moves-requires-clause-named : goal.first_moves-requires-clause-named
-first_moves-requires-clause-named g c = c.requires.named
+pub offered_moves-requires-clause-named : goal.offered_moves-requires-clause-named
+offered_moves-requires-clause-named g c = c.requires.named
 
-pub first_moves-requires-clause-cur : goal.first_moves-requires-clause-cur
-first_moves-requires-clause-cur g c = c.requires.cur
+pub offered_moves-requires-clause-cur : goal.offered_moves-requires-clause-cur
+offered_moves-requires-clause-cur g c = c.requires.cur
 
-pub first_moves-requires-clause-goal : goal.first_moves-requires-clause-goal
-first_moves-requires-clause-goal g c = c.requires.goal
+pub offered_moves-requires-clause-goal : goal.offered_moves-requires-clause-goal
+offered_moves-requires-clause-goal g c = c.requires.goal
 
 pub returns-in_err-firsts-clause-kinds : goal.returns-in_err-firsts-clause-kinds
-returns-in_err-firsts-clause-kinds g c = c.first_moves.ensures.kinds
+returns-in_err-firsts-clause-kinds g c = c.offered_moves.ensures.kinds
 
 pub returns-in_err-firsts-clause-rules : goal.returns-in_err-firsts-clause-rules
-returns-in_err-firsts-clause-rules g c = c.first_moves.ensures.rules
+returns-in_err-firsts-clause-rules g c = c.offered_moves.ensures.rules
 
 pub add_parts-added-requires-clause-kinds : goal.add_parts-added-requires-clause-kinds
-add_parts-added-requires-clause-kinds g c = c.first_moves.ensures.kinds
+add_parts-added-requires-clause-kinds g c = c.offered_moves.ensures.kinds
 
 pub add_parts-added-requires-clause-asked : goal.add_parts-added-requires-clause-asked
 add_parts-added-requires-clause-asked g c = record { named = c.requires.named; cur = c.requires.cur; goal = c.requires.goal }
@@ -41,7 +41,7 @@ pub returns-in-Ok-clause-kinds : goal.returns-in-Ok-clause-kinds
 returns-in-Ok-clause-kinds g c = c.add_parts-added.ensures.kinds
 
 pub returns-in-Ok-clause-rules : goal.returns-in-Ok-clause-rules
-returns-in-Ok-clause-rules g c = c.add_parts-added.ensures.rules ∙ c.first_moves.ensures.rules
+returns-in-Ok-clause-rules g c = c.add_parts-added.ensures.rules ∙ c.offered_moves.ensures.rules
 
 pub returns-in-Ok-clause-listed : goal.returns-in-Ok-clause-listed
 returns-in-Ok-clause-listed g c =
@@ -53,7 +53,7 @@ pub returns-in-Err-clause-kinds : goal.returns-in-Err-clause-kinds
 returns-in-Err-clause-kinds g c = c.add_parts-added.ensures.kinds
 
 pub returns-in-Err-clause-rules : goal.returns-in-Err-clause-rules
-returns-in-Err-clause-rules g c = c.add_parts-added.ensures.rules ∙ c.first_moves.ensures.rules
+returns-in-Err-clause-rules g c = c.add_parts-added.ensures.rules ∙ c.offered_moves.ensures.rules
 
 pub returns-in-Err-clause-listed : goal.returns-in-Err-clause-listed
 returns-in-Err-clause-listed g c = tt

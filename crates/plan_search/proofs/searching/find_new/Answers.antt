@@ -23,5 +23,5 @@ loop-alloc-preserved g c =
 
 pub pass_on-requires-clause-kept : goal.pass_on-requires-clause-kept
 pass_on-requires-clause-kept g c =
-    kept_same (g.S.Expanding.are_firsts c.args.source.now) (spots c.loop-alloc.stack) (spots c.try_rest.new.stack) c.loop-alloc.kept
-    c.try_rest.ensures.configs c.loop-alloc.invariant.kept
+    kept_same (g.S.Expanding.are_offers c.args.source.now) (g.S.Expanding.are_firsts c.args.source.now)
+    (spots c.loop-alloc.stack) (spots c.try_rest.new.stack) c.loop-alloc.kept c.try_rest.ensures.configs c.loop-alloc.invariant.kept

@@ -1,6 +1,6 @@
-use Rattle.std.proofs.Common.{◌≡◌, IfSome}
+use Rattle.std.proofs.Common.{◌≡◌}
 use Rattle.plan_search.specs.Searching.{IsUnderWay, weight}
-use Rattle.plan_search.specs.Stacks.{AtTop, spots, taken}
+use Rattle.plan_search.specs.Stacks.{IsKept, spots, taken}
 use Rattle.plan_search.proofs.searching.find_new.Given as goal
 
 -- the search is under way as before, the kit can be asked, and what is kept is of the last configuration
@@ -9,7 +9,7 @@ invariant-loop-alloc g l = record {
   ready : g.S.Expanding.is_ready l.fn.source l.kit;
   same : l.met ≡ l.fn.met;
   way : IsUnderWay (g.S.Expanding.problem l.fn.source) l.met (spots l.stack) (taken l.stack);
-  kept : IfSome l.kept (AtTop (g.S.Expanding.are_firsts l.fn.source) (spots l.stack));
+  kept : IsKept (g.S.Expanding.are_offers l.fn.source) (g.S.Expanding.are_firsts l.fn.source) (spots l.stack) l.kept;
 }
 
 abbrev pub decreases-loop-alloc : goal.decreases-loop-alloc

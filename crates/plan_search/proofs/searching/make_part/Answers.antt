@@ -1,6 +1,6 @@
 use Rattle.plan_search.specs.Stacks.{spots}
 use Rattle.plan_search.proofs.Tops.{at_top}
-use Rattle.plan_search.proofs.searching.pass_on.Goals as goal
+use Rattle.plan_search.proofs.searching.make_part.Goals as goal
 
 pub list-requires-clause-firsts : goal.list-requires-clause-firsts
 list-requires-clause-firsts g c =
