@@ -14,9 +14,8 @@ use conf_store::Stored;
 use gcu_requests::{Planning, prepare, test_target};
 use host_core::Host;
 use move_core::{Boxes, Ctx, Kit, Plan};
-use operators::first_plan;
 use plan_options::Target;
-use plan_search::SearchError;
+use plan_search::{SearchError, first_plan};
 use std::alloc::Global;
 
 /// A plan for a target.

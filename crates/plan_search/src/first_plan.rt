@@ -1,11 +1,12 @@
-//! The first plan from one configuration to another.
+//! The first plan from one configuration to another, searched for by a ledger of its own.
 ghost use Rattle.std.specs.Prelude.{◌≡◌, ◌<◌};
 ghost use Rattle.move_core.specs.Contexts.{IsNamed, IsValidIn, rulebook};
 ghost use Rattle.plan_search.specs.Searches.{IsSearchAnswer};
 
+use crate::planning::search;
+use crate::{SearchError, Steps};
 use conf_doc::Config;
 use move_core::{Boxes, Ctx, Kit, Plan};
-use plan_search::{SearchError, Steps, search};
 use std::alloc::Global;
 use std::marker::Brand;
 use std::sync::ledger::{Blank, Ledger};
