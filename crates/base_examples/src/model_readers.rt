@@ -4,8 +4,8 @@ ghost use Rattle.yang_model.specs.Sizes.{most_statements};
 ghost use Rattle.yang_text.specs.Declarations.{total_weight};
 
 use example_rows::Fail;
+use gcu_inputs::read_list;
 use host_core::Txt;
-use model_list::read_list;
 use std::alloc::Global;
 use yang_model::{ModelError, compile};
 use yang_text::{ModelWhy, Statements, TextError, parse};

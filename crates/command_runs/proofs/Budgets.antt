@@ -6,13 +6,13 @@ use Rattle.std.specs.List.{list_all}
 use Rattle.std.proofs.lemmas.Bool.Decides.{nat_tests}
 use Rattle.host_core.specs.Characters.{digit_zero}
 use Rattle.patch_core.specs.Indexes.{number}
-use Rattle.plan_options.specs.Decimals.{number_within}
-use Rattle.plan_options.specs.Demos.{demo_of, Demo}
-use Rattle.plan_options.specs.Options.{Options, budget_in, budget_word, dry_run_word, most_budget, options, with_budget}
-use Rattle.plan_options.specs.Targets.{resumed}
-use Rattle.plan_options.specs.Words.{is_positional, is_word}
-use Rattle.gcu_inputs.specs.Form.{Form, abandon, change, check, check_plan, delete_checkpoint, demo, form, form_of_check, form_of_demo, form_of_interruption, form_of_plan, form_of_resume, list_checkpoints, migrate_checkpoints, plan, planned, preview, save_checkpoint, status}
-use Rattle.gcu_inputs.specs.Tasks.{Task, reach, task_of}
+use Rattle.gcu_words.specs.Decimals.{number_within}
+use Rattle.gcu_words.specs.Demos.{demo_of, Demo}
+use Rattle.gcu_words.specs.Options.{Options, budget_in, budget_word, dry_run_word, most_budget, options, with_budget}
+use Rattle.gcu_words.specs.Targets.{resumed}
+use Rattle.gcu_words.specs.Words.{is_positional, is_word}
+use Rattle.gcu_words.specs.Form.{Form, abandon, change, check, check_plan, delete_checkpoint, demo, form, form_of_check, form_of_demo, form_of_interruption, form_of_plan, form_of_resume, list_checkpoints, migrate_checkpoints, plan, planned, preview, save_checkpoint, status}
+use Rattle.gcu_words.specs.Tasks.{Task, reach, task_of}
 
 -- ---- options
 

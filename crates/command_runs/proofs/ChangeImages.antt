@@ -11,11 +11,11 @@ use Rattle.move_core.specs.declared.moves.Move.{Move}
 use Rattle.change_apply.specs.Acknowledgements.{acks}
 use Rattle.change_apply.specs.Change.{Change, name_at}
 use Rattle.change_apply.specs.Crashes.{StandAt}
-use Rattle.plan_options.specs.Options.{most_budget}
+use Rattle.gcu_words.specs.Options.{most_budget}
 use Rattle.gcu_output.specs.declared.outcomes.Outcome.{Outcome}
 use Rattle.gcu_output.specs.declared.outcomes.Outcome.TheVariants.{Done, Memory, InputFault, DiskFault, PrintFault, ServiceFault, Unorderable, Budget}
 use Rattle.gcu_inputs.specs.Asking.{Asking}
-use Rattle.gcu_inputs.specs.Tasks.{Task}
+use Rattle.gcu_words.specs.Tasks.{Task}
 use Rattle.gcu_requests.specs.Request as request
 use Rattle.gcu_requests.specs.Request.{Request, Work, ctx_of}
 use Rattle.gcu_requests.specs.WorkAsked.{change_asked}

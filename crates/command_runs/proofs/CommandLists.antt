@@ -3,7 +3,7 @@ use Rattle.std.proofs.Common.{◌≡◌, List, [], ◌∷◌, ◌++◌, refl, sy
 use Rattle.host_core.specs.MemoryHost.{MemoryHost}
 use Rattle.host_core.specs.State.{State}
 use Rattle.conf_doc.specs.declared.configuration.Config.{Config}
-use Rattle.gcu_inputs.specs.ScopeForm.{IsUnscoped}
+use Rattle.gcu_words.specs.ScopeForm.{IsUnscoped}
 use Rattle.command_runs.specs.Adding.{AddsRun}
 use Rattle.command_runs.specs.Histories.{AllLead, AllStandFor}
 use Rattle.command_runs.specs.Runs.{AreRun, AreUnscoped}

@@ -6,7 +6,7 @@ use Rattle.host_core.specs.MemoryHost.{GoesOn, MemoryHost, faulty_by, left_of, m
 use Rattle.host_core.specs.declared.faults.Faults.{Faults}
 use Rattle.gcu_output.specs.declared.outcomes.Outcome.{Outcome}
 use Rattle.gcu_output.specs.declared.outcomes.Outcome.TheVariants.{Usage}
-use Rattle.gcu_inputs.specs.ScopeForm.{IsNoCommand, IsUnscoped}
+use Rattle.gcu_words.specs.ScopeForm.{IsNoCommand, IsUnscoped}
 use Rattle.gcu_requests.specs.Asked.{asked}
 use Rattle.gcu_engine.specs.Answers.{Answers, Complete, HasCause, TellsUsage}
 use Rattle.gcu_engine.specs.Crashes.{LeftMeanwhile}

@@ -6,9 +6,9 @@ use Rattle.move_core.specs.Contexts.{IsValidIn, rulebook}
 use Rattle.move_core.specs.declared.moves.Move.{Move}
 use Rattle.operators.specs.Replies.{commits_line, reply_line}
 use Rattle.operators.specs.Runs.{IsOperated, IsRunOf, IsTurnOf, reply_lines}
-use Rattle.session_scripts.specs.Scripts.{AreNamed, name_of}
-use Rattle.session_scripts.specs.declared.script_lines.ScriptLine.{ScriptLine}
-use Rattle.session_scripts.specs.declared.script_lines.ScriptLine.TheVariants.{Begin, Step, Retarget, End}
+use Rattle.gcu_words.specs.Scripts.{AreNamed, name_of}
+use Rattle.gcu_words.specs.declared.script_lines.ScriptLine.{ScriptLine}
+use Rattle.gcu_words.specs.declared.script_lines.ScriptLine.TheVariants.{Begin, Step, Retarget, End}
 use Rattle.sessions.specs.Runs.{moves_of}
 use Rattle.sessions.specs.Turns.{Aim, IsBegin, IsEnd, IsNext, IsRetarget, IsStep, Refusal, Towards}
 use Rattle.sessions.specs.Worlds.{IsKept, Leads, Session, WorldState, opened, session_of}

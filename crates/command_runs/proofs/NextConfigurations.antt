@@ -13,12 +13,12 @@ use Rattle.conf_doc.specs.declared.configuration.Config.{Config}
 use Rattle.conf_store.specs.Stored.{stored}
 use Rattle.move_core.specs.Plans.{conf}
 use Rattle.move_core.specs.declared.moves.Move.{Move}
-use Rattle.plan_options.specs.Options.{most_budget}
+use Rattle.gcu_words.specs.Options.{most_budget}
 use Rattle.gcu_output.specs.declared.outcomes.Outcome.{Outcome}
-use Rattle.gcu_inputs.specs.Form as forms
-use Rattle.gcu_inputs.specs.Form.{Form, form}
-use Rattle.gcu_inputs.specs.ScopeForm.{IsUnscoped}
-use Rattle.gcu_inputs.specs.Tasks.{Task}
+use Rattle.gcu_words.specs.Form as forms
+use Rattle.gcu_words.specs.Form.{Form, form}
+use Rattle.gcu_words.specs.ScopeForm.{IsUnscoped}
+use Rattle.gcu_words.specs.Tasks.{Task}
 use Rattle.gcu_requests.specs.Asked.{form_asked, migrate_asked}
 use Rattle.gcu_requests.specs.Request as request
 use Rattle.gcu_requests.specs.Request.{Request}

@@ -14,7 +14,7 @@ use Rattle.checkpoints.specs.Points.{Held, points}
 use Rattle.move_core.specs.Contexts.{IsValidIn}
 use Rattle.move_core.specs.declared.contexts.Ctx.{Ctx}
 use Rattle.move_core.specs.declared.moves.Move.{Move}
-use Rattle.plan_options.specs.Options.{most_budget}
+use Rattle.gcu_words.specs.Options.{most_budget}
 use Rattle.gcu_output.specs.declared.outcomes.Outcome.{Outcome}
 use Rattle.gcu_output.specs.declared.outcomes.Outcome.TheVariants.{Done, Memory, InputFault, DiskFault, PrintFault, ServiceFault, Unorderable, Budget}
 use Rattle.gcu_output.specs.Lines.{last_line, line_feed}
@@ -22,20 +22,20 @@ use Rattle.gcu_output.specs.Statuses.{status_text}
 use Rattle.gcu_output.specs.declared.statuses.Intent.{Intent}
 use Rattle.gcu_output.specs.declared.statuses.Intent.TheVariants.{Absent, Broken, Whole}
 use Rattle.gcu_inputs.specs.Asking.{Asking}
-use Rattle.gcu_inputs.specs.Form as forms
-use Rattle.gcu_inputs.specs.Form.{Form}
+use Rattle.gcu_words.specs.Form as forms
+use Rattle.gcu_words.specs.Form.{Form}
 use Rattle.gcu_requests.specs.Asked.{absent_answer, form_asked, there_answer}
 use Rattle.gcu_requests.specs.InterruptionAsked.{intent_of}
 use Rattle.gcu_requests.specs.PlanAsked.{planning_asked, start_asked}
-use Rattle.plan_options.specs.Targets.{Target}
-use Rattle.gcu_inputs.specs.Tasks.{Task, reach, run_script}
+use Rattle.gcu_words.specs.Targets.{Target}
+use Rattle.gcu_words.specs.Tasks.{Task, reach, run_script}
 use Rattle.gcu_requests.specs.Request as request
 use Rattle.gcu_requests.specs.Request.{Operating, Planning, Request, Work, operated, planned}
 use Rattle.gcu_requests.specs.SessionsAsked.{operating_asked, script_answer, script_asked}
 use Rattle.gcu_requests.specs.WorkAsked.{work_asked}
-use Rattle.session_scripts.proofs.NamedLines.{script_named}
-use Rattle.session_scripts.specs.Scripts.{AreNamed, script}
-use Rattle.session_scripts.specs.declared.script_lines.ScriptLine.{ScriptLine}
+use Rattle.gcu_words.proofs.NamedLines.{script_named}
+use Rattle.gcu_words.specs.Scripts.{AreNamed, script}
+use Rattle.gcu_words.specs.declared.script_lines.ScriptLine.{ScriptLine}
 use Rattle.host_core.specs.Answers.{map_ok}
 use Rattle.gcu_engine.specs.Answers.{IsDoneOutput, IsUntouched, LeavesDone, LeavesStopped, Prints, Says}
 use Rattle.gcu_engine.specs.Plannings.{IsPlanFor}

@@ -3,7 +3,7 @@ use Rattle.std.specs.Prelude.{◌≡◌, List, [], ◌∷◌, ◌++◌}
 use Rattle.host_core.specs.MemoryHost.{MemoryHost}
 use Rattle.conf_doc.specs.declared.configuration.Config.{Config}
 use Rattle.command_runs.specs.Histories.{AllStandFor, Leads}
-use Rattle.gcu_inputs.specs.ScopeForm.{IsUnscoped}
+use Rattle.gcu_words.specs.ScopeForm.{IsUnscoped}
 use Rattle.command_runs.specs.Runs.{IsRun}
 use Rattle.command_runs.specs.declared.stops.Ran.{Ran}
 use Rattle.command_runs.specs.declared.stops.Stop.{Stop}

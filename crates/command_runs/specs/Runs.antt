@@ -11,7 +11,7 @@ use Rattle.host_core.specs.declared.faults.Faults.{Faults}
 use Rattle.gcu_output.specs.Lines.{number}
 use Rattle.gcu_output.specs.declared.outcomes.Outcome.{Outcome}
 use Rattle.gcu_output.specs.declared.outcomes.Outcome.TheVariants.{Usage}
-use Rattle.gcu_inputs.specs.ScopeForm.{IsNoCommand, IsUnscoped}
+use Rattle.gcu_words.specs.ScopeForm.{IsNoCommand, IsUnscoped}
 use Rattle.gcu_requests.specs.Asked.{asked}
 use Rattle.gcu_engine.specs.Answers.{Answers, Complete, HasCause, TellsUsage}
 use Rattle.gcu_engine.specs.Crashes.{LeftMeanwhile}

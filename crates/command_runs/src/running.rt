@@ -1,7 +1,7 @@
 //! One command that is run to its end or stopped, and lists of them.
 ghost use Rattle.std.specs.Prelude.{List, IfOk};
 ghost use Rattle.conf_doc.specs.declared.configuration.Config.{Config};
-ghost use Rattle.gcu_inputs.specs.ScopeForm.{IsUnscoped};
+ghost use Rattle.gcu_words.specs.ScopeForm.{IsUnscoped};
 ghost use Rattle.command_runs.specs.Histories.{AllStandFor, Leads};
 ghost use Rattle.command_runs.specs.Runs.{IsRun};
 

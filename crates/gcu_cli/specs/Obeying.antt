@@ -3,7 +3,7 @@ use Rattle.std.specs.Prelude.{◌≡◌, ℕ, List, Result, Ok, Err}
 use Rattle.host_core.specs.declared.errors.Memory as host
 use Rattle.gcu_output.specs.declared.outcomes.Outcome.{Outcome}
 use Rattle.gcu_output.specs.declared.outcomes.Outcome.TheVariants.{Memory, Usage}
-use Rattle.gcu_inputs.specs.ScopeForm.{IsNoCommand}
+use Rattle.gcu_words.specs.ScopeForm.{IsNoCommand}
 use Rattle.gcu_engine.specs.Answers.{TellsUsage}
 
 -- the outcome is Usage only where the words are no command, and where they are none it tells so

@@ -12,7 +12,7 @@ use Rattle.gcu_output.specs.Printing.{IsPrinted, IsSaid, text_in_lines}
 use Rattle.gcu_output.specs.declared.outcomes.Outcome.{Outcome}
 use Rattle.gcu_output.specs.declared.outcomes.Outcome.TheVariants.{Done, Memory, Usage, InputFault, DiskFault, PrintFault, ServiceFault, Unorderable, Budget}
 use Rattle.gcu_inputs.specs.Asking.{Asking}
-use Rattle.gcu_inputs.specs.Form.{Form, form, preview}
+use Rattle.gcu_words.specs.Form.{Form, form, preview}
 use Rattle.gcu_inputs.specs.Preparing.{FailsIn, Finds, Refuses, StandsIn, refusal}
 use Rattle.gcu_requests.specs.Asked.{asked, form_asked, preview_asked, target_asked}
 use Rattle.gcu_requests.specs.Request as request

@@ -15,7 +15,7 @@ use Rattle.change_apply.specs.Acknowledgements.{acks}
 use Rattle.change_apply.specs.Change.{Change, name_at, restarts_at}
 use Rattle.change_apply.specs.Ends.{IsStopped, IsStoppedInRestarts}
 use Rattle.change_apply.specs.declared.ready.Restart.{Restart}
-use Rattle.plan_options.specs.Targets.{Target, patched, replaced, resumed, rolled_back}
+use Rattle.gcu_words.specs.Targets.{Target, patched, replaced, resumed, rolled_back}
 use Rattle.gcu_output.specs.Lines.{last_line, service_line}
 use Rattle.gcu_output.specs.declared.outcomes.Outcome.{Outcome}
 use Rattle.gcu_output.specs.declared.outcomes.Outcome.TheVariants.{Done, Memory, Usage, InputFault, DiskFault, PrintFault, ServiceFault, Unorderable, Budget, TargetInvalid}
@@ -23,7 +23,7 @@ use Rattle.gcu_inputs.specs.Asking.{Asking, a_file, follows, follows_by, â—Œ>>>â
 use Rattle.gcu_inputs.specs.IntentAsked.{gate_asked, uninterrupted}
 use Rattle.gcu_inputs.specs.Preparing.{FailsIn, Refuses, StandsIn, refusal}
 use Rattle.gcu_inputs.specs.RulesAsked.{settings_asked}
-use Rattle.gcu_inputs.specs.Tasks.{Task, reach, run_script}
+use Rattle.gcu_words.specs.Tasks.{Task, reach, run_script}
 use Rattle.gcu_requests.specs.PlanAsked.{HasKeys, IsElsewhereAs, IsValidOr, made_asked, planning_asked, start_asked}
 use Rattle.gcu_requests.specs.ReadPlannings.{planning_of}
 use Rattle.gcu_requests.specs.ReadScripts.{operating_of}
@@ -33,7 +33,7 @@ use Rattle.gcu_requests.specs.WorkAsked.{settled_asked, work_asked}
 use Rattle.gcu_requests.specs.declared.planning.Planning as code
 use Rattle.gcu_requests.specs.declared.session_preparing.Operating as runs
 use Rattle.patch_core.specs.Operation.{Operation}
-use Rattle.session_scripts.specs.declared.script_lines.ScriptLine.{ScriptLine}
+use Rattle.gcu_words.specs.declared.script_lines.ScriptLine.{ScriptLine}
 use Rattle.gcu_engine.specs.FaultLines.{AreNamed}
 use Rattle.gcu_engine.specs.Answers.{HasCause, Leaves, Prints, Says}
 use Rattle.gcu_engine.specs.Changing.{AreAcknowledged, IsBegun, IsChangeFor, IsLast, acknowledged, begun}

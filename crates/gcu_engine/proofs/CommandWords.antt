@@ -2,13 +2,13 @@
 use Rattle.std.proofs.Common.{◌≡◌, ◌≢◌, ◌⊎◌, inl, inr, ℕ, zero, suc, List, [], ◌∷◌, ◌++◌, Bool, true, false, ◌&&◌, not, refl, sym, ap, ◌∙◌, subst, arith, Option, Some, None, IfSome, option_map, if◌then◌else◌}
 use Rattle.std.specs.Prelude.{codes, Contains, option_and_then}
 use Rattle.std.specs.Cmp.Lexicographic.{bytes_decides}
-use Rattle.plan_options.specs.Demos.{Demo, demo_of}
-use Rattle.plan_options.specs.Options.{Options, budget_in, budget_word, dry_run_word, options, with_budget}
-use Rattle.plan_options.specs.Targets.{Target, patched, replaced, resumed, rolled_back, target_of}
-use Rattle.plan_options.specs.Words.{is_positional, is_word}
-use Rattle.gcu_inputs.specs.Form.{Form, form, form_of_check, form_of_demo, form_of_more, form_of_one, form_of_plan, form_of_resume, form_of_two, planned}
-use Rattle.gcu_inputs.specs.Form as forms
-use Rattle.gcu_inputs.specs.Tasks.{Task, reach, run_script, task_of}
+use Rattle.gcu_words.specs.Demos.{Demo, demo_of}
+use Rattle.gcu_words.specs.Options.{Options, budget_in, budget_word, dry_run_word, options, with_budget}
+use Rattle.gcu_words.specs.Targets.{Target, patched, replaced, resumed, rolled_back, target_of}
+use Rattle.gcu_words.specs.Words.{is_positional, is_word}
+use Rattle.gcu_words.specs.Form.{Form, form, form_of_check, form_of_demo, form_of_more, form_of_one, form_of_plan, form_of_resume, form_of_two, planned}
+use Rattle.gcu_words.specs.Form as forms
+use Rattle.gcu_words.specs.Tasks.{Task, reach, run_script, task_of}
 use Rattle.gcu_engine.specs.Headline.{IsChangeCommand, first_words}
 
 -- ---- words

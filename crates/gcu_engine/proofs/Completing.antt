@@ -5,7 +5,7 @@ use Rattle.host_core.specs.State.{State}
 use Rattle.gcu_output.specs.declared.outcomes.Outcome.{Outcome}
 use Rattle.gcu_output.specs.declared.outcomes.Outcome.TheVariants.{Done, Memory, InputFault, DiskFault, PrintFault, ServiceFault, Unorderable, Budget}
 use Rattle.gcu_inputs.specs.Asking.{Asking}
-use Rattle.gcu_inputs.specs.Form.{Form, form}
+use Rattle.gcu_words.specs.Form.{Form, form}
 use Rattle.gcu_requests.specs.Asked.{asked, form_asked}
 use Rattle.gcu_requests.specs.Request as request
 use Rattle.gcu_requests.specs.Request.{Request}

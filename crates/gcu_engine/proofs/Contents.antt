@@ -27,7 +27,7 @@ use Rattle.patch_core.specs.Reading.{patch}
 use Rattle.patch_core.specs.declared.errors.ApplyError.{ApplyError}
 use Rattle.patch_core.specs.declared.errors.ApplyError.TheVariants as failed
 use Rattle.patch_core.specs.declared.errors.PatchError.{PatchError}
-use Rattle.model_list.specs.Lists.{paths_of}
+use Rattle.gcu_inputs.specs.ModelList.{paths_of}
 use Rattle.yang_text.specs.Reading.{reading}
 use Rattle.yang_text.specs.declared.faults.Fault.{Fault}
 use Rattle.yang_text.proofs.Theorems.{read_spells}
@@ -38,7 +38,7 @@ use Rattle.move_core.specs.declared.contexts.Ctx.{Ctx}
 use Rattle.move_core.specs.declared.errors.RulesError.{RulesError}
 use Rattle.move_core.specs.declared.errors.RulesError.TheVariants as wrong
 use Rattle.move_core.specs.declared.settings.Settings.{Settings}
-use Rattle.plan_options.specs.Targets.{Target, patched, replaced, resumed, rolled_back}
+use Rattle.gcu_words.specs.Targets.{Target, patched, replaced, resumed, rolled_back}
 use Rattle.gcu_output.specs.declared.outcomes.Outcome.{Outcome}
 use Rattle.gcu_inputs.specs.IntentAsked.{held_answer as intent_held, intended_asked}
 use Rattle.gcu_inputs.specs.ModelFiles.{File, Text, bytes_asked, bytes_in, files_asked, list_limit, list_path, model_limit, models_asked, paths_asked, statements_of, text_answer, texts_in}

@@ -3,13 +3,13 @@ use Rattle.std.proofs.Common.{◌≡◌, ◌≤◌, inl, inr, Bool, true, false,
 use Rattle.host_core.specs.Crashes.{Elapses, LeavesOnly, Left, MayLeave, MayLeaveNow}
 use Rattle.host_core.specs.State.{State, printed}
 use Rattle.host_core.proofs.Runs.{begins, goes_on, weaker}
-use Rattle.gcu_inputs.specs.Tasks.{Task}
+use Rattle.gcu_words.specs.Tasks.{Task}
 use Rattle.gcu_output.specs.Lines.{last_line}
 use Rattle.gcu_output.specs.Printing.{LeftInText, LeftInTold, may_have_written}
 use Rattle.gcu_output.specs.declared.outcomes.Outcome.{Outcome}
 use Rattle.gcu_output.specs.declared.outcomes.Outcome.TheVariants.{Memory}
 use Rattle.gcu_inputs.specs.Asking.{Asking}
-use Rattle.gcu_inputs.specs.Form.{Form, change, form, migrate_checkpoints}
+use Rattle.gcu_words.specs.Form.{Form, change, form, migrate_checkpoints}
 use Rattle.gcu_requests.specs.Asked.{asked, form_asked, migrate_asked}
 use Rattle.gcu_requests.specs.WorkAsked.{change_asked}
 use Rattle.gcu_requests.specs.Request as request

@@ -9,10 +9,10 @@ use Rattle.checkpoints.specs.Points.{points}
 use Rattle.move_core.specs.Contexts.{rulebook}
 use Rattle.move_core.specs.Plans.{IsReachable}
 use Rattle.move_core.specs.declared.contexts.Ctx.{Ctx}
-use Rattle.plan_options.specs.Targets.{Target}
-use Rattle.gcu_inputs.specs.Form.{Form, form}
-use Rattle.gcu_inputs.specs.Form as forms
-use Rattle.gcu_inputs.specs.Tasks.{Task, reach, run_script}
+use Rattle.gcu_words.specs.Targets.{Target}
+use Rattle.gcu_words.specs.Form.{Form, form}
+use Rattle.gcu_words.specs.Form as forms
+use Rattle.gcu_words.specs.Tasks.{Task, reach, run_script}
 use Rattle.gcu_engine.specs.Contents.{IsContextIn, IsMade}
 use Rattle.gcu_engine.specs.Folder.{StandForSame, Stores}
 use Rattle.gcu_engine.specs.Headline.{AddsPoint, HasNoOrder, HasWholePoints, IsUnacknowledged, IsChangeCommand, IsLastOrNext, IsTaskCommand, RemovesPoint}

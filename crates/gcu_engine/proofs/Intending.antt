@@ -18,8 +18,8 @@ use Rattle.change_apply.specs.Change.{Change, conf_at, goal, steps}
 use Rattle.change_apply.specs.Crashes.{StandAt}
 use Rattle.change_apply.specs.Intents.{HoldsGoal, IsOver as IsGone, KeepsIntent}
 use Rattle.change_apply.proofs.IntentNames.{intent_not_scratch}
-use Rattle.gcu_inputs.specs.Form.{Form}
-use Rattle.gcu_inputs.specs.Tasks.{Task}
+use Rattle.gcu_words.specs.Form.{Form}
+use Rattle.gcu_words.specs.Tasks.{Task}
 use Rattle.gcu_requests.specs.Request as request
 use Rattle.gcu_requests.specs.Request.{Work, start_of}
 use Rattle.gcu_requests.specs.WorkAsked.{change_asked}

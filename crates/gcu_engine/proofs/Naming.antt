@@ -6,13 +6,13 @@ use Rattle.host_core.specs.Crashes.{Left, LeavesOnly}
 use Rattle.host_core.specs.State.{State}
 use Rattle.host_core.proofs.Runs as runs
 use Rattle.checkpoints.specs.Names.{is_good_name}
-use Rattle.plan_options.specs.Targets.{Target, patched, replaced, resumed, rolled_back}
+use Rattle.gcu_words.specs.Targets.{Target, patched, replaced, resumed, rolled_back}
 use Rattle.gcu_output.specs.Lines.{last_line}
 use Rattle.gcu_output.specs.declared.outcomes.Outcome.{Outcome}
 use Rattle.gcu_output.specs.declared.outcomes.Outcome.TheVariants.{Done, Memory, InputFault, DiskFault, PrintFault, ServiceFault, Unorderable, Budget, BadName}
 use Rattle.gcu_inputs.specs.Asking.{Asking, Source, follows}
 use Rattle.gcu_inputs.specs.Preparing.{Found, Refuses, RefusesAlways, refusal}
-use Rattle.gcu_inputs.specs.Tasks.{Task, reach, run_script}
+use Rattle.gcu_words.specs.Tasks.{Task, reach, run_script}
 use Rattle.gcu_requests.specs.PlanAsked.{target_answer}
 use Rattle.gcu_requests.specs.Request.{Request}
 use Rattle.gcu_requests.specs.WorkAsked.{change_asked, settled_asked, task_answer}

@@ -5,12 +5,12 @@ use Rattle.host_core.specs.Counts.{Counts}
 use Rattle.host_core.specs.State.{State}
 use Rattle.move_core.specs.Operations.{plan_text}
 use Rattle.move_core.specs.declared.moves.Move.{Move}
-use Rattle.plan_options.specs.Targets.{Target}
+use Rattle.gcu_words.specs.Targets.{Target}
 use Rattle.gcu_output.specs.declared.outcomes.Outcome.{Outcome}
 use Rattle.gcu_output.specs.declared.outcomes.Outcome.TheVariants.{Done, Memory, Usage, InputFault, DiskFault, PrintFault, ServiceFault, Unorderable, Budget}
 use Rattle.gcu_inputs.specs.Asking.{Asking, follows}
 use Rattle.gcu_inputs.specs.Preparing.{Finds, Refuses, RefusesAlways, refusal}
-use Rattle.gcu_inputs.specs.Tasks.{reach}
+use Rattle.gcu_words.specs.Tasks.{reach}
 use Rattle.gcu_requests.specs.PlanAsked.{planning_asked, target_answer}
 use Rattle.gcu_requests.specs.ReadPlannings.{planning_of}
 use Rattle.gcu_requests.specs.Request as request

@@ -13,7 +13,7 @@ use Rattle.move_core.specs.Operations.{plan_text}
 use Rattle.move_core.specs.declared.moves.Move.{Move}
 use Rattle.move_core.specs.declared.settings.Settings.{Settings}
 use Rattle.change_apply.specs.Change.{Change}
-use Rattle.plan_options.specs.Targets.{Target, patched, replaced, resumed, rolled_back}
+use Rattle.gcu_words.specs.Targets.{Target, patched, replaced, resumed, rolled_back}
 use Rattle.gcu_output.specs.Lines.{last_line}
 use Rattle.gcu_output.specs.Printing.{IsSaid, LeftInText}
 use Rattle.gcu_output.specs.declared.outcomes.Outcome.{Outcome}
@@ -21,7 +21,7 @@ use Rattle.gcu_output.specs.declared.outcomes.Outcome.TheVariants.{Memory, Input
 use Rattle.gcu_inputs.specs.Asking.{Asking}
 use Rattle.gcu_inputs.specs.IntentAsked.{gate_asked, uninterrupted}
 use Rattle.gcu_inputs.specs.Preparing.{Finds, Found, Refuses}
-use Rattle.gcu_inputs.specs.Tasks.{Task, reach, run_script}
+use Rattle.gcu_words.specs.Tasks.{Task, reach, run_script}
 use Rattle.gcu_requests.specs.PlanAsked.{planning_asked}
 use Rattle.gcu_requests.specs.ReadPlannings.{planning_of}
 use Rattle.gcu_requests.specs.ReadScripts.{operating_of}

@@ -17,8 +17,8 @@ use Rattle.move_core.specs.declared.moves.Move.{Move}
 use Rattle.move_core.specs.declared.settings.ServiceTie.{ServiceTie}
 use Rattle.move_core.specs.declared.settings.Settings.{Settings}
 use Rattle.change_apply.specs.Change.{AreDefined, ArePositions, Change, restarts_at, restarts_of, steps}
-use Rattle.plan_options.specs.Options.{most_budget}
-use Rattle.session_scripts.specs.Scripts.{most_lines}
+use Rattle.gcu_words.specs.Options.{most_budget}
+use Rattle.gcu_words.specs.Scripts.{most_lines}
 use Rattle.sessions.specs.Runs.{moves_of}
 use Rattle.sessions.specs.Worlds.{Leads, WorldState}
 use Rattle.sessions.specs.declared.commits.Commit.{Commit}

@@ -6,7 +6,7 @@ use Rattle.gcu_output.specs.declared.outcomes.Outcome.{Outcome}
 use Rattle.gcu_output.specs.declared.outcomes.Outcome.TheVariants.{Memory}
 use Rattle.gcu_inputs.specs.Preparing.{Finds, Found, Refuses}
 use Rattle.gcu_inputs.specs.Asking.{Asking, follows}
-use Rattle.gcu_inputs.specs.Tasks.{run_script}
+use Rattle.gcu_words.specs.Tasks.{run_script}
 use Rattle.gcu_requests.specs.ReadScripts.{operating_of}
 use Rattle.gcu_requests.specs.Request as request
 use Rattle.gcu_requests.specs.Request.{Request, Work, operated}

@@ -12,13 +12,13 @@ use Rattle.checkpoints.specs.Numbers.{is_full, numbered_points}
 use Rattle.checkpoints.specs.Points.{Held, points}
 use Rattle.move_core.specs.declared.contexts.Ctx.{Ctx}
 use Rattle.gcu_demo.specs.Demo as generated
-use Rattle.plan_options.specs.Options.{default_budget}
+use Rattle.gcu_words.specs.Options.{default_budget}
 use Rattle.gcu_output.specs.declared.outcomes.Outcome.{Outcome}
 use Rattle.gcu_output.specs.declared.outcomes.Outcome.TheVariants.{BadName}
 use Rattle.gcu_output.specs.declared.statuses.Intent.{Intent}
-use Rattle.gcu_inputs.specs.Form.{Form}
-use Rattle.gcu_inputs.specs.Form as forms
-use Rattle.gcu_inputs.specs.Tasks.{Task}
+use Rattle.gcu_words.specs.Form.{Form}
+use Rattle.gcu_words.specs.Form as forms
+use Rattle.gcu_words.specs.Tasks.{Task}
 use Rattle.gcu_requests.specs.Asked.{absent_answer, delete_asked, form_asked, list_asked, migrate_asked, preview_asked, save_asked, there_answer}
 use Rattle.gcu_requests.specs.Checking.{check_asked}
 use Rattle.gcu_requests.specs.DemoAsked.{demo_asked, generated_asked}

@@ -6,13 +6,13 @@ use Rattle.host_core.specs.State.{State}
 use Rattle.conf_store.specs.Files.{intent_file}
 use Rattle.conf_store.specs.Stored.{config_in}
 use Rattle.move_core.specs.Plans.{conf}
-use Rattle.plan_options.specs.Targets.{resumed}
+use Rattle.gcu_words.specs.Targets.{resumed}
 use Rattle.gcu_output.specs.declared.outcomes.Outcome.{Outcome}
 use Rattle.gcu_output.specs.declared.outcomes.Outcome.TheVariants.{Unorderable, Budget}
-use Rattle.gcu_inputs.specs.Form.{Form, form}
+use Rattle.gcu_words.specs.Form.{Form, form}
 use Rattle.gcu_inputs.specs.IntentAsked.{held_answer, interrupted}
 use Rattle.gcu_inputs.specs.StoredAsked.{stored_answer}
-use Rattle.gcu_inputs.specs.Tasks.{reach}
+use Rattle.gcu_words.specs.Tasks.{reach}
 use Rattle.gcu_requests.specs.Asked.{asked, form_asked}
 use Rattle.gcu_requests.specs.OneAnswer.{AskedIsOne, HasOneAnswer}
 use Rattle.gcu_requests.specs.PlanAsked.{goal_asked, planning_asked, start_asked}

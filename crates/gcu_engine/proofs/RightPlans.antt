@@ -14,10 +14,10 @@ use Rattle.move_core.specs.Plans.{IsAllowed, IsWay, conf}
 use Rattle.move_core.specs.Rulebook.{Rulebook}
 use Rattle.move_core.specs.declared.contexts.Ctx.{Ctx}
 use Rattle.move_core.specs.declared.moves.Move.{Move}
-use Rattle.plan_options.specs.Targets.{Target}
+use Rattle.gcu_words.specs.Targets.{Target}
 use Rattle.gcu_output.specs.declared.outcomes.Outcome.{Outcome}
 use Rattle.gcu_inputs.specs.StoredAsked.{stored_answer}
-use Rattle.gcu_inputs.specs.Tasks.{Task, reach, run_script}
+use Rattle.gcu_words.specs.Tasks.{Task, reach, run_script}
 use Rattle.gcu_requests.specs.PlanAsked.{goal_asked, planning_asked, start_asked}
 use Rattle.gcu_requests.specs.Request.{Operating, Planning, Work, ctx_of, operated, planned, start_of}
 use Rattle.gcu_requests.specs.SessionsAsked.{operating_asked}

@@ -14,7 +14,7 @@ use Rattle.scope_changes.specs.Works.{KeepsOutside, KeepsPointsOfScopes, ScopeWo
 use Rattle.gcu_output.specs.declared.outcomes.Outcome.{Outcome}
 use Rattle.gcu_output.specs.declared.outcomes.Outcome.TheVariants.{Done, Memory, InputFault, DiskFault, PrintFault, ServiceFault, Unorderable, Budget}
 use Rattle.gcu_inputs.specs.Asking.{Asking}
-use Rattle.gcu_inputs.specs.ScopesForm.{ScopesForm}
+use Rattle.gcu_words.specs.ScopesForm.{ScopesForm}
 use Rattle.gcu_requests.specs.Request as request
 use Rattle.gcu_requests.specs.Request.{Request, ScopePlan}
 use Rattle.gcu_engine.specs.Answers.{IsUntouched, Leaves, LeavesDone, LeavesStopped, Prints, Says}

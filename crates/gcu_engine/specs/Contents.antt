@@ -6,7 +6,7 @@ use Rattle.serde_json.specs.Data.{Data}
 use Rattle.conf_doc.specs.Reading.{json}
 use Rattle.conf_doc.specs.declared.configuration.Config.{Config}
 use Rattle.conf_store.specs.Files.{intent_file}
-use Rattle.model_list.specs.Lists.{paths_of}
+use Rattle.gcu_inputs.specs.ModelList.{paths_of}
 use Rattle.yang_text.specs.Declarations.{Declaration}
 use Rattle.yang_text.specs.Grammar.{Spells}
 use Rattle.yang_scope.specs.Modules.{modules_of}
@@ -15,7 +15,7 @@ use Rattle.yang_model.specs.Readers.{Readers, AreTrue}
 use Rattle.yang_model.specs.Shapes.{models_of}
 use Rattle.checkpoints.specs.Points.{points}
 use Rattle.move_core.specs.declared.contexts.Ctx.{Ctx}
-use Rattle.plan_options.specs.Targets.{Target, patched, replaced, resumed, rolled_back}
+use Rattle.gcu_words.specs.Targets.{Target, patched, replaced, resumed, rolled_back}
 use Rattle.gcu_engine.specs.Folder.{HoldsConfig, HoldsPatch}
 use Rattle.gcu_engine.specs.RulesValues.{IsSettings}
 

@@ -12,8 +12,8 @@ use Rattle.change_apply.specs.Crashes.{IsLeft}
 use Rattle.change_apply.specs.Intents.{IsClosedOrNot}
 use Rattle.gcu_output.specs.declared.outcomes.Outcome.{Outcome}
 use Rattle.gcu_inputs.specs.Asking.{Asking}
-use Rattle.gcu_inputs.specs.Form as forms
-use Rattle.gcu_inputs.specs.Form.{Form, form}
+use Rattle.gcu_words.specs.Form as forms
+use Rattle.gcu_words.specs.Form.{Form, form}
 use Rattle.gcu_requests.specs.Asked.{form_asked, migrate_asked}
 use Rattle.gcu_requests.specs.Request.{Request, Work, abandon, change, delete_checkpoint, migrate_checkpoints, save_checkpoint}
 use Rattle.gcu_requests.specs.WorkAsked.{change_asked}

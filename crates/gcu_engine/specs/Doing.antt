@@ -12,7 +12,7 @@ use Rattle.move_core.specs.declared.settings.Settings.{Settings}
 use Rattle.change_apply.specs.Change.{Change, change_of, restarts_at, steps}
 use Rattle.change_apply.specs.Ends.{IsStoppedBy}
 use Rattle.change_apply.specs.declared.errors.ApplyFault.TheVariants.{Print}
-use Rattle.plan_options.specs.Targets.{Target, resumed}
+use Rattle.gcu_words.specs.Targets.{Target, resumed}
 use Rattle.gcu_output.specs.declared.outcomes.Outcome.{Outcome}
 use Rattle.gcu_output.specs.declared.outcomes.Outcome.TheVariants.{PrintFault, Unorderable, Budget}
 use Rattle.gcu_inputs.specs.Asking.{Asking}

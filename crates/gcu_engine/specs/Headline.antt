@@ -23,11 +23,11 @@ use Rattle.move_core.specs.Plans.{IsAllowed, IsReachable, conf}
 use Rattle.move_core.specs.declared.contexts.Ctx.{Ctx}
 use Rattle.move_core.specs.declared.moves.Move.{Move}
 use Rattle.change_apply.specs.Acknowledgements.{ack, acks}
-use Rattle.plan_options.specs.Options.{dry_run_word}
-use Rattle.plan_options.specs.Targets.{Target, patched, replaced, resumed, rolled_back}
+use Rattle.gcu_words.specs.Options.{dry_run_word}
+use Rattle.gcu_words.specs.Targets.{Target, patched, replaced, resumed, rolled_back}
 use Rattle.gcu_output.specs.declared.outcomes.Outcome.{Outcome}
 use Rattle.gcu_output.specs.declared.outcomes.Outcome.TheVariants.{Done, Memory, InputFault, Unorderable, Budget}
-use Rattle.gcu_inputs.specs.Tasks.{Task, reach, run_script}
+use Rattle.gcu_words.specs.Tasks.{Task, reach, run_script}
 use Rattle.gcu_engine.specs.Answers.{IsRefusal}
 use Rattle.gcu_engine.specs.Changing.{IsLastLine, IsRefusalLine}
 use Rattle.gcu_engine.specs.Contents.{IsContextIn, IsMade}

@@ -10,8 +10,8 @@ use Rattle.conf_store.specs.Files.{intent_file}
 use Rattle.conf_store.specs.Stored.{stored}
 use Rattle.move_core.specs.Plans.{conf}
 use Rattle.change_apply.specs.Acknowledgements.{acks}
-use Rattle.gcu_inputs.specs.Form.{change, form}
-use Rattle.gcu_inputs.specs.Tasks.{Task}
+use Rattle.gcu_words.specs.Form.{change, form}
+use Rattle.gcu_words.specs.Tasks.{Task}
 use Rattle.gcu_engine.specs.Headline.{IsUnacknowledged, IsNoneWhole, IsRightWork}
 
 -- it holds the file text of a configuration

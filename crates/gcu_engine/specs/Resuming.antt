@@ -8,13 +8,13 @@ use Rattle.move_core.specs.Contexts.{AgreeElsewhere, IsValidIn, rulebook}
 use Rattle.move_core.specs.Plans.{IsPlan, conf}
 use Rattle.move_core.specs.declared.contexts.Ctx.{Ctx}
 use Rattle.move_core.specs.declared.moves.Move.{Move}
-use Rattle.goal_checks.specs.Targets.{HasNoEmptyTable}
-use Rattle.plan_options.specs.Targets.{resumed}
+use Rattle.gcu_requests.specs.GoalTables.{HasNoEmptyTable}
+use Rattle.gcu_words.specs.Targets.{resumed}
 use Rattle.gcu_output.specs.declared.outcomes.Outcome.{Outcome}
 use Rattle.gcu_output.specs.declared.outcomes.Outcome.TheVariants.{Done, Memory, Budget}
-use Rattle.gcu_inputs.specs.Form.{change, form}
+use Rattle.gcu_words.specs.Form.{change, form}
 use Rattle.gcu_inputs.specs.RulesAsked.{ctx_asked}
-use Rattle.gcu_inputs.specs.Tasks.{reach}
+use Rattle.gcu_words.specs.Tasks.{reach}
 use Rattle.gcu_engine.specs.Folder.{HoldsConfig}
 
 -- the folder stands for a configuration of a plan, `intent` holds its goal, and the inputs are as when it was

@@ -9,8 +9,8 @@ use Rattle.scopes.specs.declared.scope.Scope.{Scope}
 use Rattle.scope_changes.specs.Works.{KeepsPointsOfScopes}
 use Rattle.gcu_output.specs.declared.outcomes.Outcome.{Outcome}
 use Rattle.gcu_inputs.specs.Asking.{Asking, a_file}
-use Rattle.gcu_inputs.specs.ScopeForm.{IsScoped}
-use Rattle.gcu_inputs.specs.ScopesForm.{ScopesForm, scopes_form}
+use Rattle.gcu_words.specs.ScopeForm.{IsScoped}
+use Rattle.gcu_words.specs.ScopesForm.{ScopesForm, scopes_form}
 use Rattle.gcu_requests.specs.Asked.{asked}
 use Rattle.gcu_requests.specs.Request.{Request}
 use Rattle.gcu_engine.specs.Answers.{Answers, Complete}

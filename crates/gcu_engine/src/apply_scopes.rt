@@ -5,15 +5,15 @@ ghost use Rattle.host_core.specs.Counts.{NoneFell};
 ghost use Rattle.host_core.specs.Names.{longest_scoped_name};
 ghost use Rattle.host_core.specs.State.{settled};
 ghost use Rattle.gcu_output.specs.declared.outcomes.Outcome.TheVariants.{Usage as usage};
-ghost use Rattle.gcu_inputs.specs.ScopesForm.{scopes_view};
+ghost use Rattle.gcu_words.specs.ScopesForm.{scopes_view};
 ghost use Rattle.gcu_engine.specs.Answers.{HasCause};
 ghost use Rattle.gcu_engine.specs.Scoped.{AppliesScopes, PrintsOrDoes};
 
 use crate::Outcome;
 use crate::change_scopes::change_settled;
 use crate::plan_scopes::plan_settled;
-use gcu_inputs::ScopesForm;
 use gcu_output::say;
+use gcu_words::ScopesForm;
 use host_core::Host;
 use move_core::{Boxes, Kit};
 use scope_changes::scopes_keep_points;

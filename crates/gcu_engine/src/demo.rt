@@ -18,9 +18,9 @@ use crate::Outcome;
 use crate::solving::find_plan;
 use gcu_output::{print, say, say_memory};
 use gcu_requests::prepare_demo;
+use gcu_words::Demo;
 use host_core::Host;
 use move_core::{Boxes, Kit, Plan};
-use plan_options::Demo;
 use std::alloc::{AllocError, Global};
 
 /// Says of how many steps a plan is between the configurations of a demonstration. Of the folder only `intent`

@@ -4,10 +4,10 @@ ghost use Rattle.std.specs.Prelude.{◌≡◌, ◌≤◌, ◌<◌};
 ghost use Rattle.host_core.specs.Counts.{NoneFell};
 ghost use Rattle.host_core.specs.Crashes.{LeavesOnly};
 ghost use Rattle.host_core.specs.Names.{longest_plain_name};
-ghost use Rattle.plan_options.specs.Views.{target_view};
+ghost use Rattle.gcu_words.specs.Views.{target_view};
 ghost use Rattle.gcu_output.specs.declared.outcomes.Outcome.TheVariants.{Usage as usage};
-ghost use Rattle.gcu_inputs.specs.FormView.{task_view};
-ghost use Rattle.gcu_inputs.specs.Tasks.{reach};
+ghost use Rattle.gcu_words.specs.FormView.{task_view};
+ghost use Rattle.gcu_words.specs.Tasks.{reach};
 ghost use Rattle.gcu_requests.specs.WorkAsked.{dry_run_asked};
 ghost use Rattle.gcu_engine.specs.Answers.{HasCause};
 ghost use Rattle.gcu_engine.specs.Commands.{AnswersTo, CompleteTo, LeftTo};
@@ -15,11 +15,10 @@ ghost use Rattle.gcu_engine.specs.Commands.{AnswersTo, CompleteTo, LeftTo};
 use crate::Outcome;
 use crate::rehearse::rehearse;
 use crate::solving::solve;
-use gcu_inputs::Task;
 use gcu_output::{say, show_plan};
+use gcu_words::{Target, Task};
 use host_core::Host;
 use move_core::{Boxes, Kit};
-use plan_options::Target;
 use std::alloc::Global;
 
 /// Prints what a task would do. The folder stays as it is.

@@ -2,7 +2,7 @@
 ghost use Rattle.std.specs.Prelude.{◌≡◌, ◌≤◌, ◌<◌, false, IfErr, IfOk, IfSome};
 ghost use Rattle.host_core.specs.Names.{longest_plain_name};
 ghost use Rattle.gcu_output.specs.declared.outcomes.Outcome.TheVariants.{Memory as no_memory};
-ghost use Rattle.gcu_inputs.specs.Tasks.{run_script};
+ghost use Rattle.gcu_words.specs.Tasks.{run_script};
 ghost use Rattle.gcu_inputs.specs.Reads.{OnlyReads};
 ghost use Rattle.gcu_requests.specs.ReadScripts.{IsReadyToOperate};
 ghost use Rattle.gcu_requests.specs.WorkAsked.{work_asked};

@@ -6,7 +6,7 @@ ghost use Rattle.host_core.specs.Names.{longest_plain_name};
 ghost use Rattle.gcu_output.specs.Printing.{IsSaid, LeftInText};
 ghost use Rattle.gcu_output.specs.declared.outcomes.Outcome.TheVariants.{Done as done, Memory as no_memory, Usage as usage};
 ghost use Rattle.gcu_inputs.specs.Preparing.{Refuses};
-ghost use Rattle.gcu_inputs.specs.Tasks.{run_script};
+ghost use Rattle.gcu_words.specs.Tasks.{run_script};
 ghost use Rattle.gcu_inputs.specs.Reads.{OnlyReads};
 ghost use Rattle.gcu_requests.specs.ReadScripts.{IsReadyToOperate};
 ghost use Rattle.gcu_requests.specs.WorkAsked.{dry_run_asked};

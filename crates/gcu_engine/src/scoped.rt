@@ -4,15 +4,15 @@ ghost use Rattle.host_core.specs.Counts.{NoneFell};
 ghost use Rattle.host_core.specs.Names.{longest_scoped_name};
 ghost use Rattle.host_core.specs.State.{settled};
 ghost use Rattle.gcu_output.specs.declared.outcomes.Outcome.TheVariants.{Usage as usage};
-ghost use Rattle.gcu_inputs.specs.Form.{form};
-ghost use Rattle.gcu_inputs.specs.FormView.{form_view};
+ghost use Rattle.gcu_words.specs.Form.{form};
+ghost use Rattle.gcu_words.specs.FormView.{form_view};
 ghost use Rattle.gcu_engine.specs.Answers.{HasCause};
 ghost use Rattle.gcu_engine.specs.Scoped.{DoesInScope, RunsInScope};
 
 use crate::Outcome;
 use crate::run_form::run_form;
-use gcu_inputs::{Form, ScopeForm};
 use gcu_output::say;
+use gcu_words::{Form, ScopeForm};
 use host_core::Host;
 use move_core::{Boxes, Kit};
 use scopes::{Scope, ScopedHost};

@@ -1,8 +1,8 @@
 //! The plan of a command that plans.
 ghost use Rattle.std.specs.Prelude.{◌≤◌, ◌<◌, IfErr, IfSome};
 ghost use Rattle.host_core.specs.Names.{longest_plain_name};
-ghost use Rattle.plan_options.specs.Views.{target_view};
-ghost use Rattle.gcu_inputs.specs.Tasks.{reach};
+ghost use Rattle.gcu_words.specs.Views.{target_view};
+ghost use Rattle.gcu_words.specs.Tasks.{reach};
 ghost use Rattle.gcu_inputs.specs.Reads.{OnlyReads};
 ghost use Rattle.gcu_requests.specs.WorkAsked.{dry_run_asked};
 ghost use Rattle.gcu_requests.specs.ReadPlannings.{IsReadyToSearch};
@@ -12,11 +12,10 @@ use crate::Outcome;
 use conf_doc::Config;
 use conf_store::Stored;
 use gcu_requests::{Planning, prepare, test_target};
+use gcu_words::Target;
 use host_core::Host;
 use move_core::{Boxes, Ctx, Kit, Plan};
-use operators::first_plan;
-use plan_options::Target;
-use plan_search::SearchError;
+use plan_search::{SearchError, first_plan};
 use std::alloc::Global;
 
 /// A plan for a target.

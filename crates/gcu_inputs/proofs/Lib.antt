@@ -1,7 +1,6 @@
-mod Choices
 pub mod Finding
+mod ModelPaths
 mod ModelTexts
 mod ModelsFinding
 pub mod Reading
 mod RulesFinding
-mod Words

@@ -2,7 +2,7 @@
 use Rattle.std.proofs.Common.{ℕ, List, [], ◌∷◌, ◌++◌, Option, Some, None, Result, Ok, Err, IfErr, ◌≡◌, subst}
 use Rattle.host_core.specs.Answers.{Gives}
 use Rattle.host_core.specs.State.{State}
-use Rattle.model_list.specs.Lists.{paths_of}
+use Rattle.gcu_inputs.specs.ModelList.{paths_of}
 use Rattle.gcu_output.specs.declared.outcomes.Outcome.{Outcome}
 use Rattle.gcu_inputs.specs.ModelFiles.{File, Text, bytes_asked, files_asked, list_path, list_limit, model_limit, paths_asked, text_answer, texts_in, texts_asked}
 use Rattle.gcu_inputs.specs.Preparing.{Finds, RefusesAlways, refusal}

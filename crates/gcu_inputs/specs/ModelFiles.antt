@@ -5,7 +5,7 @@ use Rattle.host_core.specs.Inputs.{input_of}
 use Rattle.host_core.specs.State.{State}
 use Rattle.host_core.specs.declared.host_calls.Input.{Input}
 use Rattle.host_core.specs.declared.host_calls.Input.TheVariants.{Absent, TooBig as longer, Bytes}
-use Rattle.model_list.specs.Lists.{paths_of}
+use Rattle.gcu_inputs.specs.ModelList.{paths_of}
 use Rattle.yang_text.specs.Declarations.{Declaration, total_weight}
 use Rattle.yang_text.specs.Reading.{reading}
 use Rattle.yang_text.specs.declared.faults.Fault.{Fault}

@@ -1,7 +1,7 @@
 //! The texts of the models that the list of files names.
 ghost use Rattle.std.specs.Prelude.{◌≡◌, ◌≤◌, ◌+◌, IfErr, IfOk, length};
 ghost use Rattle.host_core.specs.Answers.{Gives};
-ghost use Rattle.model_list.specs.Lists.{most_files, paths_of};
+ghost use Rattle.gcu_inputs.specs.ModelList.{most_files, paths_of};
 ghost use Rattle.yang_text.specs.Declarations.{total_weight};
 ghost use Rattle.yang_text.specs.Reading.{reading};
 ghost use Rattle.gcu_inputs.specs.ModelFiles.{paths_asked, files_asked, texts_in, texts_asked, text_answer, AreShort, AreSmall};
@@ -9,9 +9,9 @@ ghost use Rattle.gcu_inputs.specs.Preparing.{Finds, Refuses, RefusesAlways, refu
 ghost use Rattle.gcu_inputs.specs.Reads.{ReadsInputs};
 
 use crate::inputs::input_bytes;
+use crate::model_list::read_list;
 use gcu_output::Outcome;
 use host_core::{Host, Names, Sequence, Txt};
-use model_list::read_list;
 use std::alloc::Global;
 use yang_text::{Statements, TextError, parse};
 

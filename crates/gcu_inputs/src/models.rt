@@ -1,6 +1,6 @@
 //! The models of the folder's configuration.
 ghost use Rattle.std.specs.Prelude.{◌≤◌, IfErr, length};
-ghost use Rattle.model_list.specs.Lists.{most_files};
+ghost use Rattle.gcu_inputs.specs.ModelList.{most_files};
 ghost use Rattle.gcu_inputs.specs.ModelFiles.{AreModels, AreSmall, models_asked};
 ghost use Rattle.gcu_inputs.specs.Preparing.{Finds, IsRightBy, Refuses, RefusesAlways};
 ghost use Rattle.gcu_inputs.specs.Reads.{ReadsInputs};

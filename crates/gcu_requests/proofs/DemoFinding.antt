@@ -4,7 +4,7 @@ use Rattle.host_core.specs.State.{State}
 use Rattle.conf_doc.specs.declared.configuration.Config.{Config}
 use Rattle.gcu_demo.specs.Demo as generated
 use Rattle.move_core.specs.declared.contexts.Ctx.{Ctx}
-use Rattle.plan_options.specs.Options.{default_budget}
+use Rattle.gcu_words.specs.Options.{default_budget}
 use Rattle.gcu_output.specs.declared.outcomes.Outcome.{Outcome}
 use Rattle.gcu_output.specs.declared.outcomes.Outcome.TheVariants.{CurrentInvalid}
 use Rattle.gcu_inputs.specs.Asking.{follows_by}

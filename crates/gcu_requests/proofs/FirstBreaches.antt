@@ -7,7 +7,7 @@ use Rattle.conf_check.specs.Rows.{HasShape, Row}
 use Rattle.conf_check.specs.Validity.{Breach, Breaks, IsBreach, IsBreachBefore, IsRuleBefore, no_shape, of_shape, rule_number, stage}
 use Rattle.conf_check.specs.declared.violations.Rule.{Rule}
 use Rattle.conf_check.specs.declared.violations.Rule.TheVariants.{KeyShape, KeyReference, UnknownField, WrongKind, BadValue, DuplicateItem, MissingField, Must}
-use Rattle.violation_places.specs.Places.{IsFieldOf, IsPlaceOf, rule_from}
+use Rattle.gcu_requests.specs.Places.{IsFieldOf, IsPlaceOf, rule_from}
 use Rattle.yang_model.specs.ModelSets.{ModelSet}
 use Rattle.yang_model.specs.declared.shapes.Shape.{Shape}
 use Rattle.gcu_output.specs.declared.outcomes.Outcome.{Outcome}

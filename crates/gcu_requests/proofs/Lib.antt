@@ -2,15 +2,19 @@ pub mod UnchangedViews
 pub mod ValidityFinding
 mod DemoFinding
 pub mod EachFinding
+mod FieldNames
 mod FirstBreaches
 pub mod IntentFinding
 mod OneAnswer
 mod OnePlanAnswer
 mod PlanCheckFinding
 mod PlanFinding
+mod RowNames
 mod ScopesFinding
 mod ScopeOrder
 mod ScopesPreparing
 pub mod ViewEnds
 mod SessionFinding
+mod TableDifferences
+mod TableNames
 pub mod TreeFinding

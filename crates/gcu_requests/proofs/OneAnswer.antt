@@ -12,23 +12,23 @@ use Rattle.yang_model.specs.ModelSets.{ModelSet}
 use Rattle.yang_model.specs.Readers.{AreTrue, Readers}
 use Rattle.conf_check.specs.declared.violations.Rule.{Rule}
 use Rattle.move_core.specs.declared.contexts.Ctx.{Ctx}
-use Rattle.goal_checks.specs.Targets.{AgreeAt, DifferAt, HasKeysAt, IsEmptyAt, IsFirstByName}
+use Rattle.gcu_requests.specs.GoalTables.{AgreeAt, DifferAt, HasKeysAt, IsEmptyAt, IsFirstByName}
 use Rattle.patch_core.specs.Operation.{Operation}
-use Rattle.plan_options.specs.Options.{default_budget}
-use Rattle.plan_options.specs.Targets.{Target, patched, replaced, resumed, rolled_back}
+use Rattle.gcu_words.specs.Options.{default_budget}
+use Rattle.gcu_words.specs.Targets.{Target, patched, replaced, resumed, rolled_back}
 use Rattle.plan_texts.specs.PlanTexts.{most_bytes}
-use Rattle.session_scripts.specs.declared.script_lines.ScriptLine.{ScriptLine}
+use Rattle.gcu_words.specs.declared.script_lines.ScriptLine.{ScriptLine}
 use Rattle.gcu_output.specs.declared.outcomes.Outcome.{Outcome}
 use Rattle.gcu_output.specs.declared.outcomes.Outcome.TheVariants.{BadModels, CurrentInvalid, TargetInvalid, NoModel, EmptyTable}
 use Rattle.gcu_inputs.specs.Asking.{Asking, IsRefused, Source, asks, follows, follows_by, settles_first, ◌>>>◌}
-use Rattle.gcu_inputs.specs.Form.{Form, form}
-use Rattle.gcu_inputs.specs.Form as forms
+use Rattle.gcu_words.specs.Form.{Form, form}
+use Rattle.gcu_words.specs.Form as forms
 use Rattle.gcu_inputs.specs.IntentAsked.{gate_asked, intent_asked, interrupted, uninterrupted}
 use Rattle.gcu_inputs.specs.ModelFiles.{AreModels, File, IsModelRefusal, Text, bytes_asked, files_asked, list_limit, list_path, model_limit, models_asked, paths_asked, statements_of, texts_asked}
 use Rattle.gcu_inputs.specs.PatchAsked.{patch_asked}
 use Rattle.gcu_inputs.specs.RulesAsked.{ctx_asked, rules_limit, rules_path, settings_asked}
 use Rattle.gcu_inputs.specs.StoredAsked.{stored_asked}
-use Rattle.gcu_inputs.specs.Tasks.{Task, reach, run_script}
+use Rattle.gcu_words.specs.Tasks.{Task, reach, run_script}
 use Rattle.gcu_requests.specs.Asked.{delete_asked, form_asked, list_asked, migrate_asked, preview_asked, save_asked, target_asked}
 use Rattle.gcu_requests.specs.Checking.{IsJudged, check_asked, judging_asked}
 use Rattle.gcu_requests.specs.DemoAsked.{demo_asked, demo_planning_asked, generated_asked}

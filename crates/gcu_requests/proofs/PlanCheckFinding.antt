@@ -6,8 +6,8 @@ use Rattle.patch_core.specs.Writing.{operation_document}
 use Rattle.move_core.specs.Operations.{count_line, number_text, op, plan_line, plan_lines, plan_text}
 use Rattle.move_core.specs.declared.moves.Move.{Move}
 use Rattle.plan_check.specs.Checks.{most_steps}
-use Rattle.plan_options.specs.Options.{default_budget}
-use Rattle.plan_options.specs.Targets.{patched}
+use Rattle.gcu_words.specs.Options.{default_budget}
+use Rattle.gcu_words.specs.Targets.{patched}
 use Rattle.plan_texts.specs.PlanTexts.{IsPlanText, done_line, most_bytes}
 use Rattle.gcu_output.specs.declared.outcomes.Outcome.{Outcome}
 use Rattle.gcu_inputs.specs.ModelFiles.{bytes_asked}

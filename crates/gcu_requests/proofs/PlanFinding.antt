@@ -8,7 +8,7 @@ use Rattle.move_core.specs.Contexts.{AgreeElsewhere}
 use Rattle.move_core.specs.declared.contexts.Ctx.{Ctx}
 use Rattle.patch_core.specs.Operation.{operations}
 use Rattle.patch_core.specs.declared.patches.Patch.{Patch}
-use Rattle.plan_options.specs.Targets.{Target, patched}
+use Rattle.gcu_words.specs.Targets.{Target, patched}
 use Rattle.gcu_output.specs.declared.outcomes.Outcome.{Outcome}
 use Rattle.gcu_output.specs.declared.outcomes.Outcome.TheVariants.{CurrentInvalid, TargetInvalid}
 use Rattle.gcu_inputs.specs.Asking.{follows_by}

@@ -9,10 +9,10 @@ use Rattle.conf_store.specs.declared.loaded.Stored.{Stored}
 use Rattle.move_core.specs.declared.contexts.Ctx.{Ctx}
 use Rattle.patch_core.specs.Operation.{Operation, operations}
 use Rattle.patch_core.specs.declared.patches.Patch.{Patch}
-use Rattle.plan_options.specs.Words.{is_word}
-use Rattle.session_scripts.specs.Scripts.{script}
-use Rattle.session_scripts.specs.declared.script_lines.ScriptLine.{ScriptLine}
-use Rattle.session_scripts.specs.declared.script_lines.ScriptLine.TheVariants.{Begin, Step, Retarget, End}
+use Rattle.gcu_words.specs.Words.{is_word}
+use Rattle.gcu_words.specs.Scripts.{script}
+use Rattle.gcu_words.specs.declared.script_lines.ScriptLine.{ScriptLine}
+use Rattle.gcu_words.specs.declared.script_lines.ScriptLine.TheVariants.{Begin, Step, Retarget, End}
 use Rattle.gcu_output.specs.declared.outcomes.Outcome.{Outcome}
 use Rattle.gcu_inputs.specs.Asking.{follows}
 use Rattle.gcu_inputs.specs.ModelFiles.{bytes_asked}

@@ -11,7 +11,7 @@ use Rattle.gcu_output.specs.declared.outcomes.Outcome.{Outcome}
 use Rattle.gcu_output.specs.declared.outcomes.Outcome.TheVariants.{Usage, NoCheckpoint, CheckpointExists, SequenceFull}
 use Rattle.gcu_output.specs.declared.outcomes.PointWhy.TheVariants as why
 use Rattle.gcu_inputs.specs.Asking.{Asking, a_file, asks, follows, settles_first, ◌>>>◌}
-use Rattle.gcu_inputs.specs.Form.{Form, abandon, change, check, check_plan, delete_checkpoint, demo, form, list_checkpoints, migrate_checkpoints, plan, preview, save_checkpoint, status}
+use Rattle.gcu_words.specs.Form.{Form, abandon, change, check, check_plan, delete_checkpoint, demo, form, list_checkpoints, migrate_checkpoints, plan, preview, save_checkpoint, status}
 use Rattle.gcu_inputs.specs.IntentAsked.{uninterrupted}
 use Rattle.gcu_inputs.specs.PatchAsked.{patch_asked, target}
 use Rattle.gcu_inputs.specs.StoredAsked.{stored_asked}

@@ -5,7 +5,7 @@ use Rattle.conf_doc.specs.declared.configuration.Config.{Config}
 use Rattle.yang_model.specs.ModelSets.{ModelSet}
 use Rattle.conf_check.specs.Validity.{Breach, IsBreach, IsBreachBefore, IsValid}
 use Rattle.conf_check.specs.declared.violations.Rule.{Rule}
-use Rattle.violation_places.specs.Places.{IsPlaceOf}
+use Rattle.gcu_requests.specs.Places.{IsPlaceOf}
 use Rattle.gcu_output.specs.declared.outcomes.Outcome.{Outcome}
 use Rattle.gcu_output.specs.declared.outcomes.Outcome.TheVariants.{CurrentInvalid}
 use Rattle.gcu_inputs.specs.Asking.{Asking, follows_by, ◌>>>◌}

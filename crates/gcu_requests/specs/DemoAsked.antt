@@ -3,7 +3,7 @@
 use Rattle.std.specs.Prelude.{ℕ, Ok}
 use Rattle.host_core.specs.State.{State}
 use Rattle.move_core.specs.declared.contexts.Ctx.{Ctx}
-use Rattle.plan_options.specs.Options.{default_budget}
+use Rattle.gcu_words.specs.Options.{default_budget}
 use Rattle.gcu_demo.specs.Demo as generated
 use Rattle.gcu_output.specs.declared.outcomes.Outcome.TheVariants.{CurrentInvalid}
 use Rattle.gcu_inputs.specs.Asking.{Asking, follows, follows_by, ◌>>>◌}

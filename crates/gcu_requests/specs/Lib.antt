@@ -3,9 +3,11 @@ pub mod Asked
 pub mod Checking
 pub mod DemoAsked
 pub mod FileAsked
+pub mod GoalTables
 pub mod IntentView
 pub mod InterruptionAsked
 pub mod OneAnswer
+pub mod Places
 pub mod PlanAsked
 pub mod PlanCheckAsked
 pub mod PointAsked
@@ -19,3 +21,4 @@ pub mod Trees
 pub mod WorkAsked
 -- what only private clauses cite
 pub mod Judging
+pub mod TableWalks

@@ -6,8 +6,8 @@ use Rattle.conf_doc.specs.declared.configuration.Config.{Config}
 use Rattle.conf_check.specs.declared.violations.Rule.{Rule}
 use Rattle.move_core.specs.Contexts.{AgreeElsewhere, IsValidIn}
 use Rattle.move_core.specs.declared.contexts.Ctx.{Ctx}
-use Rattle.goal_checks.specs.Targets.{HasNoEmptyTable, IsFirstDifference, IsFirstEmpty}
-use Rattle.plan_options.specs.Targets.{Target, patched, replaced, resumed, rolled_back}
+use Rattle.gcu_requests.specs.GoalTables.{HasNoEmptyTable, IsFirstDifference, IsFirstEmpty}
+use Rattle.gcu_words.specs.Targets.{Target, patched, replaced, resumed, rolled_back}
 use Rattle.gcu_output.specs.declared.outcomes.Outcome.{Outcome}
 use Rattle.gcu_output.specs.declared.outcomes.Outcome.TheVariants.{CurrentInvalid, TargetInvalid, NoModel, EmptyTable}
 use Rattle.gcu_inputs.specs.Asking.{Asking, follows, follows_by, ◌>>>◌}

@@ -5,8 +5,8 @@ use Rattle.host_core.specs.State.{State}
 use Rattle.move_core.specs.Contexts.{rulebook}
 use Rattle.move_core.specs.Plans.{IsPlan}
 use Rattle.move_core.specs.declared.moves.Move.{Move}
-use Rattle.plan_options.specs.Options.{default_budget}
-use Rattle.plan_options.specs.Targets.{patched}
+use Rattle.gcu_words.specs.Options.{default_budget}
+use Rattle.gcu_words.specs.Targets.{patched}
 use Rattle.plan_texts.specs.PlanTexts.{IsPlanText, most_bytes}
 use Rattle.plan_texts.specs.PlanTexts as texts
 use Rattle.plan_check.specs.Checks.{IsFirstFault}

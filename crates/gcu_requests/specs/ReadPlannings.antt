@@ -6,8 +6,8 @@ use Rattle.conf_store.specs.Files.{is_step_name}
 use Rattle.conf_store.specs.declared.loaded.Stored.{Stored}
 use Rattle.checkpoints.specs.Names.{is_good_name}
 use Rattle.move_core.specs.Contexts.{AgreeElsewhere, IsNamed, IsValidIn}
-use Rattle.plan_options.specs.Targets.{Target, rolled_back}
-use Rattle.gcu_inputs.specs.Tasks.{Task, reach, run_script}
+use Rattle.gcu_words.specs.Targets.{Target, rolled_back}
+use Rattle.gcu_words.specs.Tasks.{Task, reach, run_script}
 use Rattle.gcu_requests.specs.Request as request
 use Rattle.gcu_requests.specs.declared.planning.Planning.{Planning}
 

@@ -6,8 +6,8 @@ use Rattle.conf_store.specs.Files.{is_step_name}
 use Rattle.move_core.specs.Contexts.{IsNamed, IsValidIn}
 use Rattle.patch_core.specs.Operation.{operations}
 use Rattle.patch_core.specs.declared.patches.Patch.{Patch}
-use Rattle.session_scripts.specs.Scripts.{most_lines}
-use Rattle.session_scripts.specs.declared.script_lines.ScriptLine.{ScriptLine}
+use Rattle.gcu_words.specs.Scripts.{most_lines}
+use Rattle.gcu_words.specs.declared.script_lines.ScriptLine.{ScriptLine}
 use Rattle.gcu_requests.specs.Request as request
 use Rattle.gcu_requests.specs.Request.{Patched}
 use Rattle.gcu_requests.specs.SessionsAsked.{file_of, patch_at}

@@ -6,7 +6,7 @@ use Rattle.move_core.specs.declared.contexts.Ctx.{Ctx}
 use Rattle.move_core.specs.declared.moves.Move.{Move}
 use Rattle.patch_core.specs.Operation.{Operation}
 use Rattle.scopes.specs.declared.scope.Scope.{Scope}
-use Rattle.session_scripts.specs.declared.script_lines.ScriptLine.{ScriptLine}
+use Rattle.gcu_words.specs.declared.script_lines.ScriptLine.{ScriptLine}
 use Rattle.gcu_output.specs.declared.statuses.Intent.{Intent}
 
 -- by which models and settings to plan, from where to where, and how many configurations may be met

@@ -4,7 +4,7 @@ use Rattle.host_core.specs.Answers.{map_ok}
 use Rattle.host_core.specs.State.{State}
 use Rattle.gcu_output.specs.declared.outcomes.Outcome.{Outcome}
 use Rattle.gcu_inputs.specs.Asking.{Asking, follows, settles_first, ◌>>>◌}
-use Rattle.gcu_inputs.specs.Tasks.{Task, reach, run_script}
+use Rattle.gcu_words.specs.Tasks.{Task, reach, run_script}
 use Rattle.gcu_requests.specs.PlanAsked.{planning_asked, target_answer}
 use Rattle.gcu_requests.specs.Request.{Request, Work, change, operated, plan, planned}
 use Rattle.gcu_requests.specs.SessionsAsked.{operating_asked}

@@ -14,9 +14,9 @@ use conf_store::Stored;
 use gcu_demo::make;
 use gcu_inputs::{input_ctx, test_uninterrupted};
 use gcu_output::Outcome;
+use gcu_words::{DEFAULT_BUDGET, Demo};
 use host_core::{Host, Names};
 use move_core::Ctx;
-use plan_options::{DEFAULT_BUDGET, Demo};
 use std::alloc::Global;
 
 /// Reads what a demonstration needs, and generates its configurations.

@@ -6,13 +6,14 @@ ghost use Rattle.gcu_inputs.specs.Preparing.{IsRightBy, RefusesAlways};
 ghost use Rattle.gcu_requests.specs.Judging.{TellsFirst, answer_of};
 ghost use Rattle.gcu_requests.specs.PlanAsked.{IsValidOr};
 
+use crate::violation_fields::rule_numbered;
+use crate::violation_places::place_of;
 use conf_check::{Rule, Violation, check};
 use conf_doc::Config;
 use gcu_output::Outcome;
 use host_core::Txt;
 use move_core::Ctx;
 use std::alloc::Global;
-use violation_places::{place_of, rule_numbered};
 use yang_model::Models;
 
 /// Which configuration is judged.

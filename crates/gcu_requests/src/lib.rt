@@ -6,6 +6,7 @@ mod aiming;
 mod checking;
 mod checkpoint_goal;
 mod demo_planning;
+mod empty_tables;
 mod file_goal;
 mod interruption;
 mod judging;
@@ -19,7 +20,10 @@ mod scopes_planning;
 mod session_patches;
 mod session_preparing;
 mod stored_tree;
+mod tables_elsewhere;
 mod task_names;
+mod violation_fields;
+mod violation_places;
 
 pub use aiming::aim;
 pub use checking::judge_stored;

@@ -4,7 +4,7 @@ ghost use Rattle.host_core.specs.Answers.{Gives};
 ghost use Rattle.conf_doc.specs.Shaping.{shaping};
 ghost use Rattle.conf_doc.specs.Trees.{document};
 ghost use Rattle.patch_core.specs.Operation.{operations};
-ghost use Rattle.plan_options.specs.Targets.{patched};
+ghost use Rattle.gcu_words.specs.Targets.{patched};
 ghost use Rattle.gcu_inputs.specs.PatchAsked.{target, target_shape};
 ghost use Rattle.gcu_inputs.specs.Preparing.{Finds, Refuses, RefusesAlways, refusal};
 ghost use Rattle.gcu_inputs.specs.Reads.{ReadsInputs};

@@ -2,8 +2,8 @@
 ghost use Rattle.std.specs.Prelude.{◌≤◌, ◌<◌, IfErr, IfOk, length};
 ghost use Rattle.host_core.specs.Names.{longest_plain_name};
 ghost use Rattle.plan_check.specs.Checks.{most_steps};
-ghost use Rattle.plan_options.specs.Options.{default_budget};
-ghost use Rattle.plan_options.specs.Targets.{patched};
+ghost use Rattle.gcu_words.specs.Options.{default_budget};
+ghost use Rattle.gcu_words.specs.Targets.{patched};
 ghost use Rattle.plan_texts.specs.PlanTexts.{most_bytes};
 ghost use Rattle.gcu_inputs.specs.Preparing.{Finds, IsRightBy, Refuses, RefusesAlways};
 ghost use Rattle.gcu_inputs.specs.Reads.{OnlyReads, ReadsInputs};
@@ -15,10 +15,10 @@ ghost use Rattle.gcu_requests.specs.Request.{accept_plan};
 use crate::planning::{Planning, prepare};
 use gcu_inputs::input_bytes;
 use gcu_output::Outcome;
+use gcu_words::{DEFAULT_BUDGET, Source, Target};
 use host_core::{Host, Txt};
 use move_core::Plan;
 use plan_check::{CheckError, PlanError, check_plan, read_plan};
-use plan_options::{DEFAULT_BUDGET, Source, Target};
 use std::alloc::Global;
 
 /// How many bytes a plan may have.

@@ -5,7 +5,7 @@ ghost use Rattle.host_core.specs.Answers.{Gives};
 ghost use Rattle.host_core.specs.Names.{longest_plain_name};
 ghost use Rattle.move_core.specs.Contexts.{AgreeElsewhere, IsValidIn};
 ghost use Rattle.checkpoints.specs.Names.{is_good_name as is_name};
-ghost use Rattle.plan_options.specs.Views.{target_view};
+ghost use Rattle.gcu_words.specs.Views.{target_view};
 ghost use Rattle.gcu_inputs.specs.Preparing.{Finds, Found, IsRightBy, Refuses, RefusesAlways, refusal};
 ghost use Rattle.gcu_inputs.specs.Reads.{OnlyReads};
 ghost use Rattle.gcu_requests.specs.PlanAsked.{HasKeys, IsElsewhereAs, goal_asked, judged_asked, made_asked, target_answer};
@@ -13,17 +13,18 @@ ghost use Rattle.gcu_requests.specs.ReadPlannings.{HasGoodName};
 ghost use Rattle.gcu_requests.specs.PointAsked.{name_answer};
 
 use crate::checkpoint_goal::checkpoint_goal;
+use crate::empty_tables::empty_table;
 use crate::file_goal::file_goal;
 use crate::judging::{End, judge};
 use crate::patch_goal::patch_goal;
+use crate::tables_elsewhere::difference_elsewhere;
 use checkpoints::is_good_name;
 use conf_doc::Config;
 use gcu_inputs::intent_goal;
 use gcu_output::Outcome;
-use goal_checks::{difference_elsewhere, empty_table};
+use gcu_words::{Source, Target};
 use host_core::{Host, Txt};
 use move_core::Ctx;
-use plan_options::{Source, Target};
 use std::alloc::Global;
 
 /// Refuses a name that no checkpoint has, where the target is a checkpoint.

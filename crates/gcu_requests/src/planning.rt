@@ -6,7 +6,7 @@ ghost use Rattle.conf_doc.specs.WellFormed.{IsConfig};
 ghost use Rattle.conf_store.specs.Files.{is_step_name};
 ghost use Rattle.conf_store.specs.Folds.{StandsFor};
 ghost use Rattle.move_core.specs.Contexts.{IsValidIn};
-ghost use Rattle.plan_options.specs.Views.{target_view};
+ghost use Rattle.gcu_words.specs.Views.{target_view};
 ghost use Rattle.gcu_output.specs.declared.outcomes.Outcome.TheVariants.{CurrentInvalid as current_invalid};
 ghost use Rattle.gcu_inputs.specs.IntentAsked.{gate_asked};
 ghost use Rattle.gcu_inputs.specs.Preparing.{Finds, IsRightBy, Refuses, RefusesAlways};
@@ -20,9 +20,9 @@ use conf_doc::Config;
 use conf_store::Stored;
 use gcu_inputs::{input_ctx, read_folder, test_interrupted, test_uninterrupted};
 use gcu_output::Outcome;
+use gcu_words::{Source, Target};
 use host_core::Host;
 use move_core::Ctx;
-use plan_options::{Source, Target};
 use std::alloc::Global;
 
 /// What a plan is searched for: by what its moves are judged, from where, to where, and how many

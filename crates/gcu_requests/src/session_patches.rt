@@ -8,9 +8,9 @@ ghost use Rattle.gcu_requests.specs.SessionsAsked.{file_of, line_asked, patch_at
 
 use gcu_inputs::input_patch;
 use gcu_output::Outcome;
+use gcu_words::ScriptLine;
 use host_core::{Host, Sequence, Txt};
 use patch_core::Patch;
-use session_scripts::ScriptLine;
 use std::alloc::Global;
 
 /// Patches, each with its path.

@@ -3,7 +3,7 @@ ghost use Rattle.std.specs.Prelude.{◌≤◌, ◌<◌, IfErr, IfOk, IfSome, len
 ghost use Rattle.host_core.specs.Answers.{Gives};
 ghost use Rattle.host_core.specs.Names.{longest_plain_name};
 ghost use Rattle.conf_store.specs.Folds.{StandsFor};
-ghost use Rattle.session_scripts.specs.Scripts.{most_lines, script as script_of};
+ghost use Rattle.gcu_words.specs.Scripts.{most_lines, script as script_of};
 ghost use Rattle.gcu_inputs.specs.Preparing.{Finds, Refuses, RefusesAlways, refusal};
 ghost use Rattle.gcu_inputs.specs.Reads.{OnlyReads, ReadsInputs};
 ghost use Rattle.gcu_requests.specs.ReadScripts.{IsReadyToOperate, operating_of};
@@ -14,9 +14,9 @@ use crate::session_patches::{Patches, input_patches};
 use conf_store::Stored;
 use gcu_inputs::{input_bytes, input_ctx, test_uninterrupted};
 use gcu_output::Outcome;
+use gcu_words::{Script, ScriptError, read_script};
 use host_core::{Host, Txt};
 use move_core::Ctx;
-use session_scripts::{Script, ScriptError, read_script};
 use std::alloc::Global;
 
 /// How many bytes a script may have.

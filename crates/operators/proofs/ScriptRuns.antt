@@ -9,9 +9,9 @@ use Rattle.move_core.specs.declared.contexts.Ctx.{Ctx}
 use Rattle.move_core.specs.declared.moves.Move.{Move}
 use Rattle.patch_core.specs.Operation.{Operation}
 use Rattle.operators.specs.Replies.{commits_line, reply_line}
-use Rattle.session_scripts.specs.Scripts.{name_of}
-use Rattle.session_scripts.specs.declared.script_lines.ScriptLine.{ScriptLine}
-use Rattle.session_scripts.specs.declared.script_lines.ScriptLine.TheVariants.{Begin, Step, Retarget, End}
+use Rattle.gcu_words.specs.Scripts.{name_of}
+use Rattle.gcu_words.specs.declared.script_lines.ScriptLine.{ScriptLine}
+use Rattle.gcu_words.specs.declared.script_lines.ScriptLine.TheVariants.{Begin, Step, Retarget, End}
 use Rattle.sessions.specs.Runs.{IsRun, Turn}
 use Rattle.sessions.specs.Turns as turns
 use Rattle.sessions.specs.Turns.{Aim, Event, IsTurn, Refusal, Towards}

@@ -1,7 +1,7 @@
 -- What a script keeps that has run, and how many commits it makes.
 use Rattle.std.proofs.Common.{◌≡◌, ◌≤◌, ◌+◌, ℕ, suc, List, [], ◌∷◌, length, refl, ap, arith, length-append}
 use Rattle.move_core.specs.Contexts.{IsValidIn}
-use Rattle.session_scripts.specs.declared.script_lines.ScriptLine.{ScriptLine}
+use Rattle.gcu_words.specs.declared.script_lines.ScriptLine.{ScriptLine}
 use Rattle.sessions.specs.Runs.{IsRun, Turn}
 use Rattle.sessions.specs.Turns.{Event, IsTurn}
 use Rattle.sessions.specs.Worlds.{IsKept, WorldState, opened}

@@ -7,9 +7,9 @@ use Rattle.patch_core.specs.Operation.{Operation}
 use Rattle.plan_search.specs.Searches.{IsSearchAnswer}
 use Rattle.plan_search.specs.declared.errors.SearchError.TheVariants as search
 use Rattle.operators.specs.Replies.{commits_line, reply_line}
-use Rattle.session_scripts.specs.Scripts.{name_of}
-use Rattle.session_scripts.specs.declared.script_lines.ScriptLine.{ScriptLine}
-use Rattle.session_scripts.specs.declared.script_lines.ScriptLine.TheVariants.{Begin, Step, Retarget, End}
+use Rattle.gcu_words.specs.Scripts.{name_of}
+use Rattle.gcu_words.specs.declared.script_lines.ScriptLine.{ScriptLine}
+use Rattle.gcu_words.specs.declared.script_lines.ScriptLine.TheVariants.{Begin, Step, Retarget, End}
 use Rattle.sessions.specs.Turns as turns
 use Rattle.sessions.specs.Turns.{Aim, Towards, Refusal, IsTurn}
 use Rattle.sessions.specs.Worlds.{WorldState, opened, session_of}

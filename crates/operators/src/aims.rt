@@ -10,14 +10,13 @@ ghost use Rattle.gcu_output.specs.declared.outcomes.Outcome.TheVariants.{Memory 
 ghost use Rattle.operators.specs.Aims.{aim_view};
 ghost use Rattle.operators.specs.Runs.{IsAim, IsAimOf, IsPlanned};
 
-use crate::searching::first_plan;
 use conf_doc::Config;
 use gcu_output::Outcome;
 use gcu_requests::{Patches, aim, patch_at};
 use host_core::{Memory, Txt};
 use move_core::{Boxes, Ctx, Kit, Plan};
 use patch_core::Patch;
-use plan_search::SearchError;
+use plan_search::{SearchError, first_plan};
 use std::alloc::Global;
 
 /// What an operator aims at.

@@ -2,7 +2,7 @@
 ghost use Rattle.std.specs.Prelude.{◌≡◌, ◌≤◌, ℕ, List, length, map};
 ghost use Rattle.move_core.specs.Contexts.{IsValidIn};
 ghost use Rattle.gcu_requests.specs.Request.{Operating, Patched};
-ghost use Rattle.session_scripts.specs.declared.script_lines.ScriptLine.{ScriptLine};
+ghost use Rattle.gcu_words.specs.declared.script_lines.ScriptLine.{ScriptLine};
 ghost use Rattle.sessions.specs.Runs.{IsRun, Turn};
 ghost use Rattle.sessions.specs.Worlds.{IsKept, WorldState};
 ghost use Rattle.sessions.specs.declared.replies.Reply.{Reply};

@@ -7,10 +7,8 @@ mod laws;
 mod lines;
 mod operating;
 mod replies;
-mod searching;
 mod turns;
 
 pub use commits::moves_of;
 pub use laws::{scripts_keep_worlds, scripts_run_worlds};
 pub use operating::{Operated, operate};
-pub use searching::first_plan;

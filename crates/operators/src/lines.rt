@@ -2,15 +2,15 @@
 ghost use Rattle.std.specs.Prelude.{◌≡◌, ◌<◌, OnOk};
 ghost use Rattle.move_core.specs.Contexts.{IsNamed};
 ghost use Rattle.gcu_requests.specs.ReadScripts.{AreFound, patched_all};
-ghost use Rattle.session_scripts.specs.Scripts.{name_of};
+ghost use Rattle.gcu_words.specs.Scripts.{name_of};
 ghost use Rattle.operators.specs.Runs.{AreTold};
 
 use crate::replies::write_reply;
 use crate::turns::turn;
 use gcu_requests::Patches;
+use gcu_words::ScriptLine;
 use host_core::{Memory, Txt};
 use move_core::{Boxes, Kit};
-use session_scripts::ScriptLine;
 use sessions::World;
 use std::alloc::Global;
 

@@ -3,14 +3,14 @@ ghost use Rattle.std.specs.Prelude.{◌≡◌, ◌<◌, [], IfOk, IsSome};
 ghost use Rattle.move_core.specs.Contexts.{IsNamed};
 ghost use Rattle.gcu_requests.specs.ReadScripts.{IsFound, patched_all};
 ghost use Rattle.gcu_requests.specs.SessionsAsked.{patch_at as patch_found};
-ghost use Rattle.session_scripts.specs.declared.script_lines.ScriptLine.TheVariants.{Begin as begins, End as ends, Retarget as retargets, Step as steps};
+ghost use Rattle.gcu_words.specs.declared.script_lines.ScriptLine.TheVariants.{Begin as begins, End as ends, Retarget as retargets, Step as steps};
 ghost use Rattle.operators.specs.Runs.{IsTurnOf};
 
 use crate::aims::{Aim, aim_of_file};
 use gcu_requests::Patches;
+use gcu_words::ScriptLine;
 use host_core::{Memory, Txt};
 use move_core::{Boxes, Kit};
-use session_scripts::ScriptLine;
 use sessions::{Reply, World, refusals_are_turns};
 use std::alloc::Global;
 

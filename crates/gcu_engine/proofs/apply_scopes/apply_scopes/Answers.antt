@@ -3,7 +3,7 @@ use Rattle.host_core.specs.Counts.{Counts, Rose}
 use Rattle.host_core.specs.Crashes.{Elapses, MayLeaveNow}
 use Rattle.gcu_output.specs.Lines.{last_line}
 use Rattle.gcu_output.specs.declared.outcomes.Outcome.TheVariants.{DiskFault}
-use Rattle.gcu_inputs.specs.ScopesForm.{scopes_view}
+use Rattle.gcu_words.specs.ScopesForm.{scopes_view}
 use Rattle.gcu_engine.specs.Scoped.{settling}
 use Rattle.gcu_engine.proofs.Answering.{said_to}
 use Rattle.gcu_engine.proofs.Causes.{disk_fell, said_cause}

@@ -1,5 +1,5 @@
 use Rattle.std.proofs.Common.{◌≡◌, true, false, rules, sym, subst}
-use Rattle.gcu_inputs.specs.ScopesForm.{scopes_view}
+use Rattle.gcu_words.specs.ScopesForm.{scopes_view}
 use Rattle.gcu_engine.specs.Scoped.{PrintsOrDoes}
 use Rattle.gcu_engine.proofs.apply_scopes.apply_settled.Goals as goal
 

@@ -1,5 +1,5 @@
 use Rattle.std.proofs.Common.{Err}
-use Rattle.gcu_inputs.specs.FormView.{task_view}
+use Rattle.gcu_words.specs.FormView.{task_view}
 use Rattle.gcu_output.specs.Lines.{last_line}
 use Rattle.gcu_requests.specs.WorkAsked.{change_asked}
 use Rattle.gcu_inputs.proofs.Finding.{always_refuses}

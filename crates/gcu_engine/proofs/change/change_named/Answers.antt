@@ -1,4 +1,4 @@
-use Rattle.gcu_inputs.specs.FormView.{task_view}
+use Rattle.gcu_words.specs.FormView.{task_view}
 use Rattle.gcu_requests.specs.WorkAsked.{settled_asked}
 use Rattle.gcu_engine.proofs.Causes.{unsolved_cause}
 use Rattle.gcu_engine.proofs.Changes.{cause_from, change_answers}

@@ -1,6 +1,6 @@
 use Rattle.std.proofs.Common.{◌≡◌, inl, inr, option_map, refl, ◌∙◌}
 use Rattle.host_core.specs.State.{settled, with_pending}
-use Rattle.gcu_inputs.specs.FormView.{task_view}
+use Rattle.gcu_words.specs.FormView.{task_view}
 use Rattle.gcu_engine.specs.Doing.{IsKept}
 use Rattle.gcu_engine.proofs.Causes.{disk_fell}
 use Rattle.gcu_engine.proofs.Readiness.{ends_before, left_of, of_err, of_ok, ready_of, settled_leaves, unsettled_leaves, unsettled_left}

@@ -1,6 +1,6 @@
 use Rattle.std.proofs.Common.{◌≡◌, Err, IfOk, subst}
 use Rattle.std.proofs.lemmas.Result.{err_from_is_err_and}
-use Rattle.plan_options.specs.Views.{target_view}
+use Rattle.gcu_words.specs.Views.{target_view}
 use Rattle.gcu_engine.proofs.PlanSaying.{refuses_ends, solved_ends}
 use Rattle.gcu_engine.proofs.Readiness.{made_ready, memory_ends, plan_missed, planning_missed}
 use Rattle.gcu_engine.proofs.change.plan_settled.Goals as goal

@@ -1,6 +1,6 @@
 use Rattle.std.proofs.Common.{sym, subst, IfSome}
-use Rattle.gcu_inputs.specs.FormView.{task_view}
-use Rattle.gcu_inputs.specs.declared.tasks.Task.{Task}
+use Rattle.gcu_words.specs.FormView.{task_view}
+use Rattle.gcu_words.specs.declared.tasks.Task.{Task}
 use Rattle.gcu_requests.specs.WorkAsked.{work_asked}
 use Rattle.gcu_engine.specs.Doing.{IsPrepared}
 use Rattle.gcu_engine.proofs.change.work_settled.Goals as goal

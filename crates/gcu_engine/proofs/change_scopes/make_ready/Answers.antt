@@ -1,6 +1,6 @@
 use Rattle.std.proofs.Common.{◌≤◌, List, Err, sym, subst}
 use Rattle.std.proofs.lemmas.Result.{err_from_is_err_and}
-use Rattle.plan_options.specs.Options.{most_budget}
+use Rattle.gcu_words.specs.Options.{most_budget}
 use Rattle.gcu_requests.specs.ScopesPlannings.{plans_of}
 use Rattle.gcu_inputs.proofs.Finding.{always_refuses}
 use Rattle.gcu_engine.specs.declared.plan_scopes.ScopePlan as code

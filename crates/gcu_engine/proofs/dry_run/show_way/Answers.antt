@@ -1,9 +1,9 @@
 use Rattle.std.proofs.Common.{◌++◌}
 use Rattle.move_core.specs.Operations.{plan_text}
-use Rattle.plan_options.specs.Views.{target_view}
+use Rattle.gcu_words.specs.Views.{target_view}
 use Rattle.gcu_output.specs.Lines.{last_line}
 use Rattle.gcu_output.specs.declared.outcomes.Outcome.TheVariants.{Done}
-use Rattle.gcu_inputs.specs.Tasks.{reach}
+use Rattle.gcu_words.specs.Tasks.{reach}
 use Rattle.gcu_requests.specs.WorkAsked.{dry_run_asked}
 use Rattle.gcu_engine.proofs.Answering.{said_to}
 use Rattle.gcu_engine.proofs.Causes.{done_cause, reads_fell, unsolved_cause}

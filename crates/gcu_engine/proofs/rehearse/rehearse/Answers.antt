@@ -1,6 +1,6 @@
 use Rattle.gcu_output.specs.Lines.{last_line}
 use Rattle.gcu_output.specs.declared.outcomes.Outcome.TheVariants.{Done}
-use Rattle.gcu_inputs.specs.Tasks.{run_script}
+use Rattle.gcu_words.specs.Tasks.{run_script}
 use Rattle.gcu_requests.specs.WorkAsked.{dry_run_asked}
 use Rattle.gcu_engine.proofs.Answering.{refused_cause, said_to}
 use Rattle.gcu_engine.proofs.Causes.{done_cause, reads_fell, said_cause}

@@ -1,6 +1,6 @@
 use Rattle.std.proofs.Common.{inl, inr, sym, ◌∙◌}
-use Rattle.gcu_inputs.specs.Form.{form}
-use Rattle.gcu_inputs.specs.ScopesForm.{scopes_view}
+use Rattle.gcu_words.specs.Form.{form}
+use Rattle.gcu_words.specs.ScopesForm.{scopes_view}
 use Rattle.gcu_engine.proofs.Scoping.{is_there, some_or_none}
 use Rattle.gcu_engine.proofs.run_command.run.Goals as goal
 

@@ -4,9 +4,9 @@ use Rattle.gcu_output.specs.Lines.{last_line}
 use Rattle.gcu_output.specs.Printing.{text_in_lines}
 use Rattle.gcu_output.specs.declared.outcomes.Outcome.{Outcome}
 use Rattle.gcu_output.specs.declared.outcomes.Outcome.TheVariants.{Usage, Done}
-use Rattle.gcu_inputs.specs.Form.{abandon, check, form, list_checkpoints, migrate_checkpoints, status}
-use Rattle.gcu_inputs.specs.FormView.{form_view, task_view}
-use Rattle.gcu_inputs.specs.declared.form.Form.{Form}
+use Rattle.gcu_words.specs.Form.{abandon, check, form, list_checkpoints, migrate_checkpoints, status}
+use Rattle.gcu_words.specs.FormView.{form_view, task_view}
+use Rattle.gcu_words.specs.declared.form.Form.{Form}
 use Rattle.gcu_engine.specs.Answers.{TellsUsage}
 use Rattle.gcu_engine.proofs.Causes.{reads_fell}
 use Rattle.gcu_engine.proofs.Completing.{complete_by}

@@ -1,7 +1,7 @@
 use Rattle.std.proofs.lemmas.Result.{err_from_is_err_and}
-use Rattle.plan_options.specs.Views.{target_view}
+use Rattle.gcu_words.specs.Views.{target_view}
 use Rattle.std.proofs.Common.{Ok, Err}
-use Rattle.gcu_inputs.specs.Tasks.{reach}
+use Rattle.gcu_words.specs.Tasks.{reach}
 use Rattle.gcu_requests.specs.WorkAsked.{dry_run_asked}
 use Rattle.gcu_inputs.proofs.Finding.{always_refuses}
 use Rattle.gcu_engine.proofs.PlanSaying.{named_found, no_named, plan_refused, plan_says, refuses_ends, solved_ends}

@@ -1,5 +1,5 @@
 use Rattle.std.proofs.lemmas.Result.{err_from_is_err_and}
-use Rattle.plan_options.specs.Views.{target_view}
+use Rattle.gcu_words.specs.Views.{target_view}
 use Rattle.gcu_inputs.proofs.Finding.{always_refuses}
 use Rattle.gcu_requests.proofs.PlanFinding.{goal_found, no_goal}
 use Rattle.gcu_requests.proofs.plan_goal.read_goal.Goals as goal

@@ -1,5 +1,5 @@
 use Rattle.std.proofs.lemmas.Result.{err_from_is_err_and}
-use Rattle.plan_options.specs.Views.{target_view}
+use Rattle.gcu_words.specs.Views.{target_view}
 use Rattle.gcu_inputs.specs.IntentAsked.{gate_asked}
 use Rattle.gcu_requests.specs.PlanAsked.{needs_asked}
 use Rattle.gcu_requests.specs.ReadPlannings.{planning_of}

@@ -1,6 +1,6 @@
 use Rattle.std.proofs.Common.{refl}
 use Rattle.std.proofs.lemmas.Result.{err_from_is_err_and}
-use Rattle.plan_options.specs.Views.{target_view}
+use Rattle.gcu_words.specs.Views.{target_view}
 use Rattle.gcu_requests.proofs.PlanFinding.{no_plan_ctx, no_plan_goal, no_plan_start, planning_found}
 use Rattle.gcu_requests.proofs.planning.read_needs.Goals as goal
 

@@ -1,6 +1,6 @@
 use Rattle.std.proofs.Common.{List, ◌≡◌, ◌≤◌, ◌-◌, [], ◌∷◌, length, take, drop, get_or, subst, ap, ◌∙◌, arith}
 use Rattle.std.proofs.lemmas.List.{take_all}
-use Rattle.session_scripts.specs.declared.script_lines.ScriptLine.{ScriptLine}
+use Rattle.gcu_words.specs.declared.script_lines.ScriptLine.{ScriptLine}
 use Rattle.gcu_inputs.specs.Preparing.{Finds}
 use Rattle.gcu_requests.specs.ReadScripts.{patched_all}
 use Rattle.gcu_requests.specs.SessionsAsked.{patches_asked}

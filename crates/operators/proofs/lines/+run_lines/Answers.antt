@@ -1,7 +1,7 @@
 use Rattle.std.proofs.Common.{ℕ, List, ◌≡◌, ◌≤◌, ◌-◌, [], ◌∷◌, ◌++◌, length, take, drop, get_or, subst, ap, ◌∙◌, arith, OnOk}
 use Rattle.std.proofs.lemmas.List.{take_all}
 use Rattle.gcu_requests.specs.ReadScripts.{patched_all}
-use Rattle.session_scripts.specs.declared.script_lines.ScriptLine.{ScriptLine}
+use Rattle.gcu_words.specs.declared.script_lines.ScriptLine.{ScriptLine}
 use Rattle.operators.specs.Replies.{reply_line}
 use Rattle.operators.specs.Runs.{AreTold}
 use Rattle.operators.proofs.ScriptRuns.{told_on}

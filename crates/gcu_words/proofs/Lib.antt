@@ -1,0 +1,5 @@
+mod Choices
+pub mod Decimals
+mod ManyWords
+pub mod NamedLines
+mod ScriptLemmas

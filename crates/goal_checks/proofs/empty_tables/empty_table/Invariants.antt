@@ -1,7 +1,0 @@
-use Rattle.std.proofs.Common.{map}
-use Rattle.move_core.specs.Kinds.{AreBefore}
-use Rattle.goal_checks.specs.Targets.{HasKeysAt}
-use Rattle.goal_checks.proofs.empty_tables.empty_table.Given as goal
-
-abbrev pub invariant-loop-i : goal.invariant-loop-i
-invariant-loop-i l = AreBefore l.i (HasKeysAt l.ctx l.config) (map (λ p. p.0) l.config)

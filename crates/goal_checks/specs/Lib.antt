@@ -1,4 +1,0 @@
--- what public clauses cite
-pub mod Targets
--- what only private clauses cite
-pub mod Walks

@@ -1,8 +1,0 @@
-use Rattle.std.proofs.Common.{arith}
-use Rattle.plan_options.proofs.Decimals.{greater, too_large}
-use Rattle.plan_options.proofs.digits.number_within.Goals as goal
-
-pub returns-then-sum-from-clause-number : goal.returns-then-sum-from-clause-number
-returns-then-sum-from-clause-number c =
-    let more = greater c.args.digits.now c.loop-digit.digit-index c.loop-digit.sum c.loop-digit-test.true c.loop-digit.invariant.number_so_far in
-    too_large c.args.most c.args.digits.now (omega arith)

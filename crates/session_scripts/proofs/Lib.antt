@@ -1,2 +1,0 @@
-pub mod NamedLines
-mod ScriptLemmas

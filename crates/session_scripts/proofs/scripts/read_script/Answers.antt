@@ -1,5 +1,0 @@
-use Rattle.session_scripts.proofs.NamedLines.{result_named}
-use Rattle.session_scripts.proofs.scripts.read_script.Goals as goal
-
-pub returns-clause-named : goal.returns-clause-named
-returns-clause-named c = result_named c.args.bytes.now c.read_lines.result c.read_lines.ensures.script

@@ -1,7 +1,0 @@
-use Rattle.std.proofs.Common.{◌≡◌, take, false}
-use Rattle.std.specs.List.{All}
-use Rattle.session_scripts.specs.Scripts.{is_feed}
-use Rattle.session_scripts.proofs.scripts.split_line.Given as goal
-
-abbrev pub invariant-loop-i : goal.invariant-loop-i
-invariant-loop-i l = All (λ b. is_feed b ≡ false) (take l.i l.text)

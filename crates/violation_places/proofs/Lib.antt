@@ -1,2 +1,0 @@
-mod FieldNames
-mod RowNames
