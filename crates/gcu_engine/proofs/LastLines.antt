@@ -14,8 +14,8 @@ use Rattle.conf_check.specs.declared.violations.Rule.{Rule}
 use Rattle.conf_check.specs.declared.violations.Rule.TheVariants as rules
 use Rattle.move_core.specs.declared.errors.RulesWhy.{RulesWhy}
 use Rattle.move_core.specs.declared.errors.RulesWhy.TheVariants as rules_file
-use Rattle.plan_check.specs.declared.errors.NoWhy.{NoWhy}
-use Rattle.plan_check.specs.declared.errors.NoWhy.TheVariants as plans
+use Rattle.plan_texts.specs.declared.causes.NoWhy.{NoWhy}
+use Rattle.plan_texts.specs.declared.causes.NoWhy.TheVariants as plans
 use Rattle.yang_text.specs.declared.errors.ModelWhy.{ModelWhy}
 use Rattle.yang_text.specs.declared.errors.ModelWhy.TheVariants as models
 use Rattle.gcu_output.specs.Lines.{fail_why, last_line, model_why, no_why, number, numbered_line, patch_why, point_why, quoted, refused_line, rule_name, rules_why, said, service_line, space, stored_why}

@@ -7,7 +7,7 @@ use conf_check::Rule;
 use conf_store::StoredWhy;
 use move_core::RulesWhy;
 use patch_core::{FailWhy, PatchWhy};
-use plan_check::NoWhy;
+use plan_texts::NoWhy;
 use serde_json::Value;
 use std::alloc::{AllocError, Global};
 use yang_text::ModelWhy;

@@ -7,7 +7,7 @@ use conf_store::StoredWhy;
 use host_core::{Memory, Txt};
 use move_core::RulesWhy;
 use patch_core::{FailWhy, PatchWhy};
-use plan_check::NoWhy;
+use plan_texts::NoWhy;
 use yang_text::ModelWhy;
 
 /// Why there is no such checkpoint.

@@ -8,7 +8,7 @@ use Rattle.move_core.specs.declared.moves.Move.{Move}
 use Rattle.plan_texts.specs.PlanTexts.{IsPlanText}
 use Rattle.plan_texts.specs.PlanTexts as texts
 use Rattle.plan_check.specs.Checks.{IsFirstFault}
-use Rattle.plan_check.specs.declared.errors.NoWhy.{NoWhy}
+use Rattle.plan_texts.specs.declared.causes.NoWhy.{NoWhy}
 use Rattle.gcu_output.specs.declared.outcomes.Outcome.{Outcome}
 use Rattle.gcu_output.specs.declared.outcomes.Outcome.TheVariants.{BadPlan, PlanRejected}
 use Rattle.gcu_requests.specs.PlanCheckAsked.{IsAccepted, IsPlanIn}

@@ -10,7 +10,7 @@ use Rattle.gcu_words.specs.Targets.{patched}
 use Rattle.plan_texts.specs.PlanTexts.{IsPlanText, most_bytes}
 use Rattle.plan_texts.specs.PlanTexts as texts
 use Rattle.plan_check.specs.Checks.{IsFirstFault}
-use Rattle.plan_check.specs.declared.errors.NoWhy.{NoWhy}
+use Rattle.plan_texts.specs.declared.causes.NoWhy.{NoWhy}
 use Rattle.gcu_output.specs.declared.outcomes.Outcome.{Outcome}
 use Rattle.gcu_output.specs.declared.outcomes.Outcome.TheVariants.{BadPlan, PlanRejected}
 use Rattle.gcu_inputs.specs.Asking.{Asking, follows_by, ◌>>>◌}

@@ -9,8 +9,8 @@ use Rattle.move_core.specs.Rules.{EmptiesNoTable, HasNoDependency, KeepsCreateOn
 use Rattle.move_core.specs.declared.moves.Move.{Move}
 use Rattle.plan_check.specs.Checks.{IsFirstCause, Meets, rank}
 use Rattle.plan_check.specs.Verdicts.{IsFine, IsFirstBroken}
-use Rattle.plan_check.specs.declared.errors.NoWhy.{NoWhy}
-use Rattle.plan_check.specs.declared.errors.NoWhy.TheVariants.{NotDefined, NotListed, Rule1, Rule2, Rule3, Rule4, Rule5, Same, WrongEnd}
+use Rattle.plan_texts.specs.declared.causes.NoWhy.{NoWhy}
+use Rattle.plan_texts.specs.declared.causes.NoWhy.TheVariants.{NotDefined, NotListed, Rule1, Rule2, Rule3, Rule4, Rule5, Same, WrongEnd}
 
 module _ (book : Rulebook) (goal cur : Config) (m : Move) where
   -- what is met before a cause of that rank

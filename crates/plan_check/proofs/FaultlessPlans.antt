@@ -8,8 +8,8 @@ use Rattle.move_core.specs.Plans.{IsAllowed, IsPlan, IsWay}
 use Rattle.move_core.specs.Rulebook.{Rulebook}
 use Rattle.move_core.specs.declared.moves.Move.{Move}
 use Rattle.plan_check.specs.Checks.{BreaksAt, IsFirstFault, Meets}
-use Rattle.plan_check.specs.declared.errors.NoWhy.{NoWhy}
-use Rattle.plan_check.specs.declared.errors.NoWhy.TheVariants.{NotDefined, NotListed, Rule1, Rule2, Rule3, Rule4, Rule5, Same, WrongEnd}
+use Rattle.plan_texts.specs.declared.causes.NoWhy.{NoWhy}
+use Rattle.plan_texts.specs.declared.causes.NoWhy.TheVariants.{NotDefined, NotListed, Rule1, Rule2, Rule3, Rule4, Rule5, Same, WrongEnd}
 use Rattle.plan_check.proofs.WayLemmas.{one_end, way_cut}
 
 module _ (book : Rulebook) (goal : Config) (listed_defined : (cur : Config) (m : Move) → IsConfig cur → IsListed book cur goal m → IsDefined cur m) where

@@ -7,7 +7,7 @@ use Rattle.move_core.specs.Plans.{IsWay}
 use Rattle.move_core.specs.Rulebook.{Rulebook}
 use Rattle.move_core.specs.declared.moves.Move.{Move}
 use Rattle.plan_check.specs.Checks.{BreaksAt, IsFirstCause, IsFirstFault}
-use Rattle.plan_check.specs.declared.errors.NoWhy.{NoWhy}
+use Rattle.plan_texts.specs.declared.causes.NoWhy.{NoWhy}
 
 -- a list, cut round an item
 cut_at : {A : Type 0} (xs : List A) (i : ℕ) (x : A) → i < length xs → x ≡ get_or xs i x → xs ≡ take i xs ++ x ∷ drop (i + 1) xs

@@ -10,8 +10,8 @@ use Rattle.move_core.specs.Rules.{EmptiesNoTable, HasNoDependency, KeepsCreateOn
 use Rattle.move_core.specs.declared.moves.Move.{Move}
 use Rattle.plan_check.specs.declared.errors.CheckError.{CheckError}
 use Rattle.plan_check.specs.declared.errors.CheckError.TheVariants.{Memory, No}
-use Rattle.plan_check.specs.declared.errors.NoWhy.{NoWhy}
-use Rattle.plan_check.specs.declared.errors.NoWhy.TheVariants.{NotDefined, NotListed, Rule1, Rule2, Rule3, Rule4, Rule5, Same, WrongEnd}
+use Rattle.plan_texts.specs.declared.causes.NoWhy.{NoWhy}
+use Rattle.plan_texts.specs.declared.causes.NoWhy.TheVariants.{NotDefined, NotListed, Rule1, Rule2, Rule3, Rule4, Rule5, Same, WrongEnd}
 
 -- more steps than a plan may have
 abbrev pub most_steps : ℕ

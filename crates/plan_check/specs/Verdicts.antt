@@ -7,8 +7,8 @@ use Rattle.move_core.specs.Rulebook.{Rulebook}
 use Rattle.move_core.specs.Rules.{EmptiesNoTable, HasNoDependency, KeepsCreateOnly, KeepsRequired}
 use Rattle.move_core.specs.declared.moves.Move.{Move}
 use Rattle.plan_check.specs.Checks.{IsFirstCause}
-use Rattle.plan_check.specs.declared.errors.NoWhy.{NoWhy}
-use Rattle.plan_check.specs.declared.errors.NoWhy.TheVariants.{NotDefined, NotListed, Rule1, Rule2, Rule3, Rule4, Rule5, Same, WrongEnd}
+use Rattle.plan_texts.specs.declared.causes.NoWhy.{NoWhy}
+use Rattle.plan_texts.specs.declared.causes.NoWhy.TheVariants.{NotDefined, NotListed, Rule1, Rule2, Rule3, Rule4, Rule5, Same, WrongEnd}
 use Rattle.plan_check.specs.declared.steps.Verdict.{Verdict}
 use Rattle.plan_check.specs.declared.steps.Verdict.TheVariants.{Allowed, Refused}
 

@@ -6,7 +6,7 @@ ghost use Rattle.move_core.specs.Plans.{IsPlan};
 ghost use Rattle.move_core.specs.declared.contexts.Ctx.{Ctx};
 ghost use Rattle.move_core.specs.declared.moves.Move.{Move};
 ghost use Rattle.plan_check.specs.Checks.{IsFirstFault};
-ghost use Rattle.plan_check.specs.declared.errors.NoWhy.{NoWhy as Cause};
+ghost use Rattle.plan_texts.specs.declared.causes.NoWhy.{NoWhy as Cause};
 
 use move_core::listed_moves_are_defined;
 

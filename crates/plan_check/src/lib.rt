@@ -7,7 +7,7 @@ mod laws;
 mod plans;
 mod steps;
 
-pub use errors::{CheckError, NoWhy};
+pub use errors::CheckError;
 pub use laws::{plan_faults_are_one, plans_are_accepted};
-pub use plan_texts::{PlanError, plan_texts_are_one, read_plan};
+pub use plan_texts::{NoWhy, PlanError, plan_texts_are_one, read_plan};
 pub use plans::check_plan;

@@ -1,6 +1,7 @@
 //! Plans read back from their texts.
 #![tactic(auto)]
 
+mod causes;
 mod counts;
 mod elements;
 mod ends;
@@ -14,6 +15,7 @@ mod places;
 mod reading;
 mod steps;
 
+pub use causes::NoWhy;
 pub use errors::PlanError;
 pub use laws::plan_texts_are_one;
 pub use reading::read_plan;
