@@ -5,7 +5,7 @@ ghost use Rattle.move_core.specs.Kinds.{AreOfKinds, extender_kinds, generator_ki
 
 use crate::stories::Turn;
 use example_rows::Fail;
-use move_core::{Kit, MoveExt, MoveGen, MoveRule, kit_extenders, kit_generators, kit_rules};
+use move_core::{Kit, MoveExt, MoveGen, kit_extenders, kit_generators, kit_rules};
 use move_extend::{DeleteExt, ReferrersExt, RequiredExt, UpperExt};
 use move_gen::{FieldGen, ItemGen, KeyGen, SeedGen, TableGen};
 use move_rules::{CreateOnlyRule, FullRule, NoDependencyRule, NoEmptyRule, RequiredRule};
@@ -43,33 +43,49 @@ fn with_generators(
         Box::new(alloc, RequiredExt::new())?,
     )?;
     if is_whole {
-        with_first_rule(alloc, gens, exts, Box::new(alloc, FullRule::new())?, turn)
+        with_full_rule(alloc, gens, exts, turn)
     } else {
-        with_first_rule(
-            alloc,
-            gens,
-            exts,
-            Box::new(alloc, RecheckRule::new(alloc))?,
-            turn,
-        )
+        with_recheck_rule(alloc, gens, exts, turn)
     }
 }
 
-/// The same with these generators and extenders and this first rule.
-fn with_first_rule(
+/// The same with the program's rules.
+fn with_recheck_rule(
     alloc: Global,
     gens: Vec<Box<dyn MoveGen>>,
     exts: Vec<Box<dyn MoveExt>>,
-    first: Box<dyn MoveRule>,
     turn: &Turn,
 ) -> Result<bool, Fail>
     requires gens { AreOfKinds (λ b. (MoveGen-box b).gen_kind b.value) generator_kinds gens.items }
     requires exts { AreOfKinds (λ b. (MoveExt-box b).ext_kind b.value) extender_kinds exts.items }
-    requires first { rule_kind first ≡ 1 }
 {
     let rules = kit_rules(
         alloc,
-        first,
+        Box::new(alloc, RecheckRule::new(alloc))?,
+        Box::new(alloc, NoDependencyRule::new())?,
+        Box::new(alloc, NoEmptyRule::new())?,
+        Box::new(alloc, CreateOnlyRule::new())?,
+        Box::new(alloc, RequiredRule::new())?,
+    )?;
+    let mut kit = Kit { gens, exts, rules };
+    let said = turn.is_as_said(alloc, &mut kit);
+    drop(kit);
+    said
+}
+
+/// The same with the rule that judges each configuration whole as the first one.
+fn with_full_rule(
+    alloc: Global,
+    gens: Vec<Box<dyn MoveGen>>,
+    exts: Vec<Box<dyn MoveExt>>,
+    turn: &Turn,
+) -> Result<bool, Fail>
+    requires gens { AreOfKinds (λ b. (MoveGen-box b).gen_kind b.value) generator_kinds gens.items }
+    requires exts { AreOfKinds (λ b. (MoveExt-box b).ext_kind b.value) extender_kinds exts.items }
+{
+    let rules = kit_rules(
+        alloc,
+        Box::new(alloc, FullRule::new())?,
         Box::new(alloc, NoDependencyRule::new())?,
         Box::new(alloc, NoEmptyRule::new())?,
         Box::new(alloc, CreateOnlyRule::new())?,

@@ -100,28 +100,26 @@ fn is_file(alloc: Global, said: &Value, bytes: &[u8]) -> Result<bool, Fail> {
 
 /// Whether the runs' restarts, one after the other, are those that were requested.
 fn are_restarted(runs: &[Value], restarts: &Names) -> Result<bool, Fail> {
-    let mut rest = restarts.items();
+    let mut from: usize = 0;
     for run in runs {
         if has(run, "restarts") {
-            match rest_behind(items_at(run, "restarts")?, rest) {
-                Some(others) => rest = others,
-                None => return Ok(false),
+            let said = items_at(run, "restarts")?;
+            if !are_from(said, restarts, from) {
+                return Ok(false);
             }
+            from = from.saturating_add(said.len());
         }
     }
-    Ok(rest.is_empty())
+    Ok(from == restarts.len())
 }
 
-/// The names behind those that are said, where these come first.
-fn rest_behind<'a>(said: &[Value], names: &'a [Txt]) -> Option<&'a [Txt]> {
-    if said.len() > names.len() {
-        return None;
-    }
-    let rest = &names[said.len()..];
-    for (word, name) in said.iter().zip(names) {
-        if !is_word(word, name.as_str()) {
-            return None;
+/// Whether names stand in a list from a position on.
+fn are_from(said: &[Value], names: &Names, from: usize) -> bool {
+    for (number, word) in said.iter().enumerate() {
+        match names.items().get(from.saturating_add(number)) {
+            Some(name) if is_word(word, name.as_str()) => {}
+            _ => return false,
         }
     }
-    Some(rest)
+    true
 }
