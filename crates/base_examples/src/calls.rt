@@ -4,11 +4,11 @@ ghost use Rattle.host_core.specs.Names.{longest_file_name};
 ghost use Rattle.host_core.specs.State.{settled};
 
 use crate::acts::{Act, does_as_said};
-use crate::hosts::{LONGEST_NAME, answer_text, files_of, host_at, name_at};
+use crate::hosts::{LONGEST_NAME, answer_text, files_of, name_at};
 use crate::views::act_in_scope;
 use example_rows::{
-    Fail, Table, are_names, faults_at, has, is_text, items_at, names_in, number_at, says, text_at,
-    text_bytes, value_at,
+    Fail, Table, are_names, faults_at, has, host_with, is_text, items_at, names_in, number_at,
+    says, text_at, text_bytes, value_at,
 };
 use host_core::{Failed, Host, HostError, Input, MemHost, Names};
 use serde_json::Value;
@@ -31,7 +31,7 @@ impl Table for Calls {
 impl Act for Calls {
     fn host_before(&self, alloc: Global, row: &Value) -> Result<MemHost, Fail> {
         let faults = faults_at(alloc, row)?;
-        host_at(alloc, row, faults)
+        host_with(alloc, row, faults)
     }
 
     fn does(&self, alloc: Global, row: &Value, host: &mut MemHost) -> Result<bool, Fail> {

@@ -7,11 +7,12 @@ ghost use Rattle.conf_store.specs.Folds.{StandsFor};
 
 use crate::acts::{Act, does_as_said};
 use crate::folders::is_tree;
-use crate::hosts::{LONGEST_NAME, answer_text, calm_host, fail_of, files_of, host_at, name_at};
+use crate::hosts::{LONGEST_NAME, answer_text, calm_host, fail_of, files_of, name_at};
 use conf_doc::file_bytes;
 use conf_store::{Stored, fold, load, load_tree, put_file};
 use example_rows::{
-    Fail, Table, are_names, faults_from, items_at, says, some_number, text_at, text_bytes, text_of,
+    Fail, Table, are_names, faults_from, host_with, items_at, says, some_number, text_at,
+    text_bytes, text_of,
 };
 use host_core::{Failed, Faults, MemHost};
 use serde_json::Value;
@@ -33,7 +34,7 @@ impl Table for Crashes {
 impl Act for Crashes {
     fn host_before(&self, alloc: Global, row: &Value) -> Result<MemHost, Fail> {
         let faults = faults_behind_load(alloc, row)?;
-        host_at(alloc, row, faults)
+        host_with(alloc, row, faults)
     }
 
     fn does(&self, alloc: Global, row: &Value, host: &mut MemHost) -> Result<bool, Fail> {

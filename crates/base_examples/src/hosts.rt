@@ -4,26 +4,19 @@ ghost use Rattle.host_core.specs.State.{settled};
 
 use conf_store::LoadError;
 use example_rows::{Fail, faults_from, host_with, text_bytes, text_or};
-use host_core::{Failed, Faults, Host, HostError, MemHost, Names, Pick, Sequence};
+use host_core::{Failed, Host, HostError, MemHost, Names, Pick, Sequence};
 use serde_json::Value;
 use std::alloc::Global;
 
 /// How many bytes a name may have.
 pub const LONGEST_NAME: usize = 96;
 
-/// A host with the `files` and the `inputs` of a row, each a name with its bytes.
-pub fn host_at(alloc: Global, row: &Value, faults: Faults) -> Result<MemHost, Fail>
-    ensures { IfOk result (λ m. m.state.pending ≡ settled) }
-{
-    host_with(alloc, row, None, Vec::new(alloc), Vec::new(alloc), faults)
-}
-
 /// The host of a row, of which no call fails.
 pub fn calm_host(alloc: Global, row: &Value) -> Result<MemHost, Fail>
     ensures { IfOk result (λ m. m.state.pending ≡ settled) }
 {
     let faults = faults_from(alloc, None);
-    host_at(alloc, row, faults)
+    host_with(alloc, row, faults)
 }
 
 /// A pick, whose bytes are the `torn` ones of the row.

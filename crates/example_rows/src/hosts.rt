@@ -10,19 +10,13 @@ use std::alloc::Global;
 /// Names with the bytes of each.
 pub type Pairs = Vec<(Txt, Vec<u8>)>;
 
-/// A host with these inputs and files, and behind them the `inputs` of a row, the shared inputs and the
-/// `files` of the row, each a name with its bytes, as far as they are there.
-pub fn host_with(
-    alloc: Global,
-    row: &Value,
-    shared: Option<&Value>,
-    mut inputs: Pairs,
-    mut files: Pairs,
-    faults: Faults,
-) -> Result<MemHost, Fail>
+/// A host with the `inputs` and the `files` of a row, each a name with its bytes, as far as they are there.
+pub fn host_with(alloc: Global, row: &Value, faults: Faults) -> Result<MemHost, Fail>
     ensures { IfOk result (λ m. m.state.pending ≡ settled) }
 {
-    match push_all(alloc, row, shared, &mut inputs, &mut files) {
+    let mut inputs = Vec::new(alloc);
+    let mut files = Vec::new(alloc);
+    match push_both(alloc, row, &mut inputs, &mut files) {
         Ok(()) => Ok(MemHost::new(alloc, inputs, files, faults)?),
         Err(fail) => {
             drop(inputs);
@@ -33,18 +27,13 @@ pub fn host_with(
     }
 }
 
-/// Adds the inputs and the files of a row.
-fn push_all(
+fn push_both(
     alloc: Global,
     row: &Value,
-    shared: Option<&Value>,
     inputs: &mut Pairs,
     files: &mut Pairs,
 ) -> Result<(), Fail> {
     push_pairs_at(alloc, row, "inputs", inputs)?;
-    if let Some(shared) = shared {
-        push_pairs(alloc, shared, inputs)?;
-    }
     push_pairs_at(alloc, row, "files", files)
 }
 

@@ -8,6 +8,14 @@ pub fn has(row: &Value, name: &str) -> bool {
     row.get(name).is_some()
 }
 
+/// Whether something stands under the second name of the object under the first one.
+pub fn has_in(row: &Value, object: &str, name: &str) -> bool {
+    match row.get(object) {
+        Some(value) => has(value, name),
+        None => false,
+    }
+}
+
 /// What stands under a name.
 pub fn value_at<'a>(row: &'a Value, name: &str) -> Result<&'a Value, Fail> {
     row.get(name).ok_or(Fail::Row)
@@ -42,6 +50,11 @@ pub fn item_of(list: &Value, place: usize) -> Result<&Value, Fail> {
 /// Whether a value is null.
 pub fn is_null(value: &Value) -> bool {
     value.is_null()
+}
+
+/// Whether a value is an object.
+pub fn is_object(value: &Value) -> bool {
+    value.is_object()
 }
 
 /// Whether a value is that number.
@@ -100,11 +113,6 @@ pub fn size_at(row: &Value, name: &str) -> Result<usize, Fail> {
         Ok(size) => Ok(size),
         Err(_) => Err(Fail::Row),
     }
-}
-
-/// The number under a name, as that of a byte.
-pub fn byte_at(row: &Value, name: &str) -> Result<u8, Fail> {
-    byte_of(number_at(row, name)?)
 }
 
 fn byte_of(number: u64) -> Result<u8, Fail> {

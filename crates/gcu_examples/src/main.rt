@@ -1,43 +1,58 @@
-//! Examples of commands, and of commands one after the other, each run to its end or stopped, asked row by row.
+//! Rows of whole commands, each asked of the top call on a host in memory: one after the other in one folder, run to
+//! their end, failing or stopped at a call.
 #![tactic(auto)]
 
-mod bad_inputs;
 mod boxes;
-mod changes;
-mod commands;
-mod histories;
-mod hosts;
-mod runs;
-mod stops;
-mod sweeps;
+mod ends;
+mod folders;
+mod stories;
 
-use bad_inputs::BadInputs;
-use changes::Changes;
-use commands::Commands;
 use example_rows::{Fail, read_inputs, tell};
-use histories::Histories;
 use serde_json::Value;
 use std::rt::Files;
-use stops::Stops;
-use sweeps::Sweeps;
+use stories::Stories;
+
+/// The tables. Each is a file of rows of one form, so that a table more is a name more.
+const TABLES: [&str; 25] = [
+    "named.json",
+    "plans.json",
+    "plan_checks.json",
+    "plan_texts.json",
+    "resume.json",
+    "checkpoint_texts.json",
+    "checkpoints.json",
+    "scopes.json",
+    "sessions.json",
+    "operators.json",
+    "validity.json",
+    "models.json",
+    "shapes.json",
+    "truths.json",
+    "types.json",
+    "rules.json",
+    "commands.json",
+    "changes.json",
+    "item_dry_runs.json",
+    "goal_plans.json",
+    "item_goal_plans.json",
+    "bad_inputs.json",
+    "histories.json",
+    "sweeps.json",
+    "stops.json",
+];
 
 fn main(rt: HostRuntime) -> Result<(), Fail> {
-    tell(&rt, "commands.json", &Commands)?;
-    let inputs = read_inputs(&rt, "inputs.json")?;
-    let told = tell_shared(&rt, &inputs);
-    drop(inputs);
-    told?;
-    let few = read_inputs(&rt, "few_inputs.json")?;
-    let told = tell(&rt, "stops.json", &Stops { inputs: &few });
-    drop(few);
+    let folders = read_inputs(&rt, "folders.json")?;
+    let told = tell_all(&rt, &folders);
+    drop(folders);
     told
 }
 
-/// Asks the rows that share models and rules.
-fn tell_shared<R: Files + Print + AllocGlobal>(rt: &R, inputs: &Value) -> Result<(), Fail> {
-    tell(rt, "changes.json", &Changes { inputs })?;
-    tell(rt, "item_dry_runs.json", &Changes { inputs })?;
-    tell(rt, "histories.json", &Histories { shared: inputs })?;
-    tell(rt, "sweeps.json", &Sweeps { shared: inputs })?;
-    tell(rt, "bad_inputs.json", &BadInputs { shared: inputs })
+/// Asks the rows of each table.
+fn tell_all<R: Files + Print + AllocGlobal>(rt: &R, folders: &Value) -> Result<(), Fail> {
+    let stories = Stories { folders };
+    for table in TABLES {
+        tell(rt, table, &stories)?;
+    }
+    Ok(())
 }

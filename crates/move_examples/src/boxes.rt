@@ -4,7 +4,7 @@ ghost use Rattle.move_core.specs.Contexts.{IsResult};
 ghost use Rattle.move_core.specs.Moves.{IsDefined};
 ghost use Rattle.move_examples.specs.Situations.{IsReady};
 
-use crate::kits::{KitTable, ask_full};
+use crate::kits::{KitTable, ask_kit};
 use crate::move_texts::{Lines, are_lines, move_text, place_text};
 use crate::ranks::class_name;
 use crate::situations::{Situation, situation_at};
@@ -32,7 +32,7 @@ pub struct Boxes<'a> {
 impl<'a> Table for Boxes<'a> {
     fn is_as_said(&self, alloc: Global, row: &Value) -> Result<bool, Fail> {
         let situation = situation_at(alloc, self.inputs, row)?;
-        let as_said = ask_full(alloc, self, &situation, row);
+        let as_said = ask_kit(alloc, self, &situation, row);
         drop(situation);
         as_said
     }

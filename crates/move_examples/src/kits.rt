@@ -1,5 +1,5 @@
-//! Kits of all boxes, with one or the other first rule, whose boxes count how often they are asked. Who makes
-//! a box may not hand it out, so each function here passes what it made on to the next one.
+//! Kits of all boxes, which count how often they are asked. Who makes a box may not hand it out, so each function
+//! here passes what it made on to the next one.
 ghost use Rattle.move_core.specs.Kinds.{AreOfKinds, generator_kinds, rule_kinds};
 ghost use Rattle.move_examples.specs.Situations.{IsReady};
 
@@ -10,7 +10,6 @@ use move_core::{Boxes, Kit, MoveGen, MoveRule, kit_extenders, kit_generators, ki
 use move_extend::{DeleteExt, ReferrersExt, RequiredExt, UpperExt};
 use move_gen::{FieldGen, ItemGen, KeyGen, SeedGen, TableGen};
 use move_rules::{CreateOnlyRule, FullRule, NoDependencyRule, NoEmptyRule, RequiredRule};
-use recheck::RecheckRule;
 use serde_json::Value;
 use std::alloc::Global;
 
@@ -28,8 +27,8 @@ pub trait KitTable {
         requires ready { IsReady situation.now };
 }
 
-/// Asks a kit whose first rule looks at the whole configuration.
-pub fn ask_full<T: KitTable>(
+/// Asks a kit.
+pub fn ask_kit<T: KitTable>(
     alloc: Global,
     table: &T,
     situation: &Situation,
@@ -43,22 +42,7 @@ pub fn ask_full<T: KitTable>(
     said
 }
 
-/// Asks a kit whose first rule looks at what changed.
-pub fn ask_recheck<T: KitTable>(
-    alloc: Global,
-    table: &T,
-    situation: &Situation,
-    row: &Value,
-) -> Result<bool, Fail>
-    requires { IsReady situation.now }
-{
-    let mut tally = Tally::new(alloc);
-    let said = ask_rechecking(alloc, &mut tally, table, situation, row);
-    drop(tally);
-    said
-}
-
-/// Asks a kit whose first rule looks at the whole configuration, with the counters of a tally.
+/// Asks a kit with the counters of a tally.
 pub fn ask_counted<T: KitTable>(
     alloc: Global,
     tally: &mut Tally,
@@ -72,28 +56,6 @@ pub fn ask_counted<T: KitTable>(
     let rules = kit_rules(
         alloc,
         counting_box(alloc, FullRule::new(), all)?,
-        counting_box(alloc, NoDependencyRule::new(), all)?,
-        counting_box(alloc, NoEmptyRule::new(), all)?,
-        counting_box(alloc, CreateOnlyRule::new(), all)?,
-        counting_box(alloc, RequiredRule::new(), all)?,
-    )?;
-    ask_rules(alloc, tally, rules, table, situation, row)
-}
-
-/// The same with the first rule that looks at what changed.
-fn ask_rechecking<T: KitTable>(
-    alloc: Global,
-    tally: &mut Tally,
-    table: &T,
-    situation: &Situation,
-    row: &Value,
-) -> Result<bool, Fail>
-    requires { IsReady situation.now }
-{
-    let all = &mut tally.rules;
-    let rules = kit_rules(
-        alloc,
-        counting_box(alloc, RecheckRule::new(alloc), all)?,
         counting_box(alloc, NoDependencyRule::new(), all)?,
         counting_box(alloc, NoEmptyRule::new(), all)?,
         counting_box(alloc, CreateOnlyRule::new(), all)?,

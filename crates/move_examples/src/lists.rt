@@ -2,7 +2,7 @@
 ghost use Rattle.std.specs.Prelude.{◌≤◌};
 ghost use Rattle.move_examples.specs.Situations.{IsReady};
 
-use crate::kits::{KitTable, ask_full};
+use crate::kits::{KitTable, ask_kit};
 use crate::move_texts::{Lines, move_texts};
 use crate::orders::are_in_order;
 use crate::ranks::ranked_at;
@@ -24,7 +24,7 @@ pub struct Lists<'a> {
 impl<'a> Table for Lists<'a> {
     fn is_as_said(&self, alloc: Global, row: &Value) -> Result<bool, Fail> {
         let situation = situation_at(alloc, self.inputs, row)?;
-        let as_said = ask_full(alloc, self, &situation, row);
+        let as_said = ask_kit(alloc, self, &situation, row);
         drop(situation);
         as_said
     }

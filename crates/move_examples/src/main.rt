@@ -1,4 +1,4 @@
-//! Examples of rules files, of moves and their order, of lists and of plans, asked row by row.
+//! Examples of rules files, of moves and their order, and of lists, asked row by row.
 #![tactic(auto)]
 
 mod boxes;
@@ -8,9 +8,7 @@ mod inputs;
 mod kits;
 mod lists;
 mod move_texts;
-mod operators;
 mod orders;
-mod plans;
 mod ranks;
 mod rechecks;
 mod rules_files;
@@ -20,9 +18,7 @@ use boxes::Boxes;
 use counts::Counts;
 use example_rows::{Fail, read_inputs, tell};
 use lists::Lists;
-use operators::Operators;
 use orders::Orders;
-use plans::Plans;
 use rechecks::Rechecks;
 use rules_files::RulesFiles;
 use serde_json::Value;
@@ -43,9 +39,6 @@ fn tell_situations<R: Files + Print + AllocGlobal>(rt: &R, inputs: &Value) -> Re
     tell(rt, "item_boxes.json", &Boxes { inputs })?;
     tell(rt, "lists.json", &Lists { inputs })?;
     tell(rt, "item_lists.json", &Lists { inputs })?;
-    tell(rt, "plans.json", &Plans { inputs })?;
-    tell(rt, "item_plans.json", &Plans { inputs })?;
     tell(rt, "rechecks.json", &Rechecks { inputs })?;
-    tell(rt, "counts.json", &Counts { inputs })?;
-    tell(rt, "operators.json", &Operators { inputs })
+    tell(rt, "counts.json", &Counts { inputs })
 }

@@ -113,7 +113,7 @@ fn settings_at(alloc: Global, row: &Value) -> Result<Settings, Fail>
 }
 
 /// The configuration under a name, which is valid.
-pub fn valid_at(alloc: Global, ctx: &Ctx, row: &Value, name: &str) -> Result<Config, Fail>
+fn valid_at(alloc: Global, ctx: &Ctx, row: &Value, name: &str) -> Result<Config, Fail>
     ensures { IfOk result (IsValidIn ctx.now) }
 {
     let config = config_at(alloc, row, name)?;
