@@ -15,7 +15,7 @@ use Rattle.patch_core.specs.Apply.{result_of}
 use Rattle.patch_core.specs.Reading.{patch}
 use Rattle.conf_store.specs.Files.{config_file, folded_file, intent_file, is_step_name, last_step, scratch, step_name, step_names, without_scratch}
 use Rattle.conf_store.specs.Folds.{IsFolded, StandsFor}
-use Rattle.conf_store.specs.Puts.{IsPutOrNot, put}
+use Rattle.conf_store.specs.Puts.{IsPutOrNot, IsSame, put}
 use Rattle.conf_store.specs.Steps.{CanStep, IsStep, IsStepPut, IsStepPutOrNot, IsStepped}
 use Rattle.conf_store.specs.Stored.{after_all_steps, after_steps, config_in, or_none, or_unfolded, stored}
 use Rattle.conf_store.specs.declared.errors.StoredWhy.{StoredWhy}
@@ -23,7 +23,7 @@ use Rattle.conf_store.specs.declared.errors.StoredWhy.TheVariants.{NoFile}
 use Rattle.conf_store.proofs.Digits.{names_same}
 use Rattle.conf_store.proofs.Entries.{no_step, same_steps}
 use Rattle.conf_store.proofs.FileMaps.{get_other, get_there}
-use Rattle.conf_store.proofs.FoldResults.{by_config, by_folded, config_not_scratch, folded_not_scratch, seen, step_not_scratch}
+use Rattle.conf_store.proofs.FoldResults.{by_config, by_folded, config_not_scratch, folded_not_scratch, same_stored, seen, step_not_scratch}
 use Rattle.move_core.specs.Plans.{conf}
 use Rattle.move_core.specs.declared.moves.Move.{Move}
 use Rattle.change_apply.specs.Change.{Change, conf_at, goal, step_text, steps}
@@ -215,8 +215,45 @@ module _ (change : Change) (k : ℕ) (before f : Files) (at : AreSteps change k 
     pub either_intent : (g : Files) → IsStepPutOrNot name (step_text m) f g → HoldsGoal change g
     either_intent g either = still_intent g (alike_either g either.files)
 
-    pub either_stands : (g : Files) → IsStepPutOrNot name (step_text m) f g → StandAt change k g
-    either_stands g either = ⊎_elim (λ same. inl (same ∙ at.stands)) (λ by. inr (stepped g by)) either.stands
+    -- with the step's file too there is one step more
+    next_small : (g : Files) → ((q : List ℕ) → (q ≡ scratch → ⊥) → (q ≡ name → ⊥) → get g q ≡ get f q) → get g name ≡ Some (step_text m)
+        → HasSmallSteps change (suc k) g
+    next_small g alike found =
+        let first = still_small g alike in
+        record {
+          bytes = first.bytes;
+          config = first.config;
+          holds = first.holds;
+          steps = λ i n low there. at_step i n (cases_lt i k) low there;
+          unfolded = first.unfolded;
+        }
+      where
+        at_step : (i : ℕ) (n : Move) → (i < k) ⊎ (k ≤ i) → i < suc k → slice_get change.moves i ≡ Some n → get g (step_name (suc i)) ≡ Some (step_text n)
+        at_step i n (inl low) less there = (still_small g alike).steps i n low there
+        at_step i n (inr high) less there =
+            let here : i ≡ k = omega (arith, high, less) in
+            let same : n ≡ m = same_some n m (sym there ∙ ap (slice_get change.moves) here ∙ is) in
+            ap (λ j. get g (step_name (suc j))) here ∙ found ∙ ap (λ n. Some (step_text n)) (sym same)
+
+    unwritten : (g : Files) → IsSame f g → stored g ≡ Ok (conf_at change k)
+    unwritten g same =
+        same_stored f g (seen f g same folded_file folded_not_scratch) (seen f g same config_file config_not_scratch)
+        (λ n. seen f g same (step_name n) (step_not_scratch n))
+        ∙ at.stands
+
+    pub either_stands : k < steps change → (g : Files) → IsStepPutOrNot name (step_text m) f g → StandAt change k g
+    either_stands within g either = by either.files either.stands
+      where
+        by : IsPutOrNot name (step_text m) f g → (stored g ≡ stored f) ⊎ IsStepped (step_text m) f g → StandAt change k g
+        by (inl same) which = inl (unwritten g same)
+        by (inr same) (inl stood) = inl (stood ∙ at.stands)
+        by (inr same) (inr moved) = inr (record {
+          within = within;
+          stands = stepped g moved;
+          small = next_small g (alike_either g (inr same))
+              (seen (with_file name (Some (step_text m)) f) g same name (step_not_scratch (suc k)) ∙ get_there name (Some (step_text m)) f);
+          intent = still_intent g (alike_either g (inr same));
+        })
 
     -- put
     alike_put : (q : List ℕ) → (q ≡ scratch → ⊥) → (q ≡ name → ⊥) → get (put name (step_text m) f) q ≡ get f q
@@ -231,13 +268,7 @@ module _ (change : Change) (k : ℕ) (before f : Files) (at : AreSteps change k 
 
     pub one_more : IsStepPut name (step_text m) f (put name (step_text m) f) → AreSteps change (suc k) before (put name (step_text m) f)
     one_more by = record {
-      small = record {
-        bytes = at.small.bytes;
-        config = alike_put config_file config_not_scratch (no_step_name config_file (suc k) refl) ∙ at.small.config;
-        holds = at.small.holds;
-        steps = λ i n low there. at_step i n (cases_lt i k) low there;
-        unfolded = alike_put folded_file folded_not_scratch (no_step_name folded_file (suc k) refl) ∙ at.small.unfolded;
-      };
+      small = next_small (put name (step_text m) f) alike_put (get_there name (Some (step_text m)) (without_scratch f));
       missing = λ n more few. alike_put (step_name n) (step_not_scratch n) (other_step n few (λ e. omega (arith, e, more))) ∙ at.missing n (omega (arith, more)) few;
       names =
           last_put name (step_text m) (named (suc k)) (without_scratch f) (subst (IsBehind name) (sym steps_seen) (behind_first k (suc k) (omega arith) small))
@@ -246,15 +277,6 @@ module _ (change : Change) (k : ℕ) (before f : Files) (at : AreSteps change k 
       intent = still_intent (put name (step_text m) f) alike_put;
       others = still_others (put name (step_text m) f) alike_put;
     }
-      where
-        at_step : (i : ℕ) (n : Move) → (i < k) ⊎ (k ≤ i) → i < suc k → slice_get change.moves i ≡ Some n → get (put name (step_text m) f) (step_name (suc i)) ≡ Some (step_text n)
-        at_step i n (inl low) less there = (still_small (put name (step_text m) f) alike_put).steps i n low there
-        at_step i n (inr high) less there =
-            let here : i ≡ k = omega (arith, high, less) in
-            let same : n ≡ m = same_some n m (sym there ∙ ap (slice_get change.moves) here ∙ is) in
-            ap (λ j. get (put name (step_text m) f) (step_name (suc j))) here
-            ∙ get_there name (Some (step_text m)) (without_scratch f)
-            ∙ ap (λ n. Some (step_text n)) (sym same)
 
 -- ---- the last fold
 

@@ -12,7 +12,7 @@ use Rattle.conf_store.specs.Stored.{stored}
 use Rattle.move_core.specs.declared.moves.Move.{Move}
 use Rattle.change_apply.specs.Acknowledgements.{HasAcknowledged, ack, acks}
 use Rattle.change_apply.specs.Change.{Change, conf_at, names, restarted, restarts_at, step_text, steps}
-use Rattle.change_apply.specs.Crashes.{HasSmallSteps, IsLeft}
+use Rattle.change_apply.specs.Crashes.{HasNext, HasSmallSteps, IsLeft}
 use Rattle.change_apply.specs.Ends.{Stops, worked}
 use Rattle.change_apply.specs.Stages.{AreSteps, AtPut, AtStage, AtStep}
 use Rattle.change_apply.specs.declared.errors.ApplyFault.TheVariants.{Disk, Service, Print}
@@ -143,7 +143,7 @@ module _ (change : Change) (k : ℕ) (m : Move) (due : IsDue change k m) where
           inputs = leads.inputs;
           output = leads.output ∙ sym (append-nil (s.output ++ acks k));
           restarts = leads.restarts ∙ sym (append-nil (s.restarts ++ restarted change k));
-          stands = either_stands change k s.files at.0 at.2 m due.is due.few due.leads later.0.files leads.reads;
+          stands = either_stands change k s.files at.0 at.2 m due.is due.few due.leads due.within later.0.files leads.reads;
           intent = held change k s.files later.0.files (either_intent change k s.files at.0 at.2 m due.is due.few due.leads later.0.files leads.reads);
           others = either_others change k s.files at.0 at.2 m due.is due.few due.leads later.0.files leads.reads;
         },
@@ -156,7 +156,7 @@ module _ (change : Change) (k : ℕ) (m : Move) (due : IsDue change k m) where
     within = omega (arith, due.within);
     output = quiet k s.output left.output left_so.output;
     unfinished = λ some. absurd (some refl);
-    stands = either_stands change k s.files f are m due.is due.few due.leads left.files left_so.files;
+    stands = either_stands change k s.files f are m due.is due.few due.leads due.within left.files left_so.files;
     started = [];
     due = restarts_at change k;
     next = refl;
@@ -176,6 +176,13 @@ module _ (change : Change) (k : ℕ) (m : Move) (due : IsDue change k m) where
 
   -- ---- its services
 
+  -- it is put
+  next_put : (s : State) (f : Files) → AreSteps change (suc k) s.files f → HasNext change k f
+  next_put s f are = record { within = due.within; stands = are.stands; small = are.small; intent = are.intent }
+
+  left_put : (s : State) (f : Files) → AreSteps change (suc k) s.files f → (g : Files) → g ≡ f → HasNext change k g
+  left_put s f are g same = subst (HasNext change k) (sym same) (next_put s f are)
+
   abbrev rs : List Restart
   rs = restarts_at change k
 
@@ -189,12 +196,12 @@ module _ (change : Change) (k : ℕ) (m : Move) (due : IsDue change k m) where
         within = omega (arith, due.within);
         output = quiet k s.output left.output may.output;
         unfinished = λ some. absurd (some refl);
-        stands = inr (ap stored same ∙ are.stands);
+        stands = inr (left_put s f are left.files same);
         started = take i rs;
         due = drop i rs;
         next = sym (take-append-drop i rs);
         restarts = may.restarts ∙ sym (append_assoc s.restarts (restarted change k) (names (take i rs)));
-        in_order = inr (ap stored same ∙ are.stands);
+        in_order = inr (left_put s f are left.files same);
         others = λ q other apart. ap (λ (g : Files). get g q) same ∙ are.others q other apart;
         intent = held change k s.files left.files (ap (λ (g : Files). get g intent_file) same ∙ are.intent);
         small = λ one less. subst (HasSmallSteps change k) (sym same) (one_fewer change k f are.small);
@@ -242,11 +249,11 @@ module _ (change : Change) (k : ℕ) (m : Move) (due : IsDue change k m) where
           inputs = refl;
           output = sym (append-nil (s.output ++ acks k));
           restarts = sym (append_assoc s.restarts (restarted change k) (names (take i rs)));
-          stands = inr at.2.stands;
+          stands = inr (next_put s at.0 at.2);
           intent = held change k s.files at.0 at.2.intent;
           others = at.2.others;
         };
-        put = at.2.stands;
+        put = next_put s at.0 at.2;
       },
     )
       where
@@ -279,7 +286,6 @@ module _ (change : Change) (k : ℕ) (m : Move) (due : IsDue change k m) where
       part = part;
       rest = rest;
       line = line;
-      next = due.within;
       stopped = record {
         within = omega (arith, due.within);
         inputs = refl;
@@ -287,11 +293,11 @@ module _ (change : Change) (k : ℕ) (m : Move) (due : IsDue change k m) where
         restarts =
             sym (append_assoc s.restarts (restarted change k) (names (take (length rs) rs)))
             ∙ ap (λ (l : List Restart). s.restarts ++ restarted change k ++ names l) (take_all (length rs) rs (omega arith));
-        stands = inr at.2.stands;
+        stands = inr (next_put s at.0 at.2);
         intent = held change k s.files at.0 at.2.intent;
         others = at.2.others;
       };
-      put = at.2.stands;
+      put = next_put s at.0 at.2;
     },
   )
 
@@ -323,15 +329,15 @@ module _ (change : Change) (k : ℕ) (m : Move) (due : IsDue change k m) where
       cut = some_left x rest;
       printed = output;
     };
-    unfinished = λ some. due.within;
-    stands = inr (ap stored same ∙ are.stands);
+    unfinished = λ some. left_put s f are left.files same;
+    stands = inr (left_put s f are left.files same);
     started = rs;
     due = [];
     next = sym (append-nil rs);
     restarts =
         restarts ∙ sym (append_assoc s.restarts (restarted change k) (names (take (length rs) rs)))
         ∙ ap (λ (l : List Restart). s.restarts ++ restarted change k ++ names l) (take_all (length rs) rs (omega arith));
-    in_order = inr (ap stored same ∙ are.stands);
+    in_order = inr (left_put s f are left.files same);
     others = λ q other apart. ap (λ (g : Files). get g q) same ∙ are.others q other apart;
     intent = held change k s.files left.files (ap (λ (g : Files). get g intent_file) same ∙ are.intent);
     small = λ one less. subst (HasSmallSteps change k) (sym same) (one_fewer change k f are.small);

@@ -8,8 +8,8 @@ use Rattle.conf_doc.specs.declared.configuration.Config.{Config}
 use Rattle.conf_store.specs.Files.{config_file, folded_file, intent_file, step_names}
 use Rattle.conf_store.specs.Stored.{stored}
 use Rattle.change_apply.specs.Acknowledgements.{ack, acks}
-use Rattle.change_apply.specs.Change.{Change, conf_at, goal, names, restarted, restarts_at, steps}
-use Rattle.change_apply.specs.Crashes.{KeepsOthers, StandAt}
+use Rattle.change_apply.specs.Change.{Change, goal, names, restarted, restarts_at, steps}
+use Rattle.change_apply.specs.Crashes.{HasNext, KeepsOthers, StandAt}
 use Rattle.change_apply.specs.Intents.{KeepsIntent}
 use Rattle.change_apply.specs.declared.errors.ApplyFault.{ApplyFault}
 use Rattle.change_apply.specs.declared.errors.ApplyFault.TheVariants.{Disk, Service, Print}
@@ -61,7 +61,7 @@ pub record IsStopped (change : Change) (k : ℕ) (part : List ℕ) (started : Li
   pub intent : KeepsIntent change k before.files after.files
   pub others : KeepsOthers before.files after.files
 
--- stopped at the restart of that service of the next step, which is on the disk
+-- stopped at the restart of that service of the next step, which is put
 pub record IsStoppedInRestarts (change : Change) (k service : ℕ) (before after : State)
     : Type 0 where
   pub started : List Restart
@@ -70,16 +70,15 @@ pub record IsStoppedInRestarts (change : Change) (k service : ℕ) (before after
   pub next : restarts_at change k ≡ started ++ refused ∷ due
   pub named : refused.service ≡ service
   pub stopped : IsStopped change k [] started before after
-  pub put : stored after.files ≡ Ok (conf_at change (suc k))
+  pub put : HasNext change k after.files
 
--- stopped at the acknowledgement of the next step, which is on the disk; a front of it is printed
+-- stopped at the acknowledgement of the next step, which is put; a front of it is printed
 pub record IsStoppedInPrint (change : Change) (k : ℕ) (before after : State) : Type 0 where
   pub part : List ℕ
   pub rest : List ℕ
   pub line : ack (suc k) ≡ part ++ rest
-  pub next : k < steps change
   pub stopped : IsStopped change k part (restarts_at change k) before after
-  pub put : stored after.files ≡ Ok (conf_at change (suc k))
+  pub put : HasNext change k after.files
 
 -- stopped by this fault
 abbrev pub IsStoppedBy : Change → ApplyFault → State → State → Type 0

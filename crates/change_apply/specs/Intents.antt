@@ -36,12 +36,15 @@ pub record IsOver (change : Change) (files : Files) : Type 0 where
   pub steps_gone : step_names files ≡ []
   pub unfolded : get files folded_file ≡ None
 
--- with the first k steps acknowledged: nothing is written yet but the scratch file, so that the intent is as
--- at the beginning; or it holds the goal; or it is gone, and all steps are folded
+-- with the first k steps acknowledged: with none nothing may be written yet but the scratch file, so that the
+-- intent is as at the beginning; or it holds the goal; with all it may be gone, and all steps are folded
 pub record KeepsIntent (change : Change) (k : ℕ) (before after : Files) : Type 0 where
-  pub is : IsSame before after ⊎ HoldsGoal change after ⊎ IsOver change after
+  pub is :
+      ((k ≡ 0) × IsSame before after) ⊎ HoldsGoal change after
+      ⊎ ((k ≡ steps change) × IsOver change after)
   -- it holds the goal from the first acknowledgement on and before the last
   pub under_way : 1 ≤ k → k < steps change → HoldsGoal change after
-  -- and wherever the files stand for a configuration that is neither the first nor the goal
-  pub between : (config : Config) → stored after ≡ Ok config
-      → config ≢ conf_at change 0 → config ≢ goal change → HoldsGoal change after
+  -- and wherever the files stand for another configuration than the first, unless it is the goal and all steps
+  -- are acknowledged
+  pub between : (config : Config) → stored after ≡ Ok config → config ≢ conf_at change 0
+      → (k < steps change) ⊎ (config ≢ goal change) → HoldsGoal change after

@@ -1,6 +1,6 @@
 -- What a crash leaves of a command that does a task: the last acknowledged configuration or the next, by what
 -- was printed.
-use Rattle.std.proofs.Common.{◌≡◌, ◌≤◌, ◌⊎◌, inl, inr, ℕ, suc, List, [], ◌++◌, append_assoc, Ok, refl, sym, ap, ◌∙◌, subst}
+use Rattle.std.proofs.Common.{◌≡◌, ◌≤◌, ◌⊎◌, inl, inr, ⊎_elim, ℕ, suc, List, [], ◌++◌, append_assoc, Ok, refl, sym, ap, ◌∙◌, subst}
 use Rattle.std.proofs.lemmas.List.{append_cancel_left}
 use Rattle.host_core.specs.Crashes.{Image, Left}
 use Rattle.host_core.specs.State.{Files, State}
@@ -113,7 +113,7 @@ module _ (keeps : KeepsWorlds) (task : Task) (budget : ℕ) (few : budget ≤ mo
     c.moves,
     k,
     told_work c.moves text more output k (change_told w c text given is) (behind text more e) acknowledged,
-    inr (c.stored.config, is.stands.config, stand),
+    inr (c.stored.config, is.stands.config, ⊎_elim (λ h. inl h) (λ next. inr next.stands) stand),
   )
 
   changed : (w : Work) (c : Change) (text : List ℕ) (left : Left) → asking.Gives (Ok (request.change w)) → IsChangeFor w s c text

@@ -77,9 +77,9 @@ module _ (c : Change) where
 
   kept_first : (s : State) → StandsFor c.stored s.files → (g : Files) → g ≡ s.files → KeepsIntent c 0 s.files g
   kept_first s stands g same = record {
-    is = inl (ap (with_file scratch None) same);
+    is = inl (refl, ap (with_file scratch None) same);
     under_way = λ one less. absurd (omega (arith, one));
-    between = λ config stood first last. absurd (first (same_config (stored g) config (conf_at c 0) stood (ap stored same ∙ stands_first s stands)));
+    between = λ config stood first which. absurd (first (same_config (stored g) config (conf_at c 0) stood (ap stored same ∙ stands_first s stands)));
   }
 
   -- nothing of it is done

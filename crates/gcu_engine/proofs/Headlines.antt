@@ -259,8 +259,8 @@ at_start : (w : Work) (s : State) (c : Change) (told : List ℕ) → IsChangeFor
     → Stores left.files (conf (start_of w) c.moves k) ⊎ Stores left.files (conf (start_of w) c.moves (suc k))
 at_start w s c told fits k left (inl e) =
     inl ((stores_is left.files (conf (start_of w) c.moves k)).1 (e ∙ ap (λ (x : Config). Ok (conf x c.moves k)) fits.start))
-at_start w s c told fits k left (inr e) =
-    inr ((stores_is left.files (conf (start_of w) c.moves (suc k))).1 (e ∙ ap (λ (x : Config). Ok (conf x c.moves (suc k))) fits.start))
+at_start w s c told fits k left (inr next) =
+    inr ((stores_is left.files (conf (start_of w) c.moves (suc k))).1 (next.stands ∙ ap (λ (x : Config). Ok (conf x c.moves (suc k))) fits.start))
 
 changed_next : (task : Task) (s : State) (w : Work) (c : Change) (told : List ℕ) (left : Left) → IsWorkAsked task s w → IsChangeFor w s c told → LeftChanged c (begun told s) left
     → IsLastOrNext task s left

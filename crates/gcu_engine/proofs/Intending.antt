@@ -1,5 +1,5 @@
 -- The file `intent` at each moment of a command that does a task.
-use Rattle.std.proofs.Common.{◌≡◌, ◌≤◌, ◌<◌, ◌⊎◌, inl, inr, ℕ, suc, List, [], ◌∷◌, ◌++◌, length, refl, sym, ap, ◌∙◌, subst, arith, Option, Some, None, Ok, IfSome}
+use Rattle.std.proofs.Common.{◌≡◌, ◌≤◌, ◌<◌, ◌⊎◌, inl, inr, ℕ, List, [], ◌∷◌, ◌++◌, length, refl, sym, ap, ◌∙◌, subst, arith, Option, Some, None, Ok, IfSome}
 use Rattle.std.specs.FinMap.{get}
 use Rattle.host_core.specs.Crashes.{Left, LeavesOnly}
 use Rattle.host_core.specs.State.{Files, State}
@@ -59,25 +59,30 @@ module _ (task : Task) (s : State) (w : Work) (c : Change) (told : List ℕ) (as
   over_at : steps c ≡ 0 → (k : ℕ) (files : Files) → StandAt c k files → stored files ≡ Ok end
   over_at none k files (inl e) =
       e ∙ ap (λ (x : Config). Ok x) (at_any c.stored.config c.moves none k ∙ sym (at_any c.stored.config c.moves none (steps c)) ∙ goal_is)
-  over_at none k files (inr e) =
-      e ∙ ap (λ (x : Config). Ok x) (at_any c.stored.config c.moves none (suc k) ∙ sym (at_any c.stored.config c.moves none (steps c)) ∙ goal_is)
+  over_at none k files (inr next) = absurd (omega (arith, none, next.within))
 
-  module _ (began : State) (begins : IsBegun c (begun told s) began) (k : ℕ) (left : Left) (stand : StandAt c k left.files) (keeps : KeepsIntent c k began.files left.files) where
+  module _ (began : State) (begins : IsBegun c (begun told s) began) (k : ℕ) (few : k ≤ steps c) (left : Left) (stand : StandAt c k left.files) (keeps : KeepsIntent c k began.files left.files) where
     held : get left.files intent_file ≡ Some (file_text (goal c)) → HoldsText end left.files
     held e = e ∙ ap (λ (x : Config). Some (file_text x)) goal_is
 
-    same_intent : IsBegun c (begun told s) began → get left.files intent_file ≡ get began.files intent_file → IsKept s left ⊎ HoldsText end left.files ⊎ IsOver end left.files
-    same_intent (inl is) e = inl (e ∙ ap (λ (t : State). get t.files intent_file) is)
-    same_intent (inr (none, is)) e =
-        inr (inr (e ∙ ap (λ (t : State). get t.files intent_file) is ∙ get_there intent_file None s.files, over_at none k left.files stand))
+    same_intent : k ≡ 0 → IsBegun c (begun told s) began → get left.files intent_file ≡ get began.files intent_file
+        → ((k ≡ 0) × IsKept s left) ⊎ HoldsText end left.files ⊎ ((k ≡ steps c) × IsOver end left.files)
+    same_intent first (inl is) e = inl (first, e ∙ ap (λ (t : State). get t.files intent_file) is)
+    same_intent first (inr (none, is)) e =
+        inr (inr (omega (arith, few, none), e ∙ ap (λ (t : State). get t.files intent_file) is ∙ get_there intent_file None s.files, over_at none k left.files stand))
 
-    intent_is : IsKept s left ⊎ HoldsText end left.files ⊎ IsOver end left.files
+    intent_is : ((k ≡ 0) × IsKept s left) ⊎ HoldsText end left.files ⊎ ((k ≡ steps c) × IsOver end left.files)
     intent_is = by keeps.is
       where
-        by : IsSame began.files left.files ⊎ HoldsGoal c left.files ⊎ IsGone c left.files → IsKept s left ⊎ HoldsText end left.files ⊎ IsOver end left.files
-        by (inl same) = same_intent begins (seen began.files left.files same intent_file intent_not_scratch)
+        by : ((k ≡ 0) × IsSame began.files left.files) ⊎ HoldsGoal c left.files ⊎ ((k ≡ steps c) × IsGone c left.files)
+            → ((k ≡ 0) × IsKept s left) ⊎ HoldsText end left.files ⊎ ((k ≡ steps c) × IsOver end left.files)
+        by (inl (first, same)) = same_intent first begins (seen began.files left.files same intent_file intent_not_scratch)
         by (inr (inl holds)) = inr (inl (held holds))
-        by (inr (inr over)) = inr (inr (over.gone, over.stands ∙ ap (λ (x : Config). Ok x) goal_is))
+        by (inr (inr (last, over))) = inr (inr (last, over.gone, over.stands ∙ ap (λ (x : Config). Ok x) goal_is))
+
+    unless : (done : ℕ) → k ≡ done → (config : Config) → (done < length c.moves) ⊎ (config ≡ end → ⊥) → (k < steps c) ⊎ (config ≡ goal c → ⊥)
+    unless done same config (inl less) = inl (subst (λ (n : ℕ). n < steps c) (sym same) less)
+    unless done same config (inr last) = inr (λ e. last (e ∙ goal_is))
 
     intended : (done : ℕ) → k ≡ done → (part : List ℕ) → IsNoneWhole done part → left.output ≡ began.output ++ acks done ++ part → IsIntended task s left
     intended done same part cut output = record {
@@ -88,16 +93,16 @@ module _ (task : Task) (s : State) (w : Work) (c : Change) (told : List ℕ) (as
       part = part;
       cut = cut;
       output = output ∙ ap (λ (o : List ℕ). o ++ acks done ++ part) (begun_output c (begun told s) began begins);
-      is = intent_is;
+      is = subst (λ (n : ℕ). ((n ≡ 0) × IsKept s left) ⊎ HoldsText end left.files ⊎ ((n ≡ steps c) × IsOver end left.files)) same intent_is;
       under_way = λ one less. held (keeps.under_way (subst (λ (n : ℕ). 1 ≤ n) (sym same) one) (subst (λ (n : ℕ). n < steps c) (sym same) less));
-      between = λ config stood first last. held (keeps.between config stood (λ e. first (e ∙ start_is)) (λ e. last (e ∙ goal_is)));
+      between = λ config stood first which. held (keeps.between config stood (λ e. first (e ∙ start_is)) (unless done same config which));
     }
 
   intended_next : (left : Left) → LeftChanged c (begun told s) left → IsIntended task s left
   intended_next left (answered, began, a, b, inl h) =
-      intended began b h.done left h.stands h.intent h.done refl h.output.part (inl (h.output.rest, h.output.line, h.output.cut)) h.output.printed
+      intended began b h.done h.within left h.stands h.intent h.done refl h.output.part (inl (h.output.rest, h.output.line, h.output.cut)) h.output.printed
   intended_next left (answered, began, a, b, inr h) =
-      intended began b h.is.done left h.is.stands h.is.intent (acknowledged c h.answer)
+      intended began b h.is.done h.is.within left h.is.stands h.is.intent (acknowledged c h.answer)
       (acked_is h.is.done (acknowledged c h.answer) began.output h.is.output) h.part
       (inr (h.rest, is_last_line c answered h.now h.answer (h.part ++ h.rest) h.line)) h.output
 

@@ -1,12 +1,13 @@
 -- A migration that is ready, and what is left of the command that does it.
-use Rattle.std.proofs.Common.{◌≡◌, inl, inr, ℕ, List, [], ◌++◌, All, length, take, ◌<◌, ◌≤◌, arith, append-nil, refl, sym, ap, ◌∙◌, subst, Option, Some, None, Result, Ok, Err, IfErr, IfOk, IfSome, option_map}
-use Rattle.std.proofs.lemmas.List.{length-take-le}
+use Rattle.std.proofs.Common.{◌≡◌, inl, inr, ℕ, List, [], ◌++◌, All, length, ◌<◌, ◌≤◌, arith, append-nil, refl, sym, ap, ◌∙◌, subst, Option, Some, None, Result, Ok, Err, IfErr, IfOk, IfSome, option_map}
+use Rattle.std.proofs.lemmas.List.{take_all}
 use Rattle.std.proofs.lemmas.Option.{slice_get_within}
 use Rattle.host_core.specs.Counts.{Counts, NoneFell}
 use Rattle.host_core.specs.Crashes.{Left, LeavesOnly}
 use Rattle.host_core.specs.State.{State, printed, settled, with_pending}
 use Rattle.host_core.proofs.Runs as runs
 use Rattle.checkpoints.specs.Migrations.{IsDue, NewFile}
+use Rattle.checkpoint_migration.specs.Lines.{lines_text}
 use Rattle.gcu_output.specs.declared.outcomes.Outcome.{Outcome}
 use Rattle.gcu_output.specs.declared.outcomes.Outcome.TheVariants.{Done, Usage, InputFault, DiskFault, PrintFault, ServiceFault, Unorderable, Budget}
 use Rattle.gcu_inputs.specs.Asking.{settles_first}
@@ -22,7 +23,7 @@ use Rattle.gcu_engine.specs.declared.migrate_checkpoints.ReadyMigration.{ReadyMi
 use Rattle.gcu_engine.proofs.Answering.{says_prints}
 use Rattle.gcu_engine.proofs.Causes.{rose_from}
 use Rattle.gcu_engine.proofs.Changes.{cause_from}
-use Rattle.gcu_engine.proofs.MigrationEnding.{ones_output, told_ones}
+use Rattle.gcu_engine.proofs.MigrationEnding.{ones_output}
 use Rattle.gcu_engine.proofs.Writing.{FindsUnit, ready_before, ready_settled}
 
 -- ---- what is made ready
@@ -104,14 +105,17 @@ module _ (s : State) (news : List NewFile) (given : (migrate_asked s).Gives (Ok 
   last_says now (DiskFault k) text h = (inl (inr refl), inr (migrate_checkpoints news, given, h.0), h.1)
   last_says now other text never = absurd never
 
-  long : (k : ℕ) → k < length news → length (take k news) ≡ k
-  long k within = length-take-le k news (omega (arith, within))
-
   -- so many lines are printed
-  counted : (now : State) (answer : Outcome) (text : List ℕ) → IsLastOf news began now answer text → AreTold (told_before news answer) s now
-  counted now Done text h = (news, refl, ones_output news began now Done text h)
+  counted : (now : State) (answer : Outcome) (text : List ℕ) → IsLastOf news began now answer text → AreTold (migrate_asked s) (told_before news answer) s now
+  counted now Done text h = (
+    news,
+    given,
+    omega arith,
+    ones_output news began now Done text h ∙ ap (λ (told : List NewFile). s.output ++ lines_text told) (sym (take_all (length news) news (omega arith))),
+  )
   counted now (DiskFault k) text h =
-      (told_ones news (DiskFault k), long k (slice_get_within news k h.0.next h.0.is), ones_output news began now (DiskFault k) text h)
+      let within : k < length news = slice_get_within news k h.0.next h.0.is in
+      (news, given, omega (arith, within), ones_output news began now (DiskFault k) text h)
   counted now other text never = absurd never
 
   module _ (old new : Counts) (after : Option State) (result : Outcome) where

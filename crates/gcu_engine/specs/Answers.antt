@@ -140,7 +140,7 @@ SaysPart asking before now old new output =
 abbrev pub Prints : Asking Request
     → State → State → Counts → Counts → Outcome → List ℕ → Type 0
 Prints asking before now old new (PrintFault step) output =
-    ((AreAcknowledged step before now ⊎ AreTold step before now)
+    ((AreAcknowledged step before now ⊎ AreTold asking step before now)
     × SaysPart asking before now old new output)
     ⊎ (((w : Work) × asking.Gives (Ok (change w)) × IsCutShort w step before now output)
     ⊎ ((news : List NewFile) × asking.Gives (Ok (migrate_checkpoints news))

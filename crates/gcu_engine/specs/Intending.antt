@@ -35,13 +35,16 @@ pub record IsIntended (task : Task) (s : State) (left : Left) : Type 0 where
   pub part : List ℕ
   pub cut : IsNoneWhole done part
   pub output : left.output ≡ s.output ++ right.text ++ acks done ++ part
-  -- it is as at the beginning or holds the goal, or it is gone and the folder stands for the goal
-  pub is : IsKept s left ⊎ HoldsText goal left.files ⊎ IsOver goal left.files
+  -- it holds the goal; or, with none acknowledged, it is as at the beginning; or, with all, it is gone and the
+  -- folder stands for the goal
+  pub is : ((done ≡ 0) × IsKept s left) ⊎ HoldsText goal left.files
+      ⊎ ((done ≡ length right.moves) × IsOver goal left.files)
   -- it holds the goal from the first acknowledgement on and before the last
   pub under_way : 1 ≤ done → done < length right.moves → HoldsText goal left.files
-  -- and wherever the folder stands for a configuration that is neither the first nor the goal
-  pub between : (config : Config) → stored left.files ≡ Ok config
-      → config ≢ right.start → config ≢ goal → HoldsText goal left.files
+  -- and wherever the folder stands for another configuration than the first, unless it is the goal and all are
+  -- acknowledged
+  pub between : (config : Config) → stored left.files ≡ Ok config → config ≢ right.start
+      → (done < length right.moves) ⊎ (config ≢ goal) → HoldsText goal left.files
 
 -- nothing is done, and it is as at the beginning; or so far as some moves are done
 abbrev pub HasIntent : Task → State → Left → Type 0

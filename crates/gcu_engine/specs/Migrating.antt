@@ -1,5 +1,5 @@
 -- What a migration of checkpoints leaves and has printed: finished, or stopped.
-use Rattle.std.specs.Prelude.{◌≡◌, ◌⊎◌, ℕ, List, ◌++◌, length, Some}
+use Rattle.std.specs.Prelude.{◌≡◌, ◌⊎◌, ◌≤◌, ℕ, List, ◌++◌, length, take, Some, Ok}
 use Rattle.host_core.specs.Crashes.{Left}
 use Rattle.host_core.specs.State.{State, settled, with_pending}
 use Rattle.checkpoints.specs.Migrations.{NewFile}
@@ -9,6 +9,8 @@ use Rattle.checkpoint_migration.specs.Lines.{lines_text}
 use Rattle.checkpoint_migration.specs.declared.errors.MigrateFault.{MigrateFault}
 use Rattle.gcu_output.specs.Lines.{last_line}
 use Rattle.gcu_output.specs.declared.outcomes.Outcome.{Outcome}
+use Rattle.gcu_inputs.specs.Asking.{Asking}
+use Rattle.gcu_requests.specs.Request.{Request, migrate_checkpoints}
 
 -- all are put anew and told; what was pending is settled first
 abbrev pub IsMigrated : List NewFile → State → State → Type 0
@@ -19,11 +21,11 @@ abbrev pub IsMigrationStopped : List NewFile → MigrateFault → State → Stat
 IsMigrationStopped news fault before now =
     IsStoppedBy news fault (with_pending settled before) now
 
--- the lines of so many are printed
-abbrev pub AreTold : ℕ → State → State → Type 0
-AreTold step before now =
-    (told : List NewFile) × (length told ≡ step)
-    × (now.output ≡ before.output ++ lines_text told)
+-- a migration is asked for, and the lines of the first so many of its checkpoints are printed
+abbrev pub AreTold : Asking Request → ℕ → State → State → Type 0
+AreTold asking step before now =
+    (news : List NewFile) × asking.Gives (Ok (migrate_checkpoints news)) × (step ≤ length news)
+    × (now.output ≡ before.output ++ lines_text (take step news))
 
 -- what is left while the last line is printed behind the lines of some
 pub record LeftInLastLine (news : List NewFile) (began : State) (left : Left) : Type 0 where

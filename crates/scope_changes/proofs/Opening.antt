@@ -198,7 +198,7 @@ pub left_front : (w : ScopeWork) (s : State) (left : Left) → IsLeftOne w s lef
 left_front w s left (inl (some, is)) =
     let out = is.under_way.output in
     let front : IsFront (acks is.under_way.done ++ out.part) (acks (steps w.change)) =
-    part_front is.under_way.done (steps w.change) out.part out.rest is.under_way.within is.under_way.unfinished out.line in
+    part_front is.under_way.done (steps w.change) out.part out.rest is.under_way.within (λ some. (is.under_way.unfinished some).within) out.line in
     let more = behind_same s.output (apply_line w.scope ++ (acks is.under_way.done ++ out.part)) (apply_line w.scope ++ acks (steps w.change))
     (behind_same (apply_line w.scope) (acks is.under_way.done ++ out.part) (acks (steps w.change)) front) in
     let printed : left.output ≡ s.output ++ (apply_line w.scope ++ (acks is.under_way.done ++ out.part)) =
