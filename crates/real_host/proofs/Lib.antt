@@ -1,2 +1,4 @@
+pub mod Appending
 pub mod Fronts
+pub mod Numbers
 pub mod Picking

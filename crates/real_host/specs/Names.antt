@@ -1,5 +1,5 @@
 -- The names of files in the working folder.
-use Rattle.std.specs.Prelude.{◌≡◌, ◌≢◌, ◌⊎◌, ℕ, Bool, List, [], codes, IsFalse, nat_eq, ◌==◌}
+use Rattle.std.specs.Prelude.{◌≡◌, ◌≢◌, ◌⊎◌, ◌<◌, ◌++◌, ℕ, Bool, List, [], codes, decimal, IsFalse, nat_eq, ◌==◌}
 use Rattle.std.specs.List.{list_any, ends_with}
 use Rattle.host_core.specs.Characters.{slash}
 
@@ -15,3 +15,12 @@ IsPlainName name =
 -- the file of that name may have been written and not synced
 abbrev pub is_scratch_name : List ℕ → Bool
 is_scratch_name name = ends_with nat_eq name (codes "tmp.new")
+
+-- the scratch file of an ASIC
+abbrev pub asic_scratch : ℕ → List ℕ
+asic_scratch number = codes "asic" ++ decimal number ++ codes ".tmp.new"
+
+-- a command writes the file of that name: that of the folder or of one of the 256 ASICs
+abbrev pub IsOwnScratch : List ℕ → Type 0
+IsOwnScratch name =
+    (name ≡ codes "tmp.new") ⊎ ((number : ℕ) × (number < 256) × (name ≡ asic_scratch number))

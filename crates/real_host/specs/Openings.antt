@@ -1,5 +1,5 @@
 -- Files that are opened or made where something else may lie in their way.
-use Rattle.std.specs.Prelude.{◌≡◌, ◌⊎◌, Option, Some, None, Result, Ok, Err, IsOkAnd, IsErrAnd, IfOk, IfErr, OnOk}
+use Rattle.std.specs.Prelude.{◌≡◌, ◌⊎◌, ℕ, List, Option, Some, None, Result, Ok, Err, IsOkAnd, IsErrAnd, IfOk, IfErr, OnOk}
 use Rattle.std.specs.Fs.{file_type, IsFile}
 use Rattle.std.specs.IoError.{error_kind}
 use Rattle.std.specs.declared.fs.Metadata.{Metadata}
@@ -8,21 +8,22 @@ use Rattle.std.specs.declared.io.ErrorKind.{ErrorKind}
 use Rattle.std.specs.declared.io.ErrorKind.TheVariants.{AlreadyExists, PermissionDenied}
 use Rattle.host_core.specs.declared.errors.Failed.{Failed}
 use Rattle.real_host.specs.Errors.{IsMissing}
+use Rattle.real_host.specs.Names.{IsOwnScratch}
 
 -- what stands there is no file: a folder, a pipe, a device, or a link that is not followed
 abbrev pub IsOdd : Result Metadata Error → Type 0
 IsOdd about = IsOkAnd about (λ m. ¬ IsFile (file_type m))
 
--- the file is gone, or one that this user may not open and so none of its own
-abbrev pub IsForeign : ErrorKind → Type 0
-IsForeign kind = IsMissing kind ⊎ (kind ≡ PermissionDenied)
+-- the file is gone, or this user may not open it and a command writes none of that name
+abbrev pub IsForeign : List ℕ → ErrorKind → Type 0
+IsForeign name kind = IsMissing kind ⊎ ((kind ≡ PermissionDenied) × (¬ IsOwnScratch name))
 
 -- what is opened of a file that an earlier command may have left, where it is one
 pub record IsLeftFile
-    {T : Type 0} (opened : Result T Error) (left : Result (Option T) Failed) : Type 0 where
+    {T : Type 0} (name : List ℕ) (opened : Result T Error) (left : Result (Option T) Failed) : Type 0 where
   pub found : IfOk opened (λ file. left ≡ Ok (Some file))
-  pub foreign : IfErr opened (λ e. IsForeign (error_kind e) → left ≡ Ok None)
-  pub failed : IfErr opened (λ e. ¬ IsForeign (error_kind e) → left ≡ Err (record {}))
+  pub foreign : IfErr opened (λ e. IsForeign name (error_kind e) → left ≡ Ok None)
+  pub failed : IfErr opened (λ e. ¬ IsForeign name (error_kind e) → left ≡ Err (record {}))
 
 -- something stands where the file was to be made
 abbrev pub IsTaken : {T : Type 0} → Result T Error → Type 0

@@ -9,9 +9,9 @@ ghost use Rattle.real_host.specs.Names.{IsPlainName};
 ghost use Rattle.real_host.specs.Unsynced.{IsOnly};
 
 use crate::folder::{
-    file_bytes, file_names, input_bytes, log_restart, remove_file, rename_file, sync_file,
-    write_file,
+    file_bytes, file_names, input_bytes, remove_file, rename_file, sync_file, write_file,
 };
+use crate::restarts::log_restart;
 use crate::settling::settle_files;
 use crate::unsynced::Unsynced;
 use host_core::{Failed, FaultCounts, Host, HostError, Input, Names};
@@ -234,7 +234,8 @@ impl<R: Files + Print + AllocGlobal + Clone + Drop> Host for RealHost<R> {
         Err(Failed)
     }
 
-    /// Fails where `restarts.log` does not take the line, and where there is no memory for it.
+    /// Fails where `restarts.log` does not take the line, and where there is no memory for it. The log is
+    /// then as it was, or if it can't be cut back to that its last line is ended before the next one.
     fn restart(&mut self, service: &str) -> Result<(), Failed>
         ensures counts { ServiceMayRise self.old.counts self.new.counts }
         ensures cause { OnErr result (Rose self.old.counts.service self.new.counts.service) }

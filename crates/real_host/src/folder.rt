@@ -1,14 +1,13 @@
 //! The files of the working folder. A call that a signal interrupts is tried again: here where std does
 //! not do so itself, which opens, writes and syncs again, and `reading.rt`, which reads again.
 
-ghost use Rattle.std.specs.Prelude.{◌≡◌, ◌↔◌, IsTrue, IsErr, IfOk, IfErr, Ok, Err, Some, None, is_ok, string_bytes, IsSorted};
+ghost use Rattle.std.specs.Prelude.{◌≡◌, ◌↔◌, IsTrue, IsErr, IfOk, IfErr, Ok, Err, Some, None, is_ok, IsSorted};
 ghost use Rattle.std.specs.IoError.{error_kind};
 ghost use Rattle.host_core.specs.Names.{name_cmp};
-ghost use Rattle.host_core.specs.declared.errors.HostError.TheVariants.{Failed as call_failed, Memory as no_memory};
+ghost use Rattle.host_core.specs.declared.errors.HostError.TheVariants.{Failed as call_failed};
 ghost use Rattle.real_host.specs.Errors.{IsMissing};
 ghost use Rattle.real_host.specs.Inputs.{IsWithin};
 ghost use Rattle.real_host.specs.Names.{AreDots, IsPlainName};
-ghost use Rattle.real_host.specs.Requests.{restart_request};
 ghost use Rattle.real_host.specs.Turns.{IsInterrupted, AnswersInTurns};
 
 use crate::listing::sorted_names;
@@ -20,9 +19,6 @@ use std::fs::{File, OpenFile, OpenOptions, Permissions, ReadDir};
 use std::io::{ErrorKind, Write};
 use std::rt::Files;
 use std::{fs, io};
-
-/// Where the requests of restarts are appended.
-const RESTARTS_LOG: &str = "restarts.log";
 
 /// The folder itself.
 pub(crate) const FOLDER: &str = ".";
@@ -123,28 +119,6 @@ pub(crate) fn remove_file<R: Files>(rt: &R, name: &str) -> Result<(), Failed>
     done(again(|| rt.remove_file(name)))
 }
 
-/// Appends the request of a restart to the log.
-pub(crate) fn log_restart<R: Files + AllocGlobal>(rt: &R, service: &str) -> Result<(), Failed> {
-    let Ok(line) = restart_line(rt.alloc(), service) else {
-        return Err(Failed);
-    };
-    match open_log(rt) {
-        Ok(mut log) => done(log.write_all(line.as_bytes())),
-        Err(_) => Err(Failed),
-    }
-}
-
-/// The line that requests the restart of a service.
-fn restart_line(alloc: Global, service: &str) -> Result<String, HostError>
-    ensures line { IfOk result (λ line. string_bytes line ≡ restart_request service.now) }
-    ensures starved { IfErr result (λ e. e ≡ no_memory) }
-{
-    let mut line = String::from_str(alloc, "restart ")?;
-    line.push_str(service)?;
-    line.push('\n')?;
-    Ok(line)
-}
-
 /// The input at a path, or None where there is none. One from the root on is opened as it is given, so
 /// that standard input and the pipe of a shell are read too.
 fn open_input<R: Files>(rt: &R, path: &str) -> Result<Option<R::File>, HostError>
@@ -159,17 +133,6 @@ fn open_input<R: Files>(rt: &R, path: &str) -> Result<Option<R::File>, HostError
 /// The file at a path. What is no file is not opened.
 fn open_to_read<R: Files>(rt: &R, path: &str) -> io::Result<R::File> {
     open_file(&again(|| rt.metadata(path)), || File::open(rt, path))
-}
-
-/// The log of restarts, made where it is not there. What is no file is not opened.
-fn open_log<R: Files>(rt: &R) -> io::Result<R::File> {
-    let about = again(|| rt.metadata(RESTARTS_LOG));
-    open_file(&about, || {
-        OpenOptions::new()
-            .append(true)
-            .create(true)
-            .open(rt, RESTARTS_LOG)
-    })
 }
 
 /// A new file of a name at which nothing stands.

@@ -7,10 +7,12 @@ mod folder;
 mod listing;
 mod opening;
 mod reading;
+mod requests;
+mod restarts;
+mod scratch_names;
 mod settling;
-#[cfg(test)]
-mod tests;
 mod unsynced;
 
 pub use as_host::RealHost;
 pub use command_line::words;
+pub use reading::{read_in_turns, read_input};

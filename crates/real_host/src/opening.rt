@@ -5,6 +5,7 @@ ghost use Rattle.real_host.specs.Openings.{IsOdd, IsForeign, IsLeftFile, MakesAn
 
 use crate::folder::is_missing;
 use crate::reading::is_kind;
+use crate::scratch_names::is_own_scratch;
 use host_core::Failed;
 use std::fs::Metadata;
 use std::io;
@@ -25,23 +26,24 @@ pub(crate) fn open_file<T, O: FnOnce() -> io::Result<T> + Drop>(
     call()
 }
 
-/// Opens a file that an earlier command may have left. What is no file is none of them, nor what may not
-/// be opened, nor what is gone.
+/// Opens a file that an earlier command may have left. What is no file is none of them, nor what is gone,
+/// nor what may not be opened, unless a command writes a file of that name.
 pub(crate) fn open_left<T, O: FnOnce() -> io::Result<T> + Drop>(
+    name: &str,
     about: &io::Result<Metadata>,
     call: O,
 ) -> Result<Option<T>, Failed>
     requires { O.IsAlwaysCallable call }
     ensures odd { IsOdd about.now → result ≡ Ok None }
     ensures plain { ¬ IsOdd about.now
-        → ((opened : _) × O.post call opened × IsLeftFile opened result) }
+        → ((opened : _) × O.post call opened × IsLeftFile name.now opened result) }
 {
     if is_odd(about) {
         return Ok(None);
     }
     match call() {
         Ok(file) => Ok(Some(file)),
-        Err(error) if is_foreign(&error) => Ok(None),
+        Err(error) if is_foreign(name, &error) => Ok(None),
         Err(_) => Err(Failed),
     }
 }
@@ -74,9 +76,9 @@ fn is_odd(about: &io::Result<Metadata>) -> bool
     }
 }
 
-/// Whether an error says that the file is none of this user, or gone.
-fn is_foreign(error: &io::Error) -> bool
-    ensures { IsTrue result ↔ IsForeign (error_kind error.now) }
+/// Whether an error says that the file of a name is gone, or none that a command wrote.
+fn is_foreign(name: &str, error: &io::Error) -> bool
+    ensures { IsTrue result ↔ IsForeign name.now (error_kind error.now) }
 {
-    is_missing(error) || is_kind(error, ErrorKind::PermissionDenied)
+    is_missing(error) || (is_kind(error, ErrorKind::PermissionDenied) && !is_own_scratch(name))
 }

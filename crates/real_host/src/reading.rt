@@ -21,11 +21,7 @@ const MOST_TURNS: u64 = 4_294_967_296;
 const PIECE: usize = 65_536;
 
 /// An input of at most `limit` bytes, of which one more is read.
-pub(crate) fn read_input<F: Read>(
-    alloc: Global,
-    file: &mut F,
-    limit: u64,
-) -> Result<Input, HostError>
+pub fn read_input<F: Read>(alloc: Global, file: &mut F, limit: u64) -> Result<Input, HostError>
     ensures bytes { IfOk result (λ i. IfSome (F.remaining file.old)
         (λ bytes. i ≡ within limit (Some bytes))) }
     ensures limit { IfOk result (IsWithin limit) }
@@ -57,8 +53,9 @@ fn read_up_to<F: Read>(alloc: Global, file: &mut F, most: u64) -> Result<Vec<u8>
     read_in_turns(alloc, file, most, MOST_TURNS)
 }
 
-/// The same in at most so many turns.
-pub(crate) fn read_in_turns<F: Read>(
+/// The first bytes of a file, `most` of them, or all where there are not so many, in at most so many turns.
+/// Each of them takes a byte at least; a file that goes on after the last one is a fault.
+pub fn read_in_turns<F: Read>(
     alloc: Global,
     file: &mut F,
     most: u64,
@@ -107,7 +104,7 @@ fn read_more<F: Read>(
 }
 
 /// One read, again where a signal interrupts it.
-fn read_once<F: Read>(file: &mut F, piece: &mut [u8]) -> Result<usize, HostError>
+pub(crate) fn read_once<F: Read>(file: &mut F, piece: &mut [u8]) -> Result<usize, HostError>
     ensures bound { ReadsAtMost result piece.new }
     ensures taken { IfOk result
         (λ n. Consumes (F.remaining file.old) (F.remaining file.new) (take n piece.new)) }

@@ -1,5 +1,5 @@
 //! What a settle syncs: the files that may have been written and not synced, and then the folder.
-ghost use Rattle.std.specs.Prelude.{◌≡◌, OnOk, OnErr, filter};
+ghost use Rattle.std.specs.Prelude.{OnOk, OnErr, filter};
 ghost use Rattle.real_host.specs.Calls.{AreDone, AnyFails};
 ghost use Rattle.real_host.specs.Names.{is_scratch_name};
 ghost use Rattle.real_host.specs.Unsynced.{AreSynced, FailsToSync};
@@ -7,13 +7,11 @@ ghost use Rattle.real_host.specs.Unsynced.{AreSynced, FailsToSync};
 use crate::folder::{FOLDER, again, done, open_folder};
 use crate::listing::listed_names;
 use crate::opening::open_left;
+use crate::scratch_names::is_scratch;
 use crate::unsynced::Unsynced;
 use host_core::{Failed, Names, Sequence, Txt};
 use std::fs::{File, OpenFile};
 use std::rt::Files;
-
-/// How the name of a file ends that a command writes before it has its bytes synced.
-const SCRATCH_END: &str = "tmp.new";
 
 /// Syncs each file that may have been written and not synced, and then the folder.
 pub(crate) fn settle_files<R: Files + AllocGlobal + Clone + Drop>(
@@ -76,15 +74,8 @@ fn all_names<R: Files + AllocGlobal + Clone + Drop>(rt: &R) -> Result<Names, Fai
 /// Syncs the file of a name that may have been written and not synced, where it is one.
 fn sync_left<R: Files>(rt: &R, name: &str) -> Result<(), Failed> {
     let about = again(|| rt.symlink_metadata(name));
-    match open_left(&about, || File::open(rt, name))? {
+    match open_left(name, &about, || File::open(rt, name))? {
         Some(file) => done(file.sync_all()),
         None => Ok(()),
     }
-}
-
-/// Whether the file of a name may have been written and not synced.
-fn is_scratch(name: &str) -> bool
-    ensures { result ≡ is_scratch_name name.now }
-{
-    name.as_bytes().ends_with(SCRATCH_END.as_bytes())
 }
