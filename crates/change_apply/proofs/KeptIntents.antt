@@ -1,5 +1,5 @@
 -- What `intent` is with so many steps acknowledged, by what is known of it.
-use Rattle.std.proofs.Common.{◌≡◌, ◌<◌, ◌⊎◌, inl, inr, ⊎_elim, ℕ, Result, Ok, sym, ◌∙◌, arith}
+use Rattle.std.proofs.Common.{◌≡◌, ◌<◌, ◌⊎◌, inl, inr, ⊎_elim, ℕ, Result, Ok, refl, sym, ◌∙◌, arith}
 use Rattle.host_core.specs.State.{Files}
 use Rattle.conf_doc.specs.declared.configuration.Config.{Config}
 use Rattle.conf_store.specs.Puts.{IsSame}

@@ -15,7 +15,7 @@ use Rattle.conf_doc.specs.declared.configuration.Config.{Config}
 use Rattle.conf_doc.specs.declared.errors.ReadError.{ReadError}
 use Rattle.conf_doc.proofs.ReadTree.{depth_tree, sound_tree}
 use Rattle.conf_doc.proofs.RoundTrip.{config_back}
-use Rattle.doc_text.specs.Texts.{ReadsAs}
+use Rattle.checkpoints.specs.TreeTexts.{ReadsAs}
 use Rattle.checkpoints.specs.Formats.{config_member, config_of, content, content_of, format_2, format_member, greatest_number, members_in, number_in, point_tree, sequence_member, with_number}
 use Rattle.checkpoints.specs.Migrations.{old_held}
 use Rattle.checkpoints.proofs.Contents.{not_numbered, numbered_is}

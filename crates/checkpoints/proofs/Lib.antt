@@ -14,3 +14,8 @@ mod StoredConfigurations
 mod OldCheckpoints
 pub mod OtherFiles
 mod FileTexts
+mod MigrationCounting
+mod MigrationMoments
+mod MigrationSteps
+mod PutFiles
+mod TreeMembers

@@ -1,4 +1,4 @@
-//! Why a call for checkpoints gives nothing.
+//! Why a call for checkpoints gives nothing, and why a migration stops.
 ghost use Rattle.std.specs.Prelude.{◌≡◌};
 ghost use Rattle.checkpoints.specs.declared.errors.PointError.TheVariants.{Disk as disk_failed, Memory as no_memory};
 
@@ -54,4 +54,15 @@ impl From<Failed> for PointError {
     fn from(_: Failed) -> PointError {
         PointError::Disk
     }
+}
+
+/// Why a migration stopped, and how many lines were printed before.
+#[derive(Clone, Copy, Debug, PartialEq, Eq, Error)]
+pub enum MigrateFault {
+    /// The host has counted a disk fault.
+    #[error("the disk failed")]
+    Disk { step: usize },
+    /// The host has counted a print fault. The next line may have been printed in part or whole.
+    #[error("a line wasn't printed")]
+    Print { step: usize },
 }

@@ -6,8 +6,8 @@ ghost use Rattle.checkpoints.specs.Formats.{content, point_text, point_tree as t
 ghost use Rattle.checkpoints.specs.Migrations.{old_held};
 
 use crate::format::{CONFIG, FORMAT, FORMAT_2, SEQUENCE};
+use crate::tree_text::pretty_bytes;
 use conf_doc::{Config, Members, Tree, tree_of};
-use doc_text::pretty_bytes;
 use host_core::{Memory, Txt};
 use std::alloc::Global;
 

@@ -6,8 +6,8 @@ use Rattle.host_core.specs.Counts.{Counts}
 use Rattle.host_core.specs.State.{State, settled, with_pending}
 use Rattle.checkpoints.specs.Migrations.{NewFile, migration}
 use Rattle.checkpoints.specs.Names.{is_good_name}
-use Rattle.checkpoint_migration.specs.Ends.{worked}
-use Rattle.checkpoint_migration.specs.Lines.{lines_text, migrated_line}
+use Rattle.checkpoints.specs.MigrationEnds.{worked}
+use Rattle.checkpoints.specs.MigrationLines.{lines_text, migrated_line}
 use Rattle.gcu_output.specs.Lines.{last_line}
 use Rattle.gcu_output.specs.declared.outcomes.Outcome.{Outcome}
 use Rattle.gcu_output.specs.declared.outcomes.Outcome.TheVariants.{Done, Memory, InputFault, DiskFault, PrintFault, ServiceFault, Unorderable, Budget}

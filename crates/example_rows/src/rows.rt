@@ -115,6 +115,11 @@ pub fn size_at(row: &Value, name: &str) -> Result<usize, Fail> {
     }
 }
 
+/// The number under a name, as that of a byte.
+pub fn byte_at(row: &Value, name: &str) -> Result<u8, Fail> {
+    byte_of(number_at(row, name)?)
+}
+
 fn byte_of(number: u64) -> Result<u8, Fail> {
     match u8::try_from(number) {
         Ok(byte) => Ok(byte),

@@ -69,7 +69,7 @@ module _ (task : Task) (s : State) (w : Work) (c : Change) (told : List ℕ) (as
         → ((k ≡ 0) × IsKept s left) ⊎ HoldsText end left.files ⊎ ((k ≡ steps c) × IsOver end left.files)
     same_intent first (inl is) e = inl (first, e ∙ ap (λ (t : State). get t.files intent_file) is)
     same_intent first (inr (none, is)) e =
-        inr (inr (omega (arith, few, none), e ∙ ap (λ (t : State). get t.files intent_file) is ∙ get_there intent_file None s.files, over_at none k left.files stand))
+        inr (inr (omega (arith, few, none), (e ∙ ap (λ (t : State). get t.files intent_file) is ∙ get_there intent_file None s.files, over_at none k left.files stand)))
 
     intent_is : ((k ≡ 0) × IsKept s left) ⊎ HoldsText end left.files ⊎ ((k ≡ steps c) × IsOver end left.files)
     intent_is = by keeps.is
@@ -78,7 +78,7 @@ module _ (task : Task) (s : State) (w : Work) (c : Change) (told : List ℕ) (as
             → ((k ≡ 0) × IsKept s left) ⊎ HoldsText end left.files ⊎ ((k ≡ steps c) × IsOver end left.files)
         by (inl (first, same)) = same_intent first begins (seen began.files left.files same intent_file intent_not_scratch)
         by (inr (inl holds)) = inr (inl (held holds))
-        by (inr (inr (last, over))) = inr (inr (last, over.gone, over.stands ∙ ap (λ (x : Config). Ok x) goal_is))
+        by (inr (inr (last, over))) = inr (inr (last, (over.gone, over.stands ∙ ap (λ (x : Config). Ok x) goal_is)))
 
     unless : (done : ℕ) → k ≡ done → (config : Config) → (done < length c.moves) ⊎ (config ≡ end → ⊥) → (k < steps c) ⊎ (config ≡ goal c → ⊥)
     unless done same config (inl less) = inl (subst (λ (n : ℕ). n < steps c) (sym same) less)

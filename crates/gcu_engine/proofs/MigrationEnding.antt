@@ -6,10 +6,10 @@ use Rattle.host_core.specs.Crashes.{Elapses, Left, LeavesOnly, MayLeave, MayLeav
 use Rattle.host_core.specs.State.{State, printed}
 use Rattle.host_core.proofs.Runs as runs
 use Rattle.checkpoints.specs.Migrations.{NewFile}
-use Rattle.checkpoint_migration.specs.Crashes.{IsLeft}
-use Rattle.checkpoint_migration.specs.Ends.{Finishes, Stops}
-use Rattle.checkpoint_migration.specs.Lines.{lines_text}
-use Rattle.checkpoint_migration.specs.declared.errors.MigrateFault.TheVariants.{Disk, Print}
+use Rattle.checkpoints.specs.MigrationCrashes.{IsLeft}
+use Rattle.checkpoints.specs.MigrationEnds.{Finishes, Stops}
+use Rattle.checkpoints.specs.MigrationLines.{lines_text}
+use Rattle.checkpoints.specs.declared.errors.MigrateFault.TheVariants.{Disk, Print}
 use Rattle.gcu_output.specs.Lines.{last_line}
 use Rattle.gcu_output.specs.declared.outcomes.Outcome.{Outcome}
 use Rattle.gcu_output.specs.declared.outcomes.Outcome.TheVariants.{Done, DiskFault, PrintFault}

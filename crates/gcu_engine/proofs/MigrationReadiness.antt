@@ -7,7 +7,7 @@ use Rattle.host_core.specs.Crashes.{Left, LeavesOnly}
 use Rattle.host_core.specs.State.{State, printed, settled, with_pending}
 use Rattle.host_core.proofs.Runs as runs
 use Rattle.checkpoints.specs.Migrations.{IsDue, NewFile}
-use Rattle.checkpoint_migration.specs.Lines.{lines_text}
+use Rattle.checkpoints.specs.MigrationLines.{lines_text}
 use Rattle.gcu_output.specs.declared.outcomes.Outcome.{Outcome}
 use Rattle.gcu_output.specs.declared.outcomes.Outcome.TheVariants.{Done, Usage, InputFault, DiskFault, PrintFault, ServiceFault, Unorderable, Budget}
 use Rattle.gcu_inputs.specs.Asking.{settles_first}

@@ -7,7 +7,7 @@ use Rattle.conf_doc.specs.Texts.{file_text}
 use Rattle.conf_store.specs.Changes.{Leads}
 use Rattle.checkpoints.specs.Changes.{IsDeleted, IsDeletedOrNot, IsSaved, IsSavedOrNot}
 use Rattle.checkpoints.specs.Migrations.{NewFile}
-use Rattle.checkpoint_migration.specs.declared.errors.MigrateFault.TheVariants as migration_fault
+use Rattle.checkpoints.specs.declared.errors.MigrateFault.TheVariants as migration_fault
 use Rattle.move_core.specs.declared.moves.Move.{Move}
 use Rattle.change_apply.specs.Change.{name_at}
 use Rattle.change_apply.specs.Intents.{IsClosedOrNot}

@@ -3,10 +3,10 @@ use Rattle.std.specs.Prelude.{◌≡◌, ◌⊎◌, ◌≤◌, ℕ, List, ◌++�
 use Rattle.host_core.specs.Crashes.{Left}
 use Rattle.host_core.specs.State.{State, settled, with_pending}
 use Rattle.checkpoints.specs.Migrations.{NewFile}
-use Rattle.checkpoint_migration.specs.Crashes.{IsLeft}
-use Rattle.checkpoint_migration.specs.Ends.{Finishes, IsStoppedBy}
-use Rattle.checkpoint_migration.specs.Lines.{lines_text}
-use Rattle.checkpoint_migration.specs.declared.errors.MigrateFault.{MigrateFault}
+use Rattle.checkpoints.specs.MigrationCrashes.{IsLeft}
+use Rattle.checkpoints.specs.MigrationEnds.{Finishes, IsStoppedBy}
+use Rattle.checkpoints.specs.MigrationLines.{lines_text}
+use Rattle.checkpoints.specs.declared.errors.MigrateFault.{MigrateFault}
 use Rattle.gcu_output.specs.Lines.{last_line}
 use Rattle.gcu_output.specs.declared.outcomes.Outcome.{Outcome}
 use Rattle.gcu_inputs.specs.Asking.{Asking}

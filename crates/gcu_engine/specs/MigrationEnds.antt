@@ -3,9 +3,9 @@ use Rattle.std.specs.Prelude.{◌≡◌, ◌⊎◌, ℕ, suc, List, ◌++◌, le
 use Rattle.host_core.specs.Counts.{Counts}
 use Rattle.host_core.specs.State.{State, printed}
 use Rattle.checkpoints.specs.Migrations.{NewFile}
-use Rattle.checkpoint_migration.specs.Ends.{Finishes, IsStoppedBy}
-use Rattle.checkpoint_migration.specs.Lines.{lines_of}
-use Rattle.checkpoint_migration.specs.declared.errors.MigrateFault.TheVariants.{Disk, Print}
+use Rattle.checkpoints.specs.MigrationEnds.{Finishes, IsStoppedBy}
+use Rattle.checkpoints.specs.MigrationLines.{lines_of}
+use Rattle.checkpoints.specs.declared.errors.MigrateFault.TheVariants.{Disk, Print}
 use Rattle.gcu_output.specs.Lines.{last_line}
 use Rattle.gcu_output.specs.declared.outcomes.Outcome.{Outcome}
 use Rattle.gcu_output.specs.declared.outcomes.Outcome.TheVariants.{Done, DiskFault, PrintFault}

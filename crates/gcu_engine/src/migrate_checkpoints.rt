@@ -20,8 +20,9 @@ ghost use Rattle.gcu_engine.specs.MigrationEnds.{EndsMigration, HasLines};
 use crate::Outcome;
 use crate::change::end;
 use crate::fault_lines::disk_lines;
-use checkpoint_migration::{MigrateFault, migrate, migration_lines};
-use checkpoints::{Migration, PointError, prepare_migration};
+use checkpoints::{
+    MigrateFault, Migration, PointError, migrate, migration_lines, prepare_migration,
+};
 use gcu_inputs::test_uninterrupted;
 use gcu_output::tell;
 use host_core::{Host, Memory, Names};

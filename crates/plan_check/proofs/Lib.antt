@@ -2,7 +2,12 @@ pub mod FaultlessPlans
 pub mod MissingItems
 pub mod Causes
 pub mod ChainEnds
+pub mod Each
+pub mod Keeping
 pub mod OneFault
+pub mod PairNames
+pub mod PartsAt
 pub mod StepFaults
 pub mod Tests
+pub mod TouchedWants
 pub mod WayLemmas

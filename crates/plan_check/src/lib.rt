@@ -5,6 +5,7 @@ mod chains;
 mod errors;
 mod laws;
 mod plans;
+mod rules;
 mod steps;
 
 pub use errors::CheckError;

@@ -2,16 +2,16 @@
 ghost use Rattle.std.specs.Prelude.{◌≡◌, ◌↔◌, ◌<◌, ◌≤◌, length, option_map, IfOk, IsSomeAnd, IsTrue, MatchOption};
 ghost use Rattle.conf_doc.specs.Changes.{Fits, HasParent, HasPlace};
 ghost use Rattle.conf_doc.specs.WellFormed.{IsConfig};
-ghost use Rattle.move_core.specs.Contexts.{IsNamed, IsResult, rulebook};
+ghost use Rattle.move_core.specs.Contexts.{IsNamed, rulebook};
 ghost use Rattle.move_core.specs.Moves.{IsDefined, list_at};
 ghost use Rattle.plan_check.specs.Verdicts.{IsFine, IsFirstBroken, IsVerdict};
 
 use crate::NoWhy;
 use crate::chains::is_listed;
+use crate::rules::{empties_none, has_no_dependency, is_valid, keeps_create_only, keeps_required};
 use conf_doc::{Config, Part, Path, Value};
 use host_core::{Memory, Names};
 use move_core::{Ctx, Move, step};
-use plan_rules::{empties_none, has_no_dependency, is_valid, keeps_create_only, keeps_required};
 use std::alloc::Global;
 
 /// What is told of a step.
@@ -59,7 +59,7 @@ fn fits(place: &Path, part: &Part) -> bool
 }
 
 /// The items of the list at a place, where a list stands there.
-fn list_at<'c>(config: &'c Config, place: &Path) -> Option<&'c Names>
+pub(crate) fn list_at<'c>(config: &'c Config, place: &Path) -> Option<&'c Names>
     ensures { option_map (λ items. items.now) result ≡ list_at config.now place.now }
 {
     if place.len() != 3 {
@@ -110,7 +110,6 @@ fn is_defined(cur: &Config, mv: &Move) -> bool
 
 /// What of the result is the first to be wrong: that it is the same, or the first rule that is broken.
 fn first_broken(ctx: &Ctx, cur: &Config, next: &Config, mv: &Move) -> Option<NoWhy>
-    requires { IsResult cur.now mv.now next.now }
     ensures { MatchOption result (IsFine (rulebook ctx.now) cur.now next.now mv.now)
         (IsFirstBroken (rulebook ctx.now) cur.now next.now mv.now) }
 {
@@ -123,13 +122,13 @@ fn first_broken(ctx: &Ctx, cur: &Config, next: &Config, mv: &Move) -> Option<NoW
     if !has_no_dependency(ctx, cur, next, mv) {
         return Some(NoWhy::Rule2);
     }
-    if !empties_none(cur, next, mv) {
+    if !empties_none(cur, next) {
         return Some(NoWhy::Rule3);
     }
-    if !keeps_create_only(&ctx.settings, cur, next, mv) {
+    if !keeps_create_only(&ctx.settings, cur, next) {
         return Some(NoWhy::Rule4);
     }
-    if !keeps_required(&ctx.settings, cur, next, mv) {
+    if !keeps_required(&ctx.settings, cur, next) {
         return Some(NoWhy::Rule5);
     }
     None

@@ -4,7 +4,7 @@
 mod early_refusals;
 mod errors;
 mod expanding;
-mod first_plan;
+mod first_plans;
 mod hashed;
 mod laws;
 mod met_set;
@@ -15,7 +15,7 @@ mod stacks;
 mod steps;
 
 pub use errors::SearchError;
-pub use first_plan::first_plan;
+pub use first_plans::first_plan;
 pub use laws::{
     budget_is_exact, first_ways_are_least, first_ways_are_surely_least, least_ways_are_first,
     searches_have_one_answer,

@@ -1,6 +1,7 @@
 -- The wants of one configuration that another hasn't, one entry after another.
-use Rattle.std.proofs.Common.{◌≡◌, ◌⊎◌, ◌↔◌, ◌+◌, ◌≤◌, inl, inr, ℕ, List, [], ◌∷◌, ◌++◌, None, Some, length, slice_get, refl, sym, ap, ◌∙◌, subst, arith}
+use Rattle.std.proofs.Common.{◌≡◌, ◌⊎◌, ◌↔◌, ◌+◌, ◌<◌, ◌≤◌, inl, inr, ℕ, List, [], ◌∷◌, ◌++◌, None, Some, get_or, length, slice_get, take, sym, ap, ◌∙◌, subst, arith}
 use Rattle.std.proofs.lemmas.Bool.{cases_lt}
+use Rattle.std.proofs.lemmas.List.{take_more}
 use Rattle.std.proofs.lemmas.List.Elements.{Contains-push}
 use Rattle.conf_doc.specs.declared.configuration.Config.{Config}
 use Rattle.conf_doc.proofs.Edits.{same_Some}
@@ -11,99 +12,157 @@ use Rattle.conf_check.specs.Wants.{Want, IsNamed, IsWantAt, want_of}
 use Rattle.conf_check.specs.declared.want_iter.WantAt.{WantAt}
 use Rattle.conf_check.specs.declared.want_iter.WantIter.{WantIter}
 use Rattle.conf_check.specs.declared.want_iter.WantPlace.{WantPlace}
-use Rattle.ref_index.specs.EntryNames.{Adds, HasOthers, IsNamed as IsEntryNamed, IsOneOf}
+use Rattle.ref_index.specs.EntryNames.{Adds, AddsLacking, AreWantsOf, HasOthers, IsNamed as IsEntryNamed, IsOneOf, IsSameListed}
 use Rattle.ref_index.specs.PlaceMaps.{AreMissing, IsListed}
 use Rattle.ref_index.specs.Referrers.{HasWant, IsPlaceAt, place_of}
 use Rattle.ref_index.specs.declared.entry_names.EntryName.{EntryName}
 use Rattle.ref_index.specs.declared.places.Place.{Place}
 use Rattle.ref_index.proofs.NamedEntries.{there_at}
-use Rattle.ref_index.proofs.Walks.{listed_before, listed_cases, name_is, named_at, none_listed}
+use Rattle.ref_index.proofs.Walks.{listed_before, listed_cases, name_is, named_at, none_listed, same_names}
 
--- of the wants at some positions, those that were looked at are listed, or the second configuration has them;
--- the others are ahead
-pub record IsCollecting (models : ModelSet) (one two : Config) (Is : ℕ → ℕ → Type 0) (old : List WantAt) (s : WantIter) (found : List WantAt) : Type 0 where
+-- the wants of an entry that were looked at are listed, the others are ahead
+pub record IsGathering (models : ModelSet) (config : Config) (t k : List ℕ) (s : WantIter) (found : List WantAt) : Type 0 where
   pub by : s.models.now ≡ models
-  pub of : s.config.now ≡ one
-  pub has : (w : Want) (p : Place) → IsListed found w p → IsListed old w p ⊎ (HasWant models one w p × (¬ HasWant models two w p))
-  pub stay : (w : Want) (p : Place) → IsListed old w p → IsListed found w p
+  pub of : s.config.now ≡ config
+  pub within : (at : WantPlace) (w : Want) → IsWantAhead s at w → IsEntryAt config t k at.table at.key
+  pub each : (w : Want) (p : Place) → IsListed found w p → HasWant models config w p × (p.table ≡ t) × (p.key ≡ k)
   pub rest :
-      (at : WantPlace) (w : Want) → Is at.table at.key → IsWantAt models one at w
-      → IsWantAhead s at w ⊎ ((p : Place) → IsPlaceAt one at p → HasWant models two w p ⊎ IsListed found w p)
+      (at : WantPlace) (w : Want) → IsEntryAt config t k at.table at.key → IsWantAt models config at w
+      → IsWantAhead s at w ⊎ ((p : Place) → IsPlaceAt config at p → IsListed found w p)
 
-module _ (models : ModelSet) (one two : Config) (Is : ℕ → ℕ → Type 0) (old : List WantAt) where
-  pub collecting_begins : (s : WantIter) → s.models.now ≡ models → s.config.now ≡ one
-      → ((p : WantPlace) (w : Want) → IsWantAhead s p w ↔ (Is p.table p.key × IsWantAt models one p w)) → IsCollecting models one two Is old s old
-  collecting_begins s by of ahead = record {
+module _ (models : ModelSet) (config : Config) (t k : List ℕ) where
+  pub gathering_begins : (s : WantIter) → s.models.now ≡ models → s.config.now ≡ config
+      → ((p : WantPlace) (w : Want) → IsWantAhead s p w ↔ (IsEntryAt config t k p.table p.key × IsWantAt models config p w)) → IsGathering models config t k s []
+  gathering_begins s by of ahead = record {
     by = by;
     of = of;
-    has = λ w p l. inl l;
-    stay = λ w p l. l;
-    rest = λ p w is wanted. inl ((ahead p w).1 (is, wanted));
+    within = λ at w is. ((ahead at w).0 is).0;
+    each = λ w p l. absurd (none_listed w p l);
+    rest = λ at w is wanted. inl ((ahead at w).1 (is, wanted));
   }
 
-  module _ (s u : WantIter) (a : WantAt) (found : List WantAt) (walk : IsCollecting models one two Is old s found) (gives : GivesNextWant s (Some a) u) where
-    abbrev given : GivesFirst s a u
-    given = gives.gives
+  -- one more is listed
+  pub gathering_pushes : (s u : WantIter) (a : WantAt) (found new : List WantAt) → IsGathering models config t k s found → GivesNextWant s (Some a) u
+      → new ≡ found ++ a ∷ [] → IsGathering models config t k u new
+  gathering_pushes s u a found new walk gives is = subst (IsGathering models config t k u) (sym is) (record {
+    by = gives.models ∙ walk.by;
+    of = gives.config ∙ walk.of;
+    within = λ at w ahead. walk.within at w (given.behind at w ahead).1;
+    each = λ w p l. elim (listed_cases found a w p l) [
+      | inl before ↦ walk.each w p before
+      | inr this ↦ (
+        subst (λ v. HasWant models config v p) (sym this.0) (subst (HasWant models config (want_of a.want)) (sym this.1) here),
+        ap (λ q. q.table) this.1 ∙ names.0,
+        ap (λ q. q.key) this.1 ∙ names.1,
+      )
+    ];
+    rest = λ at w entry wants. elim (walk.rest at w entry wants) [
+      | inl ahead ↦ elim (given.others at w ahead) [
+        | inl same ↦ inr (λ p stands.
+            let place : p ≡ place_of a = name_is config given.place a p named (subst (λ q. IsPlaceAt config q p) same.0 stands) in
+            record { at = a; there = Contains-push found a; wants = same.1; stands = place })
+        | inr later ↦ inl later
+      ]
+      | inr done ↦ inr (λ p stands. listed_before found a w p (done p stands))
+    ];
+  })
+    where
+      given : GivesFirst s a u
+      given = gives.gives
 
-    named : IsNamed one given.place a
-    named = subst (λ d. IsNamed d given.place a) walk.of given.named
+      named : IsNamed config given.place a
+      named = subst (λ d. IsNamed d given.place a) walk.of given.named
 
-    wanted : IsWantAt models one given.place (want_of a.want)
-    wanted =
-        subst (λ d. IsWantAt models d given.place (want_of a.want)) walk.of
-        (subst (λ ms. IsWantAt ms s.config.now given.place (want_of a.want)) walk.by given.wanted.1)
+      wanted : IsWantAt models config given.place (want_of a.want)
+      wanted =
+          subst (λ d. IsWantAt models d given.place (want_of a.want)) walk.of
+          (subst (λ ms. IsWantAt ms s.config.now given.place (want_of a.want)) walk.by given.wanted.1)
 
-    goes_on : (new : List WantAt)
-        → ((w : Want) (p : Place) → IsListed new w p → IsListed old w p ⊎ (HasWant models one w p × (¬ HasWant models two w p)))
-        → ((w : Want) (p : Place) → IsListed found w p → IsListed new w p)
-        → HasWant models two (want_of a.want) (place_of a) ⊎ IsListed new (want_of a.want) (place_of a) → IsCollecting models one two Is old u new
-    goes_on new has more this = record {
-      by = gives.models ∙ walk.by;
-      of = gives.config ∙ walk.of;
-      has = has;
-      stay = λ w p l. more w p (walk.stay w p l);
-      rest = λ at w within is. elim (walk.rest at w within is) [
-        | inl ahead ↦ elim (given.others at w ahead) [
-          | inl same ↦ inr (λ p stands.
-              let place : p ≡ place_of a = name_is one given.place a p named (subst (λ q. IsPlaceAt one q p) same.0 stands) in
-              subst (λ v. HasWant models two v p ⊎ IsListed new v p) (sym same.1)
-              (subst (λ q. HasWant models two (want_of a.want) q ⊎ IsListed new (want_of a.want) q) (sym place) this))
-          | inr later ↦ inl later
-        ]
-        | inr done ↦ inr (λ p stands. elim (done p stands) [ inl has ↦ inl has | inr l ↦ inr (more w p l) ])
-      ];
-    }
+      here : HasWant models config (want_of a.want) (place_of a)
+      here = record { position = given.place; at = named_at config given.place a named; wanted = wanted }
 
-    -- the second configuration has it
-    pub collecting_skips : HasWant models two (want_of a.want) (place_of a) → IsCollecting models one two Is old u found
-    collecting_skips this = goes_on found walk.has (λ w p l. l) (inl this)
+      names : (a.table.now ≡ t) × (a.key.now ≡ k)
+      names =
+          same_names config a.table.now a.key.now t k given.place.table given.place.key named.entry
+          (walk.within given.place (want_of a.want) given.wanted)
 
-    -- it hasn't
-    pub collecting_pushes : ¬ HasWant models two (want_of a.want) (place_of a) → (new : List WantAt) → new ≡ found ++ a ∷ [] → IsCollecting models one two Is old u new
-    collecting_pushes none new is = subst (IsCollecting models one two Is old u) (sym is)
-        (goes_on (found ++ a ∷ [])
-        (λ w p l. elim (listed_cases found a w p l) [
-          | inl before ↦ walk.has w p before
-          | inr this ↦ inr (
-            subst (λ v. HasWant models one v p) (sym this.0) (subst (HasWant models one (want_of a.want)) (sym this.1) here),
-            λ h. none (subst (λ v. HasWant models two v (place_of a)) this.0 (subst (HasWant models two w) this.1 h)),
-          )
-        ])
-        (listed_before found a)
-        (inr (record { at = a; there = Contains-push found a; wants = refl; stands = refl })))
-      where
-        here : HasWant models one (want_of a.want) (place_of a)
-        here = record { position = given.place; at = named_at one given.place a named; wanted = wanted }
+  -- all are
+  pub gathering_ends : (s u : WantIter) (found : List WantAt) → IsGathering models config t k s found → GivesNextWant s None u → AreWantsOf models config t k found
+  gathering_ends s u found walk gives = record {
+    each = walk.each;
+    all = λ w p has table key. elim (walk.rest has.position w
+        (subst (λ x. IsEntryAt config t x has.position.table has.position.key) key
+        (subst (λ x. IsEntryAt config x p.key has.position.table has.position.key) table has.at.entry)) has.wanted) [
+          | inl ahead ↦ absurd (gives.gives.0 has.position w ahead)
+          | inr done ↦ done p has.at
+        ];
+  }
 
-  pub collecting_ends : (s u : WantIter) (found : List WantAt) → IsCollecting models one two Is old s found → GivesNextWant s None u → Adds models one two Is old found
-  collecting_ends s u found walk gives = record {
-    has = walk.has;
-    stay = walk.stay;
-    all = λ at w p within is stands. elim (walk.rest at w within is) [
-      | inl ahead ↦ absurd (gives.gives.0 at w ahead)
-      | inr done ↦ done p stands
+-- ---- what one list has and another lacks
+
+pub lacking_none : (others old : List WantAt) → AddsLacking [] others old old
+lacking_none others old = record { has = λ w p l. inl l; stay = λ w p l. l; all = λ w p l. absurd (none_listed w p l) }
+
+module _ (listed others old found : List WantAt) (a : WantAt) (adds : AddsLacking listed others old found) where
+  more : (w : Want) (p : Place) → IsListed found w p → IsListed old w p ⊎ (IsListed (listed ++ a ∷ []) w p × (¬ IsListed others w p))
+  more w p l = elim (adds.has w p l) [ inl was ↦ inl was | inr both ↦ inr (listed_before listed a w p both.0, both.1) ]
+
+  -- the other list has one more
+  lacking_skips : IsSameListed others a → AddsLacking (listed ++ a ∷ []) others old found
+  lacking_skips there = record {
+    has = more;
+    stay = adds.stay;
+    all = λ w p l. elim (listed_cases listed a w p l) [
+      | inl before ↦ adds.all w p before
+      | inr this ↦ inl (subst (λ v. IsListed others v p) (sym this.0) (subst (IsListed others (want_of a.want)) (sym this.1) there))
     ];
   }
+
+  -- it lacks one more
+  lacking_pushes : ¬ IsSameListed others a → (new : List WantAt) → new ≡ found ++ a ∷ [] → AddsLacking (listed ++ a ∷ []) others old new
+  lacking_pushes none new is = subst (AddsLacking (listed ++ a ∷ []) others old) (sym is) (record {
+    has = λ w p l. elim (listed_cases found a w p l) [
+      | inl before ↦ more w p before
+      | inr this ↦ inr (
+        record { at = a; there = Contains-push listed a; wants = this.0; stands = this.1 },
+        λ h. none (subst (λ v. IsListed others v (place_of a)) this.0 (subst (IsListed others w) this.1 h)),
+      )
+    ];
+    stay = λ w p l. listed_before found a w p (adds.stay w p l);
+    all = λ w p l. elim (listed_cases listed a w p l) [
+      | inl before ↦ elim (adds.all w p before) [ inl there ↦ inl there | inr l ↦ inr (listed_before found a w p l) ]
+      | inr this ↦ inr (record { at = a; there = Contains-push found a; wants = this.0; stands = this.1 })
+    ];
+  })
+
+-- one step of a loop
+module _ (listed others old found : List WantAt) (i : ℕ) (d : WantAt) (lt : i < length listed) (adds : AddsLacking (take i listed) others old found) where
+  pub lacking_kept : IsSameListed others (get_or listed i d) → AddsLacking (take (i + 1) listed) others old found
+  lacking_kept there =
+      subst (λ ls. AddsLacking ls others old found) (sym (take_more listed i d lt)) (lacking_skips (take i listed) others old found (get_or listed i d) adds there)
+
+  pub lacking_added : ¬ IsSameListed others (get_or listed i d) → (new : List WantAt) → new ≡ found ++ get_or listed i d ∷ []
+      → AddsLacking (take (i + 1) listed) others old new
+  lacking_added none new made =
+      subst (λ ls. AddsLacking ls others old new) (sym (take_more listed i d lt))
+      (lacking_pushes (take i listed) others old found (get_or listed i d) adds none new made)
+
+-- the wants of an entry that another configuration hasn't
+pub lacking_adds : (models : ModelSet) (one two : Config) (t k : List ℕ) (ones others old new : List WantAt) → AreWantsOf models one t k ones
+    → AreWantsOf models two t k others → AddsLacking ones others old new → Adds models one two (IsEntryAt one t k) old new
+lacking_adds models one two t k ones others old new a b adds = record {
+  has = λ w p l. elim (adds.has w p l) [
+    | inl was ↦ inl was
+    | inr both ↦ let here = a.each w p both.0 in inr (here.0, λ h. both.1 (b.all w p h here.1 here.2))
+  ];
+  stay = adds.stay;
+  all = λ at w p entry wanted stands.
+      let names = same_names one p.table p.key t k at.table at.key stands.entry entry in
+      elim (adds.all w p (a.all w p (record { position = at; at = stands; wanted = wanted }) names.0 names.1)) [
+        | inl there ↦ inl (b.each w p there).0
+        | inr l ↦ inr l
+      ];
+}
 
 -- ---- one entry or table after another
 

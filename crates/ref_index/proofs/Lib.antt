@@ -9,6 +9,7 @@ mod Lists
 mod Moves
 mod NamedEntries
 mod SameEntries
+mod SameListed
 mod SameWants
 mod Sides
 mod TextMaps

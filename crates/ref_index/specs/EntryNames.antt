@@ -9,11 +9,11 @@ use Rattle.conf_doc.specs.declared.configuration.Table.{Table}
 use Rattle.key_split.specs.Key.{key_parts}
 use Rattle.yang_model.specs.ModelSets.{ModelSet}
 use Rattle.conf_check.specs.Rows.{IsEntryAt}
-use Rattle.conf_check.specs.Wants.{Want, IsWantAt}
+use Rattle.conf_check.specs.Wants.{Want, IsWantAt, want_of}
 use Rattle.conf_check.specs.declared.want_iter.WantAt.{WantAt}
 use Rattle.conf_check.specs.declared.want_iter.WantPlace.{WantPlace}
 use Rattle.ref_index.specs.PlaceMaps.{IsListed}
-use Rattle.ref_index.specs.Referrers.{HasWant, IsPlaceAt}
+use Rattle.ref_index.specs.Referrers.{HasWant, IsPlaceAt, place_of}
 use Rattle.ref_index.specs.Referring.{may_refer}
 use Rattle.ref_index.specs.Texts.{Has, HasNoneOf}
 use Rattle.ref_index.specs.declared.entry_names.EntryName.{EntryName}
@@ -125,6 +125,29 @@ pub record Adds (models : ModelSet) (first second : Config) (Is : ℕ → ℕ �
       (at : WantPlace) (w : Want) (p : Place) → Is at.table at.key
       → IsWantAt models first at w → IsPlaceAt first at p
       → HasWant models second w p ⊎ IsListed new w p
+
+-- exactly the wants of the entry of those names are listed
+pub record AreWantsOf (models : ModelSet) (config : Config) (t k : List ℕ)
+    (listed : List WantAt) : Type 0 where
+  pub each :
+      (w : Want) (p : Place) → IsListed listed w p
+      → HasWant models config w p × (p.table ≡ t) × (p.key ≡ k)
+  pub all :
+      (w : Want) (p : Place) → HasWant models config w p → p.table ≡ t → p.key ≡ k
+      → IsListed listed w p
+
+-- the same want at the same place is listed
+abbrev pub IsSameListed : List WantAt → WantAt → Type 0
+IsSameListed listed at = IsListed listed (want_of at.want) (place_of at)
+
+-- to what is listed the wants of a list are added that another one lacks
+pub record AddsLacking (listed others old new : List WantAt) : Type 0 where
+  pub has :
+      (w : Want) (p : Place) → IsListed new w p
+      → IsListed old w p ⊎ (IsListed listed w p × (¬ IsListed others w p))
+  pub stay : (w : Want) (p : Place) → IsListed old w p → IsListed new w p
+  pub all :
+      (w : Want) (p : Place) → IsListed listed w p → IsListed others w p ⊎ IsListed new w p
 
 -- the entry is one of those that are named before an index
 pub record IsOneOf (config : Config) (names : List EntryName) (n i j : ℕ) : Type 0 where

@@ -1,11 +1,11 @@
-//! The wants that one configuration has and another hasn't.
-ghost use Rattle.std.specs.Prelude.{◌≡◌, ◌↔◌, ◌<◌, length, slice_get, Some, IfOk, IsTrue, OnOk, option_map};
+//! The wants that one of two configurations has and the other hasn't.
+ghost use Rattle.std.specs.Prelude.{◌≡◌, ◌↔◌, ◌<◌, ◌+◌, ◌^◌, length, slice_get, Some, IfOk, IfSome, IsTrue, MatchOption, OnOk, option_map};
 ghost use Rattle.ref_index.specs.declared.entry_names.EntryName.{EntryName};
 ghost use Rattle.conf_check.specs.Rows.{IsEntryAt};
 ghost use Rattle.conf_check.specs.Wants.{want_of};
-ghost use Rattle.ref_index.specs.EntryNames.{Adds, HasOthers};
+ghost use Rattle.ref_index.specs.EntryNames.{Adds, AddsLacking, AreDifferences, AreWantsOf, IsSameListed};
 ghost use Rattle.ref_index.specs.PlaceMaps.{AreMissing};
-ghost use Rattle.ref_index.specs.Referrers.{HasWant, name_of, place_of};
+ghost use Rattle.ref_index.specs.Referrers.{name_of, place_of};
 
 use crate::entry_names::EntryName;
 use conf_check::{WantAt, entry_wants};
@@ -13,6 +13,13 @@ use conf_doc::Config;
 use host_core::Memory;
 use std::alloc::Global;
 use yang_model::Models;
+
+/// The wants that go and those that come where one configuration takes the place of another.
+#[derive(Drop)]
+pub(crate) struct WantChanges<'a> {
+    pub(crate) gone: Vec<WantAt<'a>>,
+    pub(crate) come: Vec<WantAt<'a>>,
+}
 
 /// Whether two fields have one name, or there is none.
 fn is_same_field(left: Option<&str>, right: Option<&str>) -> bool
@@ -40,73 +47,143 @@ fn is_same(left: &WantAt, right: &WantAt) -> bool
         && left.table == right.table
 }
 
-/// Whether the text at a place has that want.
-fn has_want(models: &Models, config: &Config, at: &WantAt) -> bool
-    ensures { let want = want_of at.now.want in
-        IsTrue result ↔ HasWant models.now config.now want (place_of at.now) }
+/// Whether the same want stands at an index of a list.
+fn is_same_at(listed: &[WantAt], i: usize, at: &WantAt) -> bool
+    ensures same { IsTrue result → IsSameListed listed.now at.now }
+    ensures within { IsTrue result → i < length listed.now }
+    ensures small { IsTrue result → i + 1 < 2 ^ 64 }
 {
-    for other in entry_wants(models, config, at.table, at.key) {
-        if is_same(&other, at) {
-            return true;
-        }
+    if i >= listed.len() {
+        return false;
     }
-    false
+    is_same(&listed[i], at)
 }
 
-/// Adds the wants of an entry of the first configuration that the second hasn't.
-fn add_of_entry<'a>(
+/// The index of the same want in a list.
+fn first_same(listed: &[WantAt], at: &WantAt) -> Option<usize>
+    ensures same { MatchOption result (¬ IsSameListed listed.now at.now)
+        (λ _. IsSameListed listed.now at.now) }
+    ensures small { IfSome result (λ i. i + 1 < 2 ^ 64) }
+{
+    for i in 0..listed.len() {
+        if is_same(&listed[i], at) {
+            return Some(i);
+        }
+    }
+    None
+}
+
+/// The same. It is looked for at an index first.
+fn index_from(listed: &[WantAt], first: usize, at: &WantAt) -> Option<usize>
+    ensures same { MatchOption result (¬ IsSameListed listed.now at.now)
+        (λ _. IsSameListed listed.now at.now) }
+    ensures small { IfSome result (λ i. i + 1 < 2 ^ 64) }
+{
+    if is_same_at(listed, first, at) {
+        return Some(first);
+    }
+    first_same(listed, at)
+}
+
+/// The wants of an entry.
+fn wants_of<'a>(
+    alloc: Global,
     models: &'a Models,
-    first: &'a Config,
-    second: &Config,
+    config: &'a Config,
     table: &str,
     key: &str,
-    found: &mut Vec<WantAt<'a>>,
-) -> Result<(), Memory>
-    ensures { let Of = IsEntryAt first.now table.now key.now in
-        OnOk result (Adds models.now first.now second.now Of found.old.items found.new.items) }
+) -> Result<Vec<WantAt<'a>>, Memory>
+    ensures { IfOk result
+        (λ found. AreWantsOf models.now config.now table.now key.now found.items) }
 {
-    for at in entry_wants(models, first, table, key) {
-        if has_want(models, second, &at) {
-            continue;
-        }
+    let mut found = Vec::new(alloc);
+    for at in entry_wants(models, config, table, key) {
         found.push(at)?;
     }
+    Ok(found)
+}
+
+/// Adds the wants of a list that another one lacks.
+fn add_lacking<'a>(
+    listed: &[WantAt<'a>],
+    others: &[WantAt],
+    found: &mut Vec<WantAt<'a>>,
+) -> Result<(), Memory>
+    ensures { OnOk result (AddsLacking listed.now others.now found.old.items found.new.items) }
+{
+    let mut next = 0;
+    for at in listed {
+        match index_from(others, next, at) {
+            Some(i) => next = i + 1,
+            None => found.push(*at)?,
+        }
+    }
+    Ok(())
+}
+
+/// Adds the wants of an entry that only one of two configurations has. What it wants in each is found once.
+fn add_of_entry<'a>(
+    alloc: Global,
+    models: &'a Models,
+    config: &'a Config,
+    next: &'a Config,
+    table: &str,
+    key: &str,
+    changes: &mut WantChanges<'a>,
+) -> Result<(), Memory>
+    ensures gone { let Of = IsEntryAt config.now table.now key.now in OnOk result
+        (Adds models.now config.now next.now Of changes.old.gone.items changes.new.gone.items) }
+    ensures come { let Of = IsEntryAt next.now table.now key.now in OnOk result
+        (Adds models.now next.now config.now Of changes.old.come.items changes.new.come.items) }
+{
+    let before = wants_of(alloc, models, config, table, key)?;
+    let after = wants_of(alloc, models, next, table, key)?;
+    add_lacking(before.as_slice(), after.as_slice(), &mut changes.gone)?;
+    add_lacking(after.as_slice(), before.as_slice(), &mut changes.come)?;
     Ok(())
 }
 
 /// The same of the entry of the name at an index.
 fn add_at<'a>(
-    models: &'a Models,
-    first: &'a Config,
-    second: &Config,
-    names: &[EntryName],
-    i: usize,
-    found: &mut Vec<WantAt<'a>>,
-) -> Result<(), Memory>
-    requires { i < length names.now }
-    ensures { (name : EntryName) → slice_get names.now i ≡ Some name →
-        let Of = IsEntryAt first.now name.table.now name.key.now in
-        OnOk result (Adds models.now first.now second.now Of found.old.items found.new.items) }
-{
-    let name = names[i];
-    add_of_entry(models, first, second, name.table, name.key, found)
-}
-
-/// The wants of the first configuration, with their places, that the second hasn't. Only entries of those
-/// names are looked at; of the others both have the same wants.
-pub(crate) fn missing_wants<'a>(
     alloc: Global,
     models: &'a Models,
-    first: &'a Config,
-    second: &Config,
+    config: &'a Config,
+    next: &'a Config,
     names: &[EntryName],
-) -> Result<Vec<WantAt<'a>>, Memory>
-    requires { HasOthers models.now first.now second.now names.now }
-    ensures { IfOk result (λ found. AreMissing models.now first.now second.now found.items) }
+    i: usize,
+    changes: &mut WantChanges<'a>,
+) -> Result<(), Memory>
+    requires { i < length names.now }
+    ensures gone { (name : EntryName) → slice_get names.now i ≡ Some name →
+        let Of = IsEntryAt config.now name.table.now name.key.now in OnOk result
+        (Adds models.now config.now next.now Of changes.old.gone.items changes.new.gone.items) }
+    ensures come { (name : EntryName) → slice_get names.now i ≡ Some name →
+        let Of = IsEntryAt next.now name.table.now name.key.now in OnOk result
+        (Adds models.now next.now config.now Of changes.old.come.items changes.new.come.items) }
 {
-    let mut found = Vec::new(alloc);
+    let name = names[i];
+    add_of_entry(alloc, models, config, next, name.table, name.key, changes)
+}
+
+/// The wants, with their places, that only one of two configurations has. Only entries of those names are
+/// looked at; of the others both have the same wants.
+pub(crate) fn changed_wants<'a>(
+    alloc: Global,
+    models: &'a Models,
+    config: &'a Config,
+    next: &'a Config,
+    names: &[EntryName],
+) -> Result<WantChanges<'a>, Memory>
+    requires { AreDifferences models.now config.now next.now names.now }
+    ensures gone { IfOk result (λ c. AreMissing models.now config.now next.now c.gone.items) }
+    ensures come { IfOk result (λ c. AreMissing models.now next.now config.now c.come.items) }
+{
+    let mut changes = WantChanges {
+        gone: Vec::new(alloc),
+        come: Vec::new(alloc),
+    };
     for i in 0..names.len() {
-        add_at(models, first, second, names, i, &mut found)?;
+        add_at(alloc, models, config, next, names, i, &mut changes)?;
     }
-    Ok(found)
+    Ok(changes)
 }

@@ -5,7 +5,7 @@ ghost use Rattle.ref_index.specs.EntryNames.{AreDifferences};
 ghost use Rattle.ref_index.specs.PlaceMaps.{IsMapOf, PutsAll, PutsSome, TakesAll};
 ghost use Rattle.ref_index.specs.Referrers.{AreReferrers, want_for};
 
-use crate::differences::missing_wants;
+use crate::differences::changed_wants;
 use crate::entry_names::{EntryName, differences, differences_but};
 use crate::place_maps::PlaceMap;
 use crate::places::Place;
@@ -77,15 +77,14 @@ fn move_named(
     ensures ok { OnOk result (IsMapOf models.now next.now places.new) }
     ensures err { OnErr result (IsMapOf models.now config.now places.new) }
 {
-    let gone = missing_wants(alloc, models, config, next, names)?;
-    let come = missing_wants(alloc, models, next, config, names)?;
-    match put_all(alloc, places, come.as_slice()) {
+    let changes = changed_wants(alloc, models, config, next, names)?;
+    match put_all(alloc, places, changes.come.as_slice()) {
         Ok(()) => {
-            take_all(places, gone.as_slice());
+            take_all(places, changes.gone.as_slice());
             Ok(())
         }
         Err(error) => {
-            take_all(places, come.as_slice());
+            take_all(places, changes.come.as_slice());
             Err(error)
         }
     }

@@ -1,6 +1,6 @@
 use Rattle.std.proofs.Common.{◌≤◌, subst, arith}
 use Rattle.std.proofs.lemmas.Result.{IfOk-weaker}
-use Rattle.doc_text.specs.Texts.{ReadsAs}
+use Rattle.checkpoints.specs.TreeTexts.{ReadsAs}
 use Rattle.checkpoints.specs.Formats.{greatest_number}
 use Rattle.checkpoints.proofs.FileTexts.{point_held, point_not_old}
 use Rattle.checkpoints.proofs.writing.point_bytes.Goals as goal

@@ -1,4 +1,0 @@
-mod Counting
-mod Moments
-mod PutFiles
-mod Stepping

@@ -1,7 +1,0 @@
-use Rattle.std.proofs.Common.{◌≡◌, take}
-use Rattle.checkpoint_migration.specs.Lines.{lines_of}
-use Rattle.checkpoint_migration.proofs.lines.migration_lines.Given as goal
-
--- the lines of the first i
-abbrev pub invariant-loop-i : goal.invariant-loop-i
-invariant-loop-i l = record { lines : l.lines ≡ lines_of (take l.i l.migration) }

@@ -1,6 +1,0 @@
--- what public clauses cite
-pub mod Crashes
-pub mod Ends
-pub mod Lines
--- what only private clauses cite
-pub mod Stages

@@ -1,6 +1,0 @@
-//! Documents as texts of lines.
-#![tactic(auto)]
-
-mod writing;
-
-pub use writing::pretty_bytes;

@@ -1,8 +1,0 @@
-use Rattle.plan_rules.specs.Dependencies.{place_of}
-use Rattle.plan_rules.proofs.Dependencies.{at_itself}
-use Rattle.plan_rules.proofs.no_dependency.is_at.Goals as goal
-
-pub returns-then-is_at_or_below : goal.returns-then-is_at_or_below
-returns-then-is_at_or_below c =
-    at_itself c.args.place.now (place_of c.args.at.now) c.len.result c.names_count.result c.len.ensures.len c.names_count.ensures
-    (c.is_at_or_below.ensures.0 c.if-is_at_or_below.true)

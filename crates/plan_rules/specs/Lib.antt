@@ -1,3 +1,0 @@
--- what only private clauses cite
-pub mod Dependencies
-pub mod Entries
