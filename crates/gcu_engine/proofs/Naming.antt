@@ -91,7 +91,10 @@ module _ (a b : Asking Request) (w : Widens a b) (before now : State) where
 
   module _ (old new : Counts) where
     prints_wider : (e : Outcome) (output : List ℕ) → Prints a before now old new e output → Prints b before now old new e output
-    prints_wider (PrintFault step) output (inl (acked, (other, rest, cause, says))) = inl (acked, (other, rest, cause, says_wider other (output ++ rest) says))
+    prints_wider (PrintFault step) output (inl (inl acked, (other, rest, cause, says))) =
+        inl (inl acked, (other, rest, cause, says_wider other (output ++ rest) says))
+    prints_wider (PrintFault step) output (inl (inr (news, given, within, lines), (other, rest, cause, says))) =
+        inl (inr (news, w.gives _ given, within, lines), (other, rest, cause, says_wider other (output ++ rest) says))
     prints_wider (PrintFault step) output (inr (inl (p, given, cut))) = inr (inl (p, w.gives _ given, cut))
     prints_wider (PrintFault step) output (inr (inr (news, given, cut, none))) = inr (inr (news, w.gives _ given, cut, none))
     prints_wider other output says = says_wider other output says
