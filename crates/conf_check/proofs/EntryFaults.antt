@@ -7,8 +7,8 @@ use Rattle.conf_check.specs.Faults.{IsFirstNumber, IsFirstBesideMusts, IsFirstFa
 use Rattle.conf_check.specs.Rows.{Row, HasShape, HasNoShape}
 use Rattle.conf_check.specs.Validity.{Breaks, no_shape, of_shape, BreaksShape, IsFalse, IsRuleBefore, stage, rule_number}
 use Rattle.conf_check.specs.declared.faults.Fault.{Fault}
-use Rattle.conf_check.specs.declared.violations.Rule.{Rule}
-use Rattle.conf_check.specs.declared.violations.Rule.TheVariants.{KeyShape, KeyReference, UnknownField, WrongKind, BadValue, DuplicateItem, MissingField, Must}
+use Rattle.conf_check.specs.declared.violations.RuleName.{RuleName}
+use Rattle.conf_check.specs.declared.violations.RuleName.TheVariants.{KeyShape, KeyReference, UnknownField, WrongKind, BadValue, DuplicateItem, MissingField, Must}
 use Rattle.conf_check.proofs.FirstFaults.{fields_stage}
 use Rattle.conf_check.proofs.TableShapes.{shape_once, not_both}
 
@@ -35,7 +35,7 @@ module _ (models : ModelSet) (config : Config) (t k : ℕ) (row : Row) where
   pub no_shape_first : HasNoShape models row → IsFirstFault (Breaks models config t k row) (Some (record { rule = KeyShape; field = 0 }))
   no_shape_first none = (no_shape none refl refl, none_before)
     where
-      none_before : (r : Rule) (n : ℕ) → IsRuleBefore r n KeyShape 0 → ¬ Breaks models config t k row r n
+      none_before : (r : RuleName) (n : ℕ) → IsRuleBefore r n KeyShape 0 → ¬ Breaks models config t k row r n
       none_before KeyShape n e b = later_number 1 1 n 0 (omega arith, omega arith) (same_stage 0 _ e)
       none_before KeyReference n e b = later 1 0 _ (omega arith) e
       none_before UnknownField n e b = later 2 0 _ (omega arith) e
@@ -46,10 +46,10 @@ module _ (models : ModelSet) (config : Config) (t k : ℕ) (row : Row) where
       none_before Must n e b = later 4 0 _ (omega arith) e
 
   module _ (shape : Shape) (has : HasShape models row shape) where
-    to_breaks : (r : Rule) (n : ℕ) → BreaksShape models config t k row shape r n → Breaks models config t k row r n
+    to_breaks : (r : RuleName) (n : ℕ) → BreaksShape models config t k row shape r n → Breaks models config t k row r n
     to_breaks r n b = of_shape shape has b
 
-    from_breaks : (r : Rule) (n : ℕ) → Breaks models config t k row r n → BreaksShape models config t k row shape r n
+    from_breaks : (r : RuleName) (n : ℕ) → Breaks models config t k row r n → BreaksShape models config t k row shape r n
     from_breaks r n (no_shape none is zero) = absurd (not_both models row shape has none)
     from_breaks r n (of_shape other has' b) =
         let P : Shape → Type 0 = λ s. BreaksShape models config t k row s r n in
@@ -61,10 +61,10 @@ module _ (models : ModelSet) (config : Config) (t k : ℕ) (row : Row) where
     shape_first (Some f) first = (to_breaks f.rule f.field first.0, λ r n lt b. first.1 r n lt (from_breaks r n b))
 
   module _ (shape : Shape) where
-    abbrev P : Rule → ℕ → Type 0
+    abbrev P : RuleName → ℕ → Type 0
     P r n = BreaksShape models config t k row shape r n
 
-    from_fields : (r : Rule) (n : ℕ) → stage r ≡ 2 → FieldsBreak models config shape row.fields r n → P r n
+    from_fields : (r : RuleName) (n : ℕ) → stage r ≡ 2 → FieldsBreak models config shape row.fields r n → P r n
     from_fields KeyShape n s b = absurd (omega arith)
     from_fields KeyReference n s b = absurd (omega arith)
     from_fields UnknownField n s b = b
@@ -79,7 +79,7 @@ module _ (models : ModelSet) (config : Config) (t k : ℕ) (row : Row) where
         → IsFirstFault P (Some (record { rule = KeyReference; field = i }))
     part_first i first = (first.0, before)
       where
-        before : (r : Rule) (n : ℕ) → IsRuleBefore r n KeyReference i → ¬ P r n
+        before : (r : RuleName) (n : ℕ) → IsRuleBefore r n KeyReference i → ¬ P r n
         before KeyShape n e b = b
         before KeyReference n e b = first.1 n (lesser_number 2 n i (same_stage 1 _ e)) b
         before UnknownField n e b = later 2 1 _ (omega arith) e
@@ -90,8 +90,8 @@ module _ (models : ModelSet) (config : Config) (t k : ℕ) (row : Row) where
         before Must n e b = later 4 1 _ (omega arith) e
 
     field_before : (f : Fault) (parts : (i : ℕ) → ¬ IsRefusedPart models config shape row.key i)
-        (first : (r : Rule) (n : ℕ) → IsRuleBefore r n f.rule f.field → ¬ FieldsBreak models config shape row.fields r n)
-        (s : ℕ) → s ≡ 2 → (r : Rule) (n : ℕ)
+        (first : (r : RuleName) (n : ℕ) → IsRuleBefore r n f.rule f.field → ¬ FieldsBreak models config shape row.fields r n)
+        (s : ℕ) → s ≡ 2 → (r : RuleName) (n : ℕ)
         → (stage r < s) ⊎ ((stage r ≡ s) × ((n < f.field) ⊎ ((n ≡ f.field) × (rule_number r < rule_number f.rule))))
         → (IsRuleBefore r n f.rule f.field) → ¬ P r n
     field_before f parts first s is KeyShape n e e' b = b
@@ -119,7 +119,7 @@ module _ (models : ModelSet) (config : Config) (t k : ℕ) (row : Row) where
         → IsFirstFault P (Some (record { rule = MissingField; field = i }))
     missing_is_first i parts none first = (first.0, before)
       where
-        before : (r : Rule) (n : ℕ) → IsRuleBefore r n MissingField i → ¬ P r n
+        before : (r : RuleName) (n : ℕ) → IsRuleBefore r n MissingField i → ¬ P r n
         before KeyShape n e b = b
         before KeyReference n e b = parts n b
         before UnknownField n e b = none UnknownField n b
@@ -133,7 +133,7 @@ module _ (models : ModelSet) (config : Config) (t k : ℕ) (row : Row) where
     IsFalseAt i = IsSomeAnd (slice_get shape.musts i) (IsFalse models config t k)
 
     abbrev NonePlain : Type 0
-    NonePlain = (r : Rule) (n : ℕ) → stage r < 4 → ¬ P r n
+    NonePlain = (r : RuleName) (n : ℕ) → stage r < 4 → ¬ P r n
 
     -- where nothing is missing, nothing is broken but musts
     pub none_plain : IsFirstNumber (IsRefusedPart models config shape row.key) None
@@ -153,7 +153,7 @@ module _ (models : ModelSet) (config : Config) (t k : ℕ) (row : Row) where
         → IsFirstFault P (Some (record { rule = Must; field = i }))
     must_is_first i plain first = (first.0, before)
       where
-        before : (r : Rule) (n : ℕ) → IsRuleBefore r n Must i → ¬ P r n
+        before : (r : RuleName) (n : ℕ) → IsRuleBefore r n Must i → ¬ P r n
         before KeyShape n e b = b
         before KeyReference n e b = plain KeyReference n (omega arith) b
         before UnknownField n e b = plain UnknownField n (omega arith) b

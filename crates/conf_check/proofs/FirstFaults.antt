@@ -13,11 +13,11 @@ use Rattle.yang_types.specs.DataTypes.{data_type}
 use Rattle.conf_check.specs.Faults.{IsFirstRule, IsFirstFault, FieldBreaks, ValueBreaks, TextsBreak, FieldsBreak}
 use Rattle.conf_check.specs.Rows.{rule_of, texts_by_kind, typed_texts}
 use Rattle.conf_check.specs.Validity.{IsRefused, AreSomeEqual, stage}
-use Rattle.conf_check.specs.declared.violations.Rule.{Rule}
-use Rattle.conf_check.specs.declared.violations.Rule.TheVariants.{KeyShape, KeyReference, UnknownField, WrongKind, BadValue, DuplicateItem, MissingField, Must}
+use Rattle.conf_check.specs.declared.violations.RuleName.{RuleName}
+use Rattle.conf_check.specs.declared.violations.RuleName.TheVariants.{KeyShape, KeyReference, UnknownField, WrongKind, BadValue, DuplicateItem, MissingField, Must}
 
 -- the same rules are broken, so the same one is first
-pub first_rule-map : (P Q : Rule → Type 0) (a : Option Rule) → ((r : Rule) → P r → Q r) → ((r : Rule) → Q r → P r) → IsFirstRule P a → IsFirstRule Q a
+pub first_rule-map : (P Q : RuleName → Type 0) (a : Option RuleName) → ((r : RuleName) → P r → Q r) → ((r : RuleName) → Q r → P r) → IsFirstRule P a → IsFirstRule Q a
 first_rule-map P Q None to from none = λ r q. none r (from r q)
 first_rule-map P Q (Some r) to from first = (to r first.0, λ q lt b. first.1 q lt (from q b))
 
@@ -27,7 +27,7 @@ paired type us = (type, us)
 module _ (models : ModelSet) (config : Config) where
   -- a value of the right kind breaks what its texts break
   to_value : (type : DataType) (list : Bool) (value : Value) (ts : List (List ℕ)) → texts_by_kind list value ≡ Some ts
-      → (r : Rule) → TextsBreak models config type ts r → ValueBreaks models config type list value r
+      → (r : RuleName) → TextsBreak models config type ts r → ValueBreaks models config type list value r
   to_value type list value ts is KeyShape b = b
   to_value type list value ts is KeyReference b = b
   to_value type list value ts is UnknownField b = b
@@ -42,7 +42,7 @@ module _ (models : ModelSet) (config : Config) where
   to_value type list value ts is Must b = b
 
   from_value : (type : DataType) (list : Bool) (value : Value) (ts : List (List ℕ)) → texts_by_kind list value ≡ Some ts
-      → (r : Rule) → ValueBreaks models config type list value r → TextsBreak models config type ts r
+      → (r : RuleName) → ValueBreaks models config type list value r → TextsBreak models config type ts r
   from_value type list value ts is KeyShape b = b
   from_value type list value ts is KeyReference b = b
   from_value type list value ts is UnknownField b = b
@@ -56,13 +56,13 @@ module _ (models : ModelSet) (config : Config) where
   from_value type list value ts is MissingField b = b
   from_value type list value ts is Must b = b
 
-  pub value_first : (type : DataType) (list : Bool) (value : Value) (ts : List (List ℕ)) (a : Option Rule) → texts_by_kind list value ≡ Some ts
+  pub value_first : (type : DataType) (list : Bool) (value : Value) (ts : List (List ℕ)) (a : Option RuleName) → texts_by_kind list value ≡ Some ts
       → IsFirstRule (TextsBreak models config type ts) a → IsFirstRule (ValueBreaks models config type list value) a
   value_first type list value ts a is first =
       first_rule-map _ _ a (to_value type list value ts is) (from_value type list value ts is) first
 
   module _ (shape : Shape) (field : List ℕ × Value) where
-    to_field : (rule : FieldRule) → rule_of field.0 shape ≡ Some rule → (r : Rule)
+    to_field : (rule : FieldRule) → rule_of field.0 shape ≡ Some rule → (r : RuleName)
         → ValueBreaks models config (data_type rule.ty) rule.list field.1 r → FieldBreaks models config shape field r
     to_field rule is KeyShape b = b
     to_field rule is KeyReference b = b
@@ -79,7 +79,7 @@ module _ (models : ModelSet) (config : Config) where
     to_field rule is MissingField b = b
     to_field rule is Must b = b
 
-    from_field : (rule : FieldRule) → rule_of field.0 shape ≡ Some rule → (r : Rule)
+    from_field : (rule : FieldRule) → rule_of field.0 shape ≡ Some rule → (r : RuleName)
         → FieldBreaks models config shape field r → ValueBreaks models config (data_type rule.ty) rule.list field.1 r
     from_field rule is KeyShape b = b
     from_field rule is KeyReference b = b
@@ -97,12 +97,12 @@ module _ (models : ModelSet) (config : Config) where
     from_field rule is Must b = b
 
     -- a field of the shape breaks what its value breaks
-    pub field_first : (rule : FieldRule) (a : Option Rule) → rule_of field.0 shape ≡ Some rule
+    pub field_first : (rule : FieldRule) (a : Option RuleName) → rule_of field.0 shape ≡ Some rule
         → IsFirstRule (ValueBreaks models config (data_type rule.ty) rule.list field.1) a → IsFirstRule (FieldBreaks models config shape field) a
     field_first rule a is first = first_rule-map _ _ a (to_field rule is) (from_field rule is) first
 
     -- what a field breaks is tried among the rules of fields
-    pub field_stage : (r : Rule) → FieldBreaks models config shape field r → stage r ≡ 2
+    pub field_stage : (r : RuleName) → FieldBreaks models config shape field r → stage r ≡ 2
     field_stage KeyShape b = absurd b
     field_stage KeyReference b = absurd b
     field_stage UnknownField b = refl
@@ -113,23 +113,23 @@ module _ (models : ModelSet) (config : Config) where
     field_stage Must b = absurd b
 
   module _ (shape : Shape) (fields : Entry) where
-    fields_at : (r : Rule) (n : ℕ) (f : List ℕ × Value) → slice_get fields n ≡ Some f
+    fields_at : (r : RuleName) (n : ℕ) (f : List ℕ × Value) → slice_get fields n ≡ Some f
         → FieldsBreak models config shape fields r n → FieldBreaks models config shape f r
     fields_at r n f at b =
         let P : Option (List ℕ × Value) → Type 0 = λ o. IsSomeAnd o (λ f. FieldBreaks models config shape f r) in
         subst P at b
 
-    some_stage : (r : Rule) (o : Option (List ℕ × Value)) → IsSomeAnd o (λ f. FieldBreaks models config shape f r) → stage r ≡ 2
+    some_stage : (r : RuleName) (o : Option (List ℕ × Value)) → IsSomeAnd o (λ f. FieldBreaks models config shape f r) → stage r ≡ 2
     some_stage r None b = absurd b
     some_stage r (Some f) b = field_stage shape f r b
 
-    pub fields_stage : (r : Rule) (n : ℕ) → FieldsBreak models config shape fields r n → stage r ≡ 2
+    pub fields_stage : (r : RuleName) (n : ℕ) → FieldsBreak models config shape fields r n → stage r ≡ 2
     fields_stage r n b = some_stage r (slice_get fields n) b
 
     -- a field that breaks nothing, after others that break nothing
     pub fields_more : (i : ℕ) (f : List ℕ × Value) → slice_get fields i ≡ Some f → IsFirstRule (FieldBreaks models config shape f) None
-        → ((r : Rule) (n : ℕ) → n < i → ¬ FieldsBreak models config shape fields r n)
-        → (r : Rule) (n : ℕ) → n < i + 1 → ¬ FieldsBreak models config shape fields r n
+        → ((r : RuleName) (n : ℕ) → n < i → ¬ FieldsBreak models config shape fields r n)
+        → (r : RuleName) (n : ℕ) → n < i + 1 → ¬ FieldsBreak models config shape fields r n
     fields_more i f at none before r n lt b =
         elim (cases_lt n i) [
           | inl less ↦ before r n less b
@@ -138,12 +138,12 @@ module _ (models : ModelSet) (config : Config) where
               none r (fields_at r i f at (subst (λ k. FieldsBreak models config shape fields r k) same b))
         ]
 
-    past_fields : (r : Rule) (o : Option (List ℕ × Value)) → o ≡ None → ¬ IsSomeAnd o (λ f. FieldBreaks models config shape f r)
+    past_fields : (r : RuleName) (o : Option (List ℕ × Value)) → o ≡ None → ¬ IsSomeAnd o (λ f. FieldBreaks models config shape f r)
     past_fields r None is b = b
     past_fields r (Some f) is b = cc
 
     -- no field breaks anything
-    pub fields_none : (i : ℕ) → length fields ≤ i → ((r : Rule) (n : ℕ) → n < i → ¬ FieldsBreak models config shape fields r n)
+    pub fields_none : (i : ℕ) → length fields ≤ i → ((r : RuleName) (n : ℕ) → n < i → ¬ FieldsBreak models config shape fields r n)
         → IsFirstFault (FieldsBreak models config shape fields) None
     fields_none i past before r n b =
         elim (cases_lt n i) [

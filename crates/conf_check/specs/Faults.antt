@@ -8,8 +8,8 @@ use Rattle.yang_model.specs.declared.shapes.Shape.{Shape}
 use Rattle.yang_types.specs.DataType.{DataType}
 use Rattle.conf_check.specs.Rows.{Row, row_at, typed_part, texts_by_kind}
 use Rattle.conf_check.specs.Validity.{IsRefused, IsUnknownField, IsOfWrongKind, HasBadItem, HasEqualItems, AreSomeEqual, IsMissing, IsFalse, IsRuleBefore, IsBreachBefore, IsBreach, Breach, Breaks, stage, violation_of, rule_number}
-use Rattle.conf_check.specs.declared.violations.Rule.{Rule}
-use Rattle.conf_check.specs.declared.violations.Rule.TheVariants.{KeyShape, KeyReference, UnknownField, WrongKind, BadValue, DuplicateItem, MissingField, Must}
+use Rattle.conf_check.specs.declared.violations.RuleName.{RuleName}
+use Rattle.conf_check.specs.declared.violations.RuleName.TheVariants.{KeyShape, KeyReference, UnknownField, WrongKind, BadValue, DuplicateItem, MissingField, Must}
 use Rattle.conf_check.specs.declared.violations.Violation.{Violation}
 use Rattle.conf_check.specs.declared.faults.Fault.{Fault}
 
@@ -19,22 +19,22 @@ IsFirstNumber P answer =
     MatchOption answer ((i : ℕ) → ¬ P i) (λ i. P i × ((j : ℕ) → j < i → ¬ P j))
 
 -- the answer is the rule of the least number of which P holds, or None where it holds of none
-abbrev pub IsFirstRule : (Rule → Type 0) → Option Rule → Type 0
+abbrev pub IsFirstRule : (RuleName → Type 0) → Option RuleName → Type 0
 IsFirstRule P answer =
-    MatchOption answer ((r : Rule) → ¬ P r)
-    (λ r. P r × ((q : Rule) → rule_number q < rule_number r → ¬ P q))
+    MatchOption answer ((r : RuleName) → ¬ P r)
+    (λ r. P r × ((q : RuleName) → rule_number q < rule_number r → ¬ P q))
 
 -- the answer is what comes before all else that is broken, or None where nothing is
-abbrev pub IsFirstFault : (Rule → ℕ → Type 0) → Option Fault → Type 0
+abbrev pub IsFirstFault : (RuleName → ℕ → Type 0) → Option Fault → Type 0
 IsFirstFault P answer =
-    MatchOption answer ((r : Rule) (n : ℕ) → ¬ P r n)
-    (λ f. P f.rule f.field × ((r : Rule) (n : ℕ) → IsRuleBefore r n f.rule f.field → ¬ P r n))
+    MatchOption answer ((r : RuleName) (n : ℕ) → ¬ P r n)
+    (λ f. P f.rule f.field × ((r : RuleName) (n : ℕ) → IsRuleBefore r n f.rule f.field → ¬ P r n))
 
 -- the answer is what comes before all else that is broken, or None where nothing but musts is
-abbrev pub IsFirstBesideMusts : (Rule → ℕ → Type 0) → Option Fault → Type 0
+abbrev pub IsFirstBesideMusts : (RuleName → ℕ → Type 0) → Option Fault → Type 0
 IsFirstBesideMusts P answer =
     MatchOption answer
-    ((r : Rule) (n : ℕ) → stage r < stage Must → ¬ P r n)
+    ((r : RuleName) (n : ℕ) → stage r < stage Must → ¬ P r n)
     (λ f. IsFirstFault P (Some f))
 
 -- a part of the key that its leaf refuses
@@ -47,7 +47,7 @@ abbrev pub IsMissingAt : Shape → Entry → ℕ → Type 0
 IsMissingAt shape fields i = IsSomeAnd (slice_get shape.fields i) (IsMissing fields)
 
 -- the rules of a field that a field breaks
-abbrev pub FieldBreaks : ModelSet → Config → Shape → List ℕ × Value → Rule → Type 0
+abbrev pub FieldBreaks : ModelSet → Config → Shape → List ℕ × Value → RuleName → Type 0
 FieldBreaks models config shape field KeyShape = ⊥
 FieldBreaks models config shape field KeyReference = ⊥
 FieldBreaks models config shape field UnknownField = IsUnknownField shape field
@@ -62,7 +62,7 @@ abbrev pub texts_of_kind : DataType → Bool → Value → Option (DataType × L
 texts_of_kind type list value = option_map (λ ts. (type, ts)) (texts_by_kind list value)
 
 -- the rules that a value of a leaf, or of a leaf-list, of a type breaks
-abbrev pub ValueBreaks : ModelSet → Config → DataType → Bool → Value → Rule → Type 0
+abbrev pub ValueBreaks : ModelSet → Config → DataType → Bool → Value → RuleName → Type 0
 ValueBreaks models config type list value KeyShape = ⊥
 ValueBreaks models config type list value KeyReference = ⊥
 ValueBreaks models config type list value UnknownField = ⊥
@@ -76,7 +76,7 @@ ValueBreaks models config type list value MissingField = ⊥
 ValueBreaks models config type list value Must = ⊥
 
 -- those that texts of the right kind break
-abbrev pub TextsBreak : ModelSet → Config → DataType → List (List ℕ) → Rule → Type 0
+abbrev pub TextsBreak : ModelSet → Config → DataType → List (List ℕ) → RuleName → Type 0
 TextsBreak models config type texts KeyShape = ⊥
 TextsBreak models config type texts KeyReference = ⊥
 TextsBreak models config type texts UnknownField = ⊥
@@ -87,7 +87,7 @@ TextsBreak models config type texts MissingField = ⊥
 TextsBreak models config type texts Must = ⊥
 
 -- those that the fields of an entry break, each at its field
-abbrev pub FieldsBreak : ModelSet → Config → Shape → Entry → Rule → ℕ → Type 0
+abbrev pub FieldsBreak : ModelSet → Config → Shape → Entry → RuleName → ℕ → Type 0
 FieldsBreak models config shape fields rule n =
     IsSomeAnd (slice_get fields n) (λ f. FieldBreaks models config shape f rule)
 

@@ -18,8 +18,8 @@ use Rattle.conf_check.specs.Acceptance.{AcceptsIn}
 use Rattle.conf_check.specs.Belongings.{Belongings, AreBelongings}
 use Rattle.conf_check.specs.ConfigTree.{node_tree, entry_node}
 use Rattle.conf_check.specs.Rows.{Row, row_at, HasNoShape, HasShape, IsEntryAt, rule_of, texts_by_kind, typed_part, texts_of}
-use Rattle.conf_check.specs.declared.violations.Rule.{Rule}
-use Rattle.conf_check.specs.declared.violations.Rule.TheVariants.{KeyShape, KeyReference, UnknownField, WrongKind, BadValue, DuplicateItem, MissingField, Must}
+use Rattle.conf_check.specs.declared.violations.RuleName.{RuleName}
+use Rattle.conf_check.specs.declared.violations.RuleName.TheVariants.{KeyShape, KeyReference, UnknownField, WrongKind, BadValue, DuplicateItem, MissingField, Must}
 use Rattle.conf_check.specs.declared.violations.Violation.{Violation}
 
 -- a text that its type doesn't accept in the configuration
@@ -70,7 +70,7 @@ IsFalse models config table key must =
     → IsFalseIn (node_tree models config belongings) (entry_node table key) must
 
 -- the entry of that row, at its place, breaks a rule of its shape, at a part, a field or a number
-abbrev pub BreaksShape : ModelSet → Config → ℕ → ℕ → Row → Shape → Rule → ℕ → Type 0
+abbrev pub BreaksShape : ModelSet → Config → ℕ → ℕ → Row → Shape → RuleName → ℕ → Type 0
 BreaksShape models config t k row shape KeyShape n = ⊥
 BreaksShape models config t k row shape KeyReference n =
     IsSomeAnd (typed_part shape row.key n) (IsRefused models config)
@@ -88,7 +88,7 @@ BreaksShape models config t k row shape Must n =
     IsSomeAnd (slice_get shape.musts n) (IsFalse models config t k)
 
 -- an entry of no shape breaks that rule alone, any other entry what rules of its shape it may
-pub data Breaks (models : ModelSet) (config : Config) (t k : ℕ) (row : Row) (rule : Rule)
+pub data Breaks (models : ModelSet) (config : Config) (t k : ℕ) (row : Row) (rule : RuleName)
     (n : ℕ) : Type 0 where
   no_shape : HasNoShape models row → rule ≡ KeyShape → n ≡ 0 → Breaks models config t k row rule n
   of_shape :
@@ -96,7 +96,7 @@ pub data Breaks (models : ModelSet) (config : Config) (t k : ℕ) (row : Row) (r
       → Breaks models config t k row rule n
 
 -- the numbers of the rules
-abbrev pub rule_number : Rule → ℕ
+abbrev pub rule_number : RuleName → ℕ
 rule_number KeyShape = 1
 rule_number KeyReference = 2
 rule_number UnknownField = 3
@@ -110,7 +110,7 @@ rule_number Must = 8
 pub record Breach : Type 0 where
   pub table : ℕ
   pub key : ℕ
-  pub rule : Rule
+  pub rule : RuleName
   pub field : ℕ
 
 -- as a violation, with the number of the rule
@@ -125,7 +125,7 @@ pub record IsBreach (models : ModelSet) (config : Config) (b : Breach) : Type 0 
   pub breaks : Breaks models config b.table b.key row b.rule b.field
 
 -- the rules of an entry are tried one after another, those of a field field by field
-abbrev pub stage : Rule → ℕ
+abbrev pub stage : RuleName → ℕ
 stage KeyShape = 0
 stage KeyReference = 1
 stage UnknownField = 2
@@ -136,7 +136,7 @@ stage MissingField = 3
 stage Must = 4
 
 -- within an entry
-abbrev pub IsRuleBefore : Rule → ℕ → Rule → ℕ → Type 0
+abbrev pub IsRuleBefore : RuleName → ℕ → RuleName → ℕ → Type 0
 IsRuleBefore r m s n =
     (stage r < stage s)
     ⊎ ((stage r ≡ stage s)

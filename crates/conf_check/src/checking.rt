@@ -10,7 +10,7 @@ use crate::faults::{Fault, first_missing, first_of_fields, first_refused_part};
 use crate::leaves::{ShapedEntry, shaped_entry};
 use crate::musts::first_false_must;
 use crate::name_places::place_of_entry;
-use crate::violations::{Rule, Violation};
+use crate::violations::{RuleName, Violation};
 use conf_doc::Config;
 use yang_model::Models;
 
@@ -23,7 +23,7 @@ fn first_beside_musts(models: &Models, config: &Config, entry: &ShapedEntry) -> 
     let part = first_refused_part(models, config, entry.shape, entry.key);
     if let Some(field) = part {
         return Some(Fault {
-            rule: Rule::KeyReference,
+            rule: RuleName::KeyReference,
             field,
         });
     }
@@ -32,7 +32,7 @@ fn first_beside_musts(models: &Models, config: &Config, entry: &ShapedEntry) -> 
     }
     match first_missing(entry.shape, entry.fields) {
         Some(field) => Some(Fault {
-            rule: Rule::MissingField,
+            rule: RuleName::MissingField,
             field,
         }),
         None => None,
@@ -56,7 +56,7 @@ fn first_of_shape(
     }
     match first_false_must(nodes, entry.shape, table, key) {
         Some(field) => Some(Fault {
-            rule: Rule::Must,
+            rule: RuleName::Must,
             field,
         }),
         None => None,
@@ -70,7 +70,7 @@ fn first_of_entry(nodes: &ConfigNodes, table: usize, key: usize) -> Option<Fault
     match shaped_entry(nodes.models, nodes.config, table, key) {
         Some(entry) => first_of_shape(nodes, table, key, &entry),
         None => Some(Fault {
-            rule: Rule::KeyShape,
+            rule: RuleName::KeyShape,
             field: 0,
         }),
     }
@@ -89,7 +89,7 @@ fn first_at(models: &Models, config: &Config, table: usize, key: usize) -> Optio
             }
         }
         None => Some(Fault {
-            rule: Rule::KeyShape,
+            rule: RuleName::KeyShape,
             field: 0,
         }),
     }

@@ -17,7 +17,7 @@ ghost use Rattle.yang_types.specs.DataTypes.{data_type};
 use crate::acceptance::judge;
 use crate::equal_items::has_equal;
 use crate::rows::rule_of_field;
-use crate::violations::Rule;
+use crate::violations::RuleName;
 use conf_doc::{Config, Entry, Value};
 use host_core::Txt;
 use key_split::KeyView;
@@ -27,7 +27,7 @@ use yang_types::Ty;
 /// A rule that an entry breaks, at a part of the key, a field or a number.
 #[derive(Clone, Copy, Drop)]
 pub(crate) struct Fault {
-    pub(crate) rule: Rule,
+    pub(crate) rule: RuleName,
     pub(crate) field: usize,
 }
 
@@ -72,34 +72,39 @@ fn has_refused(models: &Models, config: &Config, ty: &Ty, texts: &[Txt]) -> bool
 }
 
 /// The first rule that the items of a leaf-list break.
-fn first_of_items(models: &Models, config: &Config, ty: &Ty, texts: &[Txt]) -> Option<Rule>
+fn first_of_items(models: &Models, config: &Config, ty: &Ty, texts: &[Txt]) -> Option<RuleName>
     ensures { IsFirstRule (TextsBreak models.now config.now (data_type ty.now) texts.now) result }
 {
     if has_refused(models, config, ty, texts) {
-        Some(Rule::BadValue)
+        Some(RuleName::BadValue)
     } else if has_equal(texts) {
-        Some(Rule::DuplicateItem)
+        Some(RuleName::DuplicateItem)
     } else {
         None
     }
 }
 
 /// The first rule that a value breaks.
-fn first_of_value(models: &Models, config: &Config, rule: &FieldRule, value: &Value) -> Option<Rule>
+fn first_of_value(
+    models: &Models,
+    config: &Config,
+    rule: &FieldRule,
+    value: &Value,
+) -> Option<RuleName>
     ensures { let type = data_type rule.now.ty in
         IsFirstRule (ValueBreaks models.now config.now type rule.now.list value.now) result }
 {
     match value {
-        Value::Text(_) if rule.list => Some(Rule::WrongKind),
+        Value::Text(_) if rule.list => Some(RuleName::WrongKind),
         Value::Text(text) => {
             if is_refused(models, config, &rule.ty, text.as_str()) {
-                Some(Rule::BadValue)
+                Some(RuleName::BadValue)
             } else {
                 None
             }
         }
         Value::List(texts) if rule.list => first_of_items(models, config, &rule.ty, texts.items()),
-        Value::List(_) => Some(Rule::WrongKind),
+        Value::List(_) => Some(RuleName::WrongKind),
     }
 }
 
@@ -110,12 +115,12 @@ fn first_of_field(
     shape: &Shape,
     name: &str,
     value: &Value,
-) -> Option<Rule>
+) -> Option<RuleName>
     ensures { let Breaks = FieldBreaks models.now config.now shape.now in
         IsFirstRule (Breaks (name.now, value.now)) result }
 {
     match rule_of_field(shape, name) {
-        None => Some(Rule::UnknownField),
+        None => Some(RuleName::UnknownField),
         Some(rule) => first_of_value(models, config, rule, value),
     }
 }

@@ -24,6 +24,6 @@ pub use acceptance::is_satisfied;
 pub use belongings::belongings_are_one;
 pub use checking::{check, check_entry};
 pub use laws::musts_have_one_truth;
-pub use violations::{Rule, Violation};
+pub use violations::{RuleName, Violation};
 pub use want_iter::{Want, WantAt, WantIter, WantPlace};
 pub use want_runs::{entry_wants, wants};

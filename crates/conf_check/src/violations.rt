@@ -3,7 +3,7 @@ ghost use Rattle.std.specs.Prelude.{◌≡◌};
 
 /// A rule of validity. Its number is its place in the list of rules, from 1.
 #[derive(Clone, Copy, Debug, Drop, Eq, PartialEq)]
-pub enum Rule {
+pub enum RuleName {
     KeyShape,
     KeyReference,
     UnknownField,
@@ -26,7 +26,7 @@ pub struct Violation {
     pub rule: u32,
 }
 
-impl Rule {
+impl RuleName {
     ghost use Rattle.conf_check.specs.Validity.{rule_number};
 
     /// The number of the rule.
@@ -34,14 +34,14 @@ impl Rule {
         ensures { result ≡ rule_number self }
     {
         match self {
-            Rule::KeyShape => 1,
-            Rule::KeyReference => 2,
-            Rule::UnknownField => 3,
-            Rule::WrongKind => 4,
-            Rule::BadValue => 5,
-            Rule::DuplicateItem => 6,
-            Rule::MissingField => 7,
-            Rule::Must => 8,
+            RuleName::KeyShape => 1,
+            RuleName::KeyReference => 2,
+            RuleName::UnknownField => 3,
+            RuleName::WrongKind => 4,
+            RuleName::BadValue => 5,
+            RuleName::DuplicateItem => 6,
+            RuleName::MissingField => 7,
+            RuleName::Must => 8,
         }
     }
 }

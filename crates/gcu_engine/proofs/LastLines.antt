@@ -10,8 +10,8 @@ use Rattle.patch_core.specs.declared.errors.PatchWhy.{PatchWhy}
 use Rattle.patch_core.specs.declared.errors.PatchWhy.TheVariants.{NotArray, NotObject, NoOp, UnknownOp, NoPath, BadPath, NoValue, BadValue, NoFrom, BadFrom}
 use Rattle.conf_store.specs.declared.errors.StoredWhy.{StoredWhy}
 use Rattle.conf_store.specs.declared.errors.StoredWhy.TheVariants as stored
-use Rattle.conf_check.specs.declared.violations.Rule.{Rule}
-use Rattle.conf_check.specs.declared.violations.Rule.TheVariants as rules
+use Rattle.conf_check.specs.declared.violations.RuleName.{RuleName}
+use Rattle.conf_check.specs.declared.violations.RuleName.TheVariants as rules
 use Rattle.move_core.specs.declared.errors.RulesWhy.{RulesWhy}
 use Rattle.move_core.specs.declared.errors.RulesWhy.TheVariants as rules_file
 use Rattle.plan_texts.specs.declared.causes.NoWhy.{NoWhy}
@@ -82,7 +82,7 @@ stored_why_is stored.BadKind = word (codes "BadKind") refl
 stored_why_is stored.BadShape = word (codes "BadShape") refl
 stored_why_is (stored.BadStep n) = behind (codes "BadStep ") refl (decimal n) (decimal_is_one_line n)
 
-rule_name_is : (why : Rule) → IsOneLine (rule_name why)
+rule_name_is : (why : RuleName) → IsOneLine (rule_name why)
 rule_name_is rules.KeyShape = word (codes "KeyShape") refl
 rule_name_is rules.KeyReference = word (codes "KeyReference") refl
 rule_name_is rules.UnknownField = word (codes "UnknownField") refl

@@ -24,7 +24,7 @@ mod scoped;
 mod solving;
 mod status;
 
-pub use conf_check::Rule;
+pub use conf_check::RuleName;
 pub use conf_store::StoredWhy;
 pub use gcu_output::{Outcome, PointWhy};
 pub use laws::{folders_read_are_said, patches_read_are_said, settings_read_are_said};

@@ -8,8 +8,8 @@ use Rattle.patch_core.specs.declared.errors.PatchWhy.{PatchWhy}
 use Rattle.patch_core.specs.declared.errors.PatchWhy.TheVariants.{NotArray, NotObject, NoOp, UnknownOp, NoPath, BadPath, NoValue, BadValue, NoFrom, BadFrom}
 use Rattle.conf_store.specs.declared.errors.StoredWhy.{StoredWhy}
 use Rattle.conf_store.specs.declared.errors.StoredWhy.TheVariants as stored
-use Rattle.conf_check.specs.declared.violations.Rule.{Rule}
-use Rattle.conf_check.specs.declared.violations.Rule.TheVariants as rules
+use Rattle.conf_check.specs.declared.violations.RuleName.{RuleName}
+use Rattle.conf_check.specs.declared.violations.RuleName.TheVariants as rules
 use Rattle.move_core.specs.declared.errors.RulesWhy.{RulesWhy}
 use Rattle.move_core.specs.declared.errors.RulesWhy.TheVariants as rules_file
 use Rattle.plan_texts.specs.declared.causes.NoWhy.{NoWhy}
@@ -53,7 +53,7 @@ stored_why stored.BadShape = codes "BadShape"
 stored_why (stored.BadStep n) = codes "BadStep " ++ decimal n
 
 -- the name of a rule of validity
-abbrev pub rule_name : Rule → List ℕ
+abbrev pub rule_name : RuleName → List ℕ
 rule_name rules.KeyShape = codes "KeyShape"
 rule_name rules.KeyReference = codes "KeyReference"
 rule_name rules.UnknownField = codes "UnknownField"

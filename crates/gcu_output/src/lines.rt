@@ -3,7 +3,7 @@ ghost use Rattle.std.specs.Prelude.{◌≡◌, ◌++◌, IfOk, codes, string_byt
 ghost use Rattle.gcu_output.specs.Lines.{last_line, numbered_line as numbered, refused_line as refused, said as said_text, space, quoted as quoted_text, patch_why, fail_why, point_why, rules_why, stored_why, model_why, no_why, rule_name};
 
 use crate::{Outcome, PointWhy};
-use conf_check::Rule;
+use conf_check::RuleName;
 use conf_store::StoredWhy;
 use move_core::RulesWhy;
 use patch_core::{FailWhy, PatchWhy};
@@ -202,18 +202,18 @@ pub fn quoted(alloc: Global, text: &str) -> Result<String, AllocError>
     Value::String(String::from_str(alloc, text)?).to_string(alloc)
 }
 
-fn rule_name_of(rule: Rule) -> &'static str
+fn rule_name_of(rule: RuleName) -> &'static str
     ensures { result.now ≡ rule_name rule }
 {
     match rule {
-        Rule::KeyShape => "KeyShape",
-        Rule::KeyReference => "KeyReference",
-        Rule::UnknownField => "UnknownField",
-        Rule::WrongKind => "WrongKind",
-        Rule::BadValue => "BadValue",
-        Rule::DuplicateItem => "DuplicateItem",
-        Rule::MissingField => "MissingField",
-        Rule::Must => "Must",
+        RuleName::KeyShape => "KeyShape",
+        RuleName::KeyReference => "KeyReference",
+        RuleName::UnknownField => "UnknownField",
+        RuleName::WrongKind => "WrongKind",
+        RuleName::BadValue => "BadValue",
+        RuleName::DuplicateItem => "DuplicateItem",
+        RuleName::MissingField => "MissingField",
+        RuleName::Must => "Must",
     }
 }
 

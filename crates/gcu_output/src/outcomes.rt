@@ -2,7 +2,7 @@
 ghost use Rattle.std.specs.Prelude.{◌≡◌};
 ghost use Rattle.gcu_output.specs.Lines.{number};
 
-use conf_check::Rule;
+use conf_check::RuleName;
 use conf_store::StoredWhy;
 use host_core::{Memory, Txt};
 use move_core::RulesWhy;
@@ -62,9 +62,9 @@ pub enum Outcome {
     /// A name of a checkpoint has 1 to 64 ASCII letters, digits, `_` and `-`.
     BadName { name: Txt },
     /// The stored configuration breaks this rule at this place, an RFC 6901 pointer.
-    CurrentInvalid { place: Txt, rule: Rule },
+    CurrentInvalid { place: Txt, rule: RuleName },
     /// The target breaks this rule at this place, an RFC 6901 pointer.
-    TargetInvalid { place: Txt, rule: Rule },
+    TargetInvalid { place: Txt, rule: RuleName },
     /// This table has no model and would change; it is the first by name.
     NoModel { table: Txt },
     /// The target has this table, which has a model, without keys; it is the first by name.

@@ -3,8 +3,8 @@ use Rattle.std.proofs.Common.{◌≡◌, ◌⊎◌, inl, inr, ◌≤◌, ℕ, Li
 use Rattle.std.proofs.lemmas.Option.{none-some, slice_get_past}
 use Rattle.std.specs.Option.{option_to_list}
 use Rattle.conf_check.specs.Rows.{Row, HasShape}
-use Rattle.conf_check.specs.declared.violations.Rule.{Rule}
-use Rattle.conf_check.specs.declared.violations.Rule.TheVariants.{UnknownField, WrongKind, BadValue, DuplicateItem, MissingField}
+use Rattle.conf_check.specs.declared.violations.RuleName.{RuleName}
+use Rattle.conf_check.specs.declared.violations.RuleName.TheVariants.{UnknownField, WrongKind, BadValue, DuplicateItem, MissingField}
 use Rattle.yang_model.specs.ModelSets.{ModelSet}
 use Rattle.yang_model.specs.declared.shapes.Shape.{Shape}
 use Rattle.gcu_requests.specs.Places.{AddsField, IsFieldOf, field_name, rule_name}
@@ -20,7 +20,7 @@ no_rule_name names shape n past =
     sym (ap (λ o. names ++ option_to_list (option_map (λ f. f.name) o)) (slice_get_past shape.fields n past) ∙ append-nil names)
 
 -- a rule of a field
-pub is_field : (models : ModelSet) (row : Row) (rule : Rule) (n : ℕ)
+pub is_field : (models : ModelSet) (row : Row) (rule : RuleName) (n : ℕ)
     → (rule ≡ UnknownField) ⊎ ((rule ≡ WrongKind) ⊎ ((rule ≡ BadValue) ⊎ (rule ≡ DuplicateItem)))
     → IsFieldOf models row rule n (field_name row n)
 is_field models row rule n (inl is) = subst (λ r. IsFieldOf models row r n (field_name row n)) (sym is) refl
@@ -29,14 +29,14 @@ is_field models row rule n (inr (inr (inl is))) = subst (λ r. IsFieldOf models 
 is_field models row rule n (inr (inr (inr is))) = subst (λ r. IsFieldOf models row r n (field_name row n)) (sym is) refl
 
 -- a field that is missing, of the shape that the entry has
-pub is_missing : (models : ModelSet) (row : Row) (rule : Rule) (n : ℕ) (shape : Shape) → rule ≡ MissingField
+pub is_missing : (models : ModelSet) (row : Row) (rule : RuleName) (n : ℕ) (shape : Shape) → rule ≡ MissingField
     → ((s : Shape) → HasShape models row s → Some shape ≡ Some s) → IsFieldOf models row rule n (rule_name shape n)
 is_missing models row rule n shape is one =
     subst (λ r. IsFieldOf models row r n (rule_name shape n)) (sym is)
     (λ s has. let h = one s has in let same : shape ≡ s = cc in ap (λ t. rule_name t n) same)
 
 -- an entry of no shape
-pub is_of_none : (models : ModelSet) (row : Row) (rule : Rule) (n : ℕ) (names : List (List ℕ)) → rule ≡ MissingField
+pub is_of_none : (models : ModelSet) (row : Row) (rule : RuleName) (n : ℕ) (names : List (List ℕ)) → rule ≡ MissingField
     → ((s : Shape) → HasShape models row s → ◌≡◌ {A = Option Shape} None (Some s)) → AddsField models row rule n names names
 is_of_none models row rule n names is none = (
   [],

@@ -5,8 +5,8 @@ use Rattle.conf_doc.specs.Pointer.{pointer}
 use Rattle.conf_doc.specs.declared.configuration.Config.{Config}
 use Rattle.conf_check.specs.Rows.{HasShape, Row}
 use Rattle.conf_check.specs.Validity.{Breach, Breaks, IsBreach, IsBreachBefore, IsRuleBefore, no_shape, of_shape, rule_number, stage}
-use Rattle.conf_check.specs.declared.violations.Rule.{Rule}
-use Rattle.conf_check.specs.declared.violations.Rule.TheVariants.{KeyShape, KeyReference, UnknownField, WrongKind, BadValue, DuplicateItem, MissingField, Must}
+use Rattle.conf_check.specs.declared.violations.RuleName.{RuleName}
+use Rattle.conf_check.specs.declared.violations.RuleName.TheVariants.{KeyShape, KeyReference, UnknownField, WrongKind, BadValue, DuplicateItem, MissingField, Must}
 use Rattle.gcu_requests.specs.Places.{IsFieldOf, IsPlaceOf, rule_from}
 use Rattle.yang_model.specs.ModelSets.{ModelSet}
 use Rattle.yang_model.specs.declared.shapes.Shape.{Shape}
@@ -16,7 +16,7 @@ use Rattle.gcu_requests.specs.Checking.{IsFirstBreach, IsInvalidAs}
 -- ---- the order of violations is total
 
 -- the rule of a rule's number is that rule
-numbered : (r : Rule) → rule_from (rule_number r) ≡ Some r
+numbered : (r : RuleName) → rule_from (rule_number r) ≡ Some r
 numbered KeyShape = refl
 numbered KeyReference = refl
 numbered UnknownField = refl
@@ -26,13 +26,13 @@ numbered DuplicateItem = refl
 numbered MissingField = refl
 numbered Must = refl
 
-same_rule : (r s : Rule) → rule_number r ≡ rule_number s → r ≡ s
+same_rule : (r s : RuleName) → rule_number r ≡ rule_number s → r ≡ s
 same_rule r s e =
     let both : Some r ≡ Some s = sym (numbered r) ∙ ap rule_from e ∙ numbered s in
     cc
 
 -- within an entry
-rules_ordered : (r s : Rule) (m n : ℕ) → ((r ≡ s) × (m ≡ n)) ⊎ (IsRuleBefore r m s n ⊎ IsRuleBefore s n r m)
+rules_ordered : (r s : RuleName) (m n : ℕ) → ((r ≡ s) × (m ≡ n)) ⊎ (IsRuleBefore r m s n ⊎ IsRuleBefore s n r m)
 rules_ordered r s m n = by_stage (cases_order (stage r) (stage s))
   where
     by_number : stage r ≡ stage s → m ≡ n → (rule_number r ≡ rule_number s) ⊎ ((rule_number r < rule_number s) ⊎ (rule_number s < rule_number r))
@@ -83,13 +83,13 @@ first_one models config a b p q = by (breaches_ordered a b)
 -- ---- its place is one
 
 -- an entry that breaks a rule but the one on the shape of its key has a shape
-the_shape : (models : ModelSet) (config : Config) (t k : ℕ) (row : Row) (rule : Rule) (n : ℕ) → rule ≡ MissingField → Breaks models config t k row rule n
+the_shape : (models : ModelSet) (config : Config) (t k : ℕ) (row : Row) (rule : RuleName) (n : ℕ) → rule ≡ MissingField → Breaks models config t k row rule n
     → (shape : Shape) × HasShape models row shape
 the_shape models config t k row rule n missing (no_shape none is zero) = absurd cc
 the_shape models config t k row rule n missing (of_shape shape has breaks) = (shape, has)
 
 -- one field is named
-fields_one : (models : ModelSet) (row : Row) (rule : Rule) (n : ℕ) (f g : List (List ℕ)) → (rule ≡ MissingField → (shape : Shape) × HasShape models row shape)
+fields_one : (models : ModelSet) (row : Row) (rule : RuleName) (n : ℕ) (f g : List (List ℕ)) → (rule ≡ MissingField → (shape : Shape) × HasShape models row shape)
     → IsFieldOf models row rule n f → IsFieldOf models row rule n g → f ≡ g
 fields_one models row KeyShape n f g has p q = p ∙ sym q
 fields_one models row KeyReference n f g has p q = p ∙ sym q
@@ -117,7 +117,7 @@ places_one models config b x y broken p q =
     p.pointer ∙ (λ i. pointer ((rows i).table ∷ (rows i).key ∷ fields i)) ∙ sym q.pointer
 
 -- the first violation is told by one answer
-pub invalid_one : (answer : List ℕ → Rule → Outcome) (models : ModelSet) (config : Config) (e f : Outcome)
+pub invalid_one : (answer : List ℕ → RuleName → Outcome) (models : ModelSet) (config : Config) (e f : Outcome)
     → IsInvalidAs answer models config e → IsInvalidAs answer models config f → e ≡ f
 invalid_one answer models config e f p q =
     let breaches : p.breach ≡ q.breach = first_one models config p.breach q.breach p.first q.first in

@@ -10,7 +10,7 @@ use Rattle.yang_scope.specs.declared.faults.Fault.{Fault}
 use Rattle.yang_model.specs.Answers.{AreModelsOf, IsLeastFaultOf}
 use Rattle.yang_model.specs.ModelSets.{ModelSet}
 use Rattle.yang_model.specs.Readers.{AreTrue, Readers}
-use Rattle.conf_check.specs.declared.violations.Rule.{Rule}
+use Rattle.conf_check.specs.declared.violations.RuleName.{RuleName}
 use Rattle.move_core.specs.declared.contexts.Ctx.{Ctx}
 use Rattle.gcu_requests.specs.GoalTables.{AgreeAt, DifferAt, HasKeysAt, IsEmptyAt, IsFirstByName}
 use Rattle.patch_core.specs.Operation.{Operation}
@@ -120,7 +120,7 @@ module _ (ctx : Ctx) (start goal : Config) where
       let same : p.0 ≡ k.0 = first_one (HasKeysAt ctx goal) (IsEmptyAt ctx goal) (λ t has empty. has empty.0 empty.1) p.0 k.0 p.1.0 p.1.1 k.1.0 k.1.1 in
       ap (λ (o : Outcome). Err o) (p.2 ∙ ap EmptyTable same ∙ sym k.2)
 
-module _ (answer : List ℕ → Rule → Outcome) (ctx : Ctx) (config : Config) where
+module _ (answer : List ℕ → RuleName → Outcome) (ctx : Ctx) (config : Config) where
   valid_same : (r q : Result Config Outcome) → IsValidOr answer ctx config r → IsValidOr answer ctx config q → r ≡ q
   valid_same (Ok c) (Ok d) p k = ap (λ (x : Config). Ok x) (p.1 ∙ sym k.1)
   valid_same (Ok c) (Err f) p k = absurd (p.0 k.breach k.first.broken)

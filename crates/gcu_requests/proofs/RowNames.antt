@@ -7,8 +7,8 @@ use Rattle.conf_doc.specs.declared.configuration.Entry.{Entry}
 use Rattle.conf_doc.specs.declared.configuration.Table.{Table}
 use Rattle.conf_check.specs.Rows.{Row, if_modelled, row_at, row_of}
 use Rattle.conf_check.specs.Validity.{Breach, rule_number, violation_of}
-use Rattle.conf_check.specs.declared.violations.Rule.{Rule}
-use Rattle.conf_check.specs.declared.violations.Rule.TheVariants.{KeyShape, KeyReference, UnknownField, WrongKind, BadValue, DuplicateItem, MissingField, Must}
+use Rattle.conf_check.specs.declared.violations.RuleName.{RuleName}
+use Rattle.conf_check.specs.declared.violations.RuleName.TheVariants.{KeyShape, KeyReference, UnknownField, WrongKind, BadValue, DuplicateItem, MissingField, Must}
 use Rattle.conf_check.specs.declared.violations.Violation.{Violation}
 use Rattle.yang_model.specs.ModelSets.{ModelSet, table_named}
 use Rattle.gcu_requests.specs.Places.{AddsField, AddsNames, IsFieldOf, rule_from}
@@ -37,7 +37,7 @@ entry_at models config t k table key entries fields row at at_key is =
     chosen k (table, entries) (key, fields) row (is_some (table_named table models)) at_key
     (sym (ap (λ o. option_and_then (λ u. option_map (made_of u) (slice_get u.1 k)) (option_and_then (if_modelled models) o)) at) ∙ is)
 
-numbered : (r : Rule) → rule_from (rule_number r) ≡ Some r
+numbered : (r : RuleName) → rule_from (rule_number r) ≡ Some r
 numbered KeyShape = refl
 numbered KeyReference = refl
 numbered UnknownField = refl
@@ -48,13 +48,13 @@ numbered MissingField = refl
 numbered Must = refl
 
 -- a number is that of one rule
-pub rule_is : (b : Breach) (v : Violation) (o : Option Rule) (rule : Rule) → v ≡ violation_of b → o ≡ rule_from v.rule → o ≡ Some rule → rule ≡ b.rule
+pub rule_is : (b : Breach) (v : Violation) (o : Option RuleName) (rule : RuleName) → v ≡ violation_of b → o ≡ rule_from v.rule → o ≡ Some rule → rule ≡ b.rule
 rule_is b v o rule same from is =
     let two : Some rule ≡ Some b.rule = sym is ∙ from ∙ ap (λ w. rule_from w.rule) same ∙ numbered b.rule in
     let one : rule ≡ b.rule = cc in one
 
 -- the names of the table, of the key and of the field, put at the end one after the other
-pub names_added : (models : ModelSet) (config : Config) (b : Breach) (row : Row) (table key : List ℕ) (fields : Entry) (rule : Rule) (n : ℕ) (old one two new : List (List ℕ))
+pub names_added : (models : ModelSet) (config : Config) (b : Breach) (row : Row) (table key : List ℕ) (fields : Entry) (rule : RuleName) (n : ℕ) (old one two new : List (List ℕ))
     → row_at models config b.table b.key ≡ Some row → row_of table key fields ≡ row → rule ≡ b.rule → n ≡ b.field
     → one ≡ old ++ table ∷ [] → two ≡ one ++ key ∷ [] → AddsField models (row_of table key fields) rule n two new
     → AddsNames models config b old new

@@ -4,7 +4,7 @@ use Rattle.host_core.specs.State.{State}
 use Rattle.conf_doc.specs.declared.configuration.Config.{Config}
 use Rattle.yang_model.specs.ModelSets.{ModelSet}
 use Rattle.conf_check.specs.Validity.{Breach, IsBreach, IsBreachBefore, IsValid}
-use Rattle.conf_check.specs.declared.violations.Rule.{Rule}
+use Rattle.conf_check.specs.declared.violations.RuleName.{RuleName}
 use Rattle.gcu_requests.specs.Places.{IsPlaceOf}
 use Rattle.gcu_output.specs.declared.outcomes.Outcome.{Outcome}
 use Rattle.gcu_output.specs.declared.outcomes.Outcome.TheVariants.{CurrentInvalid}
@@ -20,7 +20,7 @@ pub record IsFirstBreach (models : ModelSet) (config : Config) (b : Breach) : Ty
   pub first : (a : Breach) → IsBreachBefore a b → ¬ IsBreach models config a
 
 -- the first violation, told by an answer with its place and its rule
-pub record IsInvalidAs (answer : List ℕ → Rule → Outcome) (models : ModelSet) (config : Config)
+pub record IsInvalidAs (answer : List ℕ → RuleName → Outcome) (models : ModelSet) (config : Config)
     (e : Outcome) : Type 0 where
   pub breach : Breach
   pub first : IsFirstBreach models config breach

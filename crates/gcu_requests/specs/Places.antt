@@ -6,12 +6,12 @@ use Rattle.conf_doc.specs.declared.configuration.Config.{Config}
 use Rattle.yang_model.specs.ModelSets.{ModelSet}
 use Rattle.conf_check.specs.Rows.{Row, row_at, HasShape, IsShapeOf}
 use Rattle.conf_check.specs.Validity.{Breach}
-use Rattle.conf_check.specs.declared.violations.Rule.{Rule}
-use Rattle.conf_check.specs.declared.violations.Rule.TheVariants.{KeyShape, KeyReference, UnknownField, WrongKind, BadValue, DuplicateItem, MissingField, Must}
+use Rattle.conf_check.specs.declared.violations.RuleName.{RuleName}
+use Rattle.conf_check.specs.declared.violations.RuleName.TheVariants.{KeyShape, KeyReference, UnknownField, WrongKind, BadValue, DuplicateItem, MissingField, Must}
 use Rattle.yang_model.specs.declared.shapes.Shape.{Shape}
 
 -- the rule of a number
-abbrev pub rule_from : ℕ → Option Rule
+abbrev pub rule_from : ℕ → Option RuleName
 rule_from n =
     if n == 1 then Some KeyShape
     else if n == 2 then Some KeyReference
@@ -32,7 +32,7 @@ abbrev pub rule_name : Shape → ℕ → List (List ℕ)
 rule_name shape n = option_to_list (option_map (λ f. f.name) (slice_get shape.fields n))
 
 -- the name of the field at which a rule is broken; a rule on the key or on the whole entry has none
-abbrev pub IsFieldOf : ModelSet → Row → Rule → ℕ → List (List ℕ) → Type 0
+abbrev pub IsFieldOf : ModelSet → Row → RuleName → ℕ → List (List ℕ) → Type 0
 IsFieldOf models row KeyShape n names = names ≡ []
 IsFieldOf models row KeyReference n names = names ≡ []
 IsFieldOf models row UnknownField n names = names ≡ field_name row n
@@ -53,7 +53,7 @@ pub record IsPlaceOf (models : ModelSet) (config : Config) (b : Breach) (text : 
   pub pointer : IsPointer text (row.table ∷ row.key ∷ field)
 
 -- the name of that field is put at the end
-abbrev pub AddsField : ModelSet → Row → Rule → ℕ → List (List ℕ) → List (List ℕ) → Type 0
+abbrev pub AddsField : ModelSet → Row → RuleName → ℕ → List (List ℕ) → List (List ℕ) → Type 0
 AddsField models row rule n old new =
     (names : List (List ℕ)) × (new ≡ old ++ names) × IsFieldOf models row rule n names
 

@@ -3,7 +3,7 @@ use Rattle.std.specs.Prelude.{◌≡◌, ℕ, List, Result, Ok, Err}
 use Rattle.host_core.specs.Answers.{map_ok}
 use Rattle.host_core.specs.State.{State}
 use Rattle.conf_doc.specs.declared.configuration.Config.{Config}
-use Rattle.conf_check.specs.declared.violations.Rule.{Rule}
+use Rattle.conf_check.specs.declared.violations.RuleName.{RuleName}
 use Rattle.move_core.specs.Contexts.{AgreeElsewhere, IsValidIn}
 use Rattle.move_core.specs.declared.contexts.Ctx.{Ctx}
 use Rattle.gcu_requests.specs.GoalTables.{HasNoEmptyTable, IsFirstDifference, IsFirstEmpty}
@@ -21,7 +21,7 @@ use Rattle.gcu_requests.specs.PointAsked.{held_asked, name_answer}
 use Rattle.gcu_requests.specs.Request.{Planning}
 
 -- the configuration where it is valid, or its first violation, told by an answer
-abbrev pub IsValidOr : (List ℕ → Rule → Outcome) → Ctx → Config → Result Config Outcome → Type 0
+abbrev pub IsValidOr : (List ℕ → RuleName → Outcome) → Ctx → Config → Result Config Outcome → Type 0
 IsValidOr answer ctx config (Ok c) = IsValidIn ctx config × (c ≡ config)
 IsValidOr answer ctx config (Err e) = IsInvalidAs answer ctx.models config e
 

@@ -8,7 +8,7 @@ ghost use Rattle.gcu_requests.specs.PlanAsked.{IsValidOr};
 
 use crate::violation_fields::rule_numbered;
 use crate::violation_places::place_of;
-use conf_check::{Rule, Violation, check};
+use conf_check::{RuleName, Violation, check};
 use conf_doc::Config;
 use gcu_output::Outcome;
 use host_core::Txt;
@@ -59,7 +59,7 @@ pub(crate) fn invalid(
 }
 
 /// The refusal with its place and its rule.
-fn answer(end: End, place: Txt, rule: Rule) -> Outcome
+fn answer(end: End, place: Txt, rule: RuleName) -> Outcome
     ensures { result ≡ answer_of end place rule }
 {
     match end {

@@ -3,7 +3,7 @@ ghost use Rattle.std.specs.Prelude.{◌≡◌, ◌++◌, ℕ, List, OnOk, option
 ghost use Rattle.conf_check.specs.Rows.{row_of};
 ghost use Rattle.gcu_requests.specs.Places.{rule_from, field_name, rule_name, AddsField, IsTheShape};
 
-use conf_check::Rule;
+use conf_check::RuleName;
 use conf_doc::Entry;
 use host_core::{Memory, Names, Txt};
 use key_split::KeyView;
@@ -11,18 +11,18 @@ use std::alloc::Global;
 use yang_model::{Models, Shape};
 
 /// The rule of a number, from 1 to 8.
-pub(crate) fn rule_numbered(number: u32) -> Option<Rule>
+pub(crate) fn rule_numbered(number: u32) -> Option<RuleName>
     ensures { result ≡ rule_from number }
 {
     match number {
-        1 => Some(Rule::KeyShape),
-        2 => Some(Rule::KeyReference),
-        3 => Some(Rule::UnknownField),
-        4 => Some(Rule::WrongKind),
-        5 => Some(Rule::BadValue),
-        6 => Some(Rule::DuplicateItem),
-        7 => Some(Rule::MissingField),
-        8 => Some(Rule::Must),
+        1 => Some(RuleName::KeyShape),
+        2 => Some(RuleName::KeyReference),
+        3 => Some(RuleName::UnknownField),
+        4 => Some(RuleName::WrongKind),
+        5 => Some(RuleName::BadValue),
+        6 => Some(RuleName::DuplicateItem),
+        7 => Some(RuleName::MissingField),
+        8 => Some(RuleName::Must),
         _ => None,
     }
 }
@@ -76,18 +76,19 @@ pub(crate) fn push_field(
     table: &str,
     key: &str,
     fields: &Entry,
-    rule: Rule,
+    rule: RuleName,
     field: usize,
 ) -> Result<(), Memory>
     ensures { OnOk result (AddsField models.now (row_of table.now key.now fields.now) rule field
         names.old names.new) }
 {
     match rule {
-        Rule::KeyShape | Rule::KeyReference | Rule::Must => Ok(()),
-        Rule::UnknownField | Rule::WrongKind | Rule::BadValue | Rule::DuplicateItem => {
-            push_field_name(alloc, names, fields, field)
-        }
-        Rule::MissingField => match shape_of(models, table, key) {
+        RuleName::KeyShape | RuleName::KeyReference | RuleName::Must => Ok(()),
+        RuleName::UnknownField
+        | RuleName::WrongKind
+        | RuleName::BadValue
+        | RuleName::DuplicateItem => { push_field_name(alloc, names, fields, field) }
+        RuleName::MissingField => match shape_of(models, table, key) {
             Some(shape) => push_rule_name(alloc, names, shape, field),
             None => Ok(()),
         },

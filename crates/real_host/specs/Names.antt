@@ -20,7 +20,11 @@ is_scratch_name name = ends_with nat_eq name (codes "tmp.new")
 abbrev pub asic_scratch : ℕ → List ℕ
 asic_scratch number = codes "asic" ++ decimal number ++ codes ".tmp.new"
 
--- a command writes the file of that name: that of the folder or of one of the 256 ASICs
+-- how many ASICs a folder may have
+abbrev pub most_asics : ℕ
+most_asics = 256
+
+-- a command writes the file of that name: that of the folder or of one of its ASICs
 abbrev pub IsOwnScratch : List ℕ → Type 0
 IsOwnScratch name =
-    (name ≡ codes "tmp.new") ⊎ ((number : ℕ) × (number < 256) × (name ≡ asic_scratch number))
+    (name ≡ codes "tmp.new") ⊎ ((number : ℕ) × (number < most_asics) × (name ≡ asic_scratch number))

@@ -20,7 +20,8 @@ IsForeign name kind = IsMissing kind ⊎ ((kind ≡ PermissionDenied) × (¬ IsO
 
 -- what is opened of a file that an earlier command may have left, where it is one
 pub record IsLeftFile
-    {T : Type 0} (name : List ℕ) (opened : Result T Error) (left : Result (Option T) Failed) : Type 0 where
+    {T : Type 0} (name : List ℕ) (opened : Result T Error)
+    (left : Result (Option T) Failed) : Type 0 where
   pub found : IfOk opened (λ file. left ≡ Ok (Some file))
   pub foreign : IfErr opened (λ e. IsForeign name (error_kind e) → left ≡ Ok None)
   pub failed : IfErr opened (λ e. ¬ IsForeign name (error_kind e) → left ≡ Err (record {}))

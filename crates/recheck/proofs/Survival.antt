@@ -13,8 +13,8 @@ use Rattle.conf_check.specs.Acceptance.{AcceptsIn, AcceptsAnyIn, IsWanted, IsFir
 use Rattle.conf_check.specs.Rows.{Row, HasShape, typed_text, typed_part, texts_of}
 use Rattle.conf_check.specs.Validity.{Breaks, no_shape, of_shape, BreaksShape, IsRefused, HasBadItem, IsFalse}
 use Rattle.conf_check.specs.Wants.{Want, IsWantedText}
-use Rattle.conf_check.specs.declared.violations.Rule.{Rule}
-use Rattle.conf_check.specs.declared.violations.Rule.TheVariants.{KeyShape, KeyReference, UnknownField, WrongKind, BadValue, DuplicateItem, MissingField, Must}
+use Rattle.conf_check.specs.declared.violations.RuleName.{RuleName}
+use Rattle.conf_check.specs.declared.violations.RuleName.TheVariants.{KeyShape, KeyReference, UnknownField, WrongKind, BadValue, DuplicateItem, MissingField, Must}
 use Rattle.recheck.proofs.Pairs.{at_contained}
 
 module _ (models : ModelSet) (a : Config) where
@@ -112,7 +112,7 @@ module _ (models : ModelSet) (a b : Config) where
         (shape : Shape) → HasShape models row shape → (n : ℕ)
         → IsSomeAnd (slice_get shape.musts n) (IsFalse models b u l) → IsSomeAnd (slice_get shape.musts n) (IsFalse models a t k)
 
-    shape_back : AreFalseBack → (shape : Shape) → HasShape models row shape → (rule : Rule) (n : ℕ)
+    shape_back : AreFalseBack → (shape : Shape) → HasShape models row shape → (rule : RuleName) (n : ℕ)
         → BreaksShape models b u l row shape rule n → BreaksShape models a t k row shape rule n
     shape_back musts shape has KeyShape n breaks = absurd breaks
     shape_back musts shape has KeyReference n breaks = refused_back (typed_part shape row.key n) (λ w. met shape has None n w) breaks
@@ -124,6 +124,6 @@ module _ (models : ModelSet) (a b : Config) where
     shape_back musts shape has Must n breaks = musts shape has n breaks
 
     -- what the entry breaks in the second it breaks in the first
-    pub breaks_back : AreFalseBack → (rule : Rule) (n : ℕ) → Breaks models b u l row rule n → Breaks models a t k row rule n
+    pub breaks_back : AreFalseBack → (rule : RuleName) (n : ℕ) → Breaks models b u l row rule n → Breaks models a t k row rule n
     breaks_back musts rule n (no_shape none is at) = no_shape none is at
     breaks_back musts rule n (of_shape shape has breaks) = of_shape shape has (shape_back musts shape has rule n breaks)

@@ -224,11 +224,26 @@ impl Steps {
         }
     }
 
+    /// How many steps there are.
+    pub fn len(&self) -> usize
+        ensures { result ≡ length self.now }
+    {
+        self.steps.len()
+    }
+
     /// The whole list.
     pub fn items(&self) -> &[Step]
         ensures { map step_of result.now ≡ self.now }
     {
         self.steps.as_slice()
+    }
+
+    /// The step at an index, counted from 0.
+    pub fn at(&self, i: usize) -> &Step
+        requires { i < length self.now }
+        ensures { slice_get self.now i ≡ Some (step_of result.now) }
+    {
+        &self.steps[i]
     }
 
     /// Adds a step at the end. Without memory the list stays as it was.
@@ -271,11 +286,26 @@ impl Tests {
         }
     }
 
+    /// How many predicates there are.
+    pub fn len(&self) -> usize
+        ensures { result ≡ length self.now }
+    {
+        self.tests.len()
+    }
+
     /// The whole list.
     pub fn items(&self) -> &[Expr]
         ensures { map expression result.now ≡ self.now }
     {
         self.tests.as_slice()
+    }
+
+    /// The predicate at an index, counted from 0.
+    pub fn at(&self, i: usize) -> &Expr
+        requires { i < length self.now }
+        ensures { slice_get self.now i ≡ Some (expression result.now) }
+    {
+        &self.tests[i]
     }
 
     /// Adds a predicate at the end. Without memory the list stays as it was.
