@@ -1,9 +1,9 @@
 //! The boxes of a planner, each made of the type of its kind. Who makes a box may not hand it out, so each
 //! function here passes what it made on to the next one, and the last does the command.
-ghost use Rattle.std.specs.Prelude.{◌≤◌, IfOk};
+ghost use Rattle.std.specs.Prelude.{◌≡◌, ◌≤◌, IfOk, OnErr};
 ghost use Rattle.host_core.specs.Names.{longest_scoped_name};
 ghost use Rattle.move_core.specs.Kinds.{AreOfKinds, extender_kinds, generator_kinds};
-ghost use Rattle.gcu_cli.specs.Obeying.{IsOutcomeOf};
+ghost use Rattle.gcu_cli.specs.Obeying.{IsObeyed, IsOutcomeOf};
 
 use gcu_engine::{Outcome, run};
 use host_core::{Host, Memory, Txt};
@@ -14,15 +14,18 @@ use move_rules::{CreateOnlyRule, NoDependencyRule, NoEmptyRule, RequiredRule};
 use recheck::RecheckRule;
 use std::alloc::Global;
 
-/// Does the command that the words are with the boxes of a planner. Without memory for the boxes nothing is
-/// done.
+/// Does the command that the words are with the boxes of a planner: what is promised of it is promised here, and
+/// in each function on the way. Without memory for the boxes nothing is done.
 pub(crate) fn do_command<H: Host>(
     alloc: Global,
     words: &[Txt],
     host: &mut H,
 ) -> Result<Outcome, Memory>
     requires { longest_scoped_name ≤ H.longest_name }
-    ensures { IfOk result (IsOutcomeOf words.now) }
+    ensures told { IfOk result (IsOutcomeOf words.now) }
+    ensures obeyed { IfOk result (IsObeyed H.told H.counts H.moment H.left_since H.goes_on
+        words.now host.old host.new) }
+    ensures undone { OnErr result (host.new ≡ host.old) }
 {
     let gens = kit_generators(
         alloc,
@@ -44,7 +47,10 @@ fn with_generators<H: Host>(
 ) -> Result<Outcome, Memory>
     requires longest { longest_scoped_name ≤ H.longest_name }
     requires gens { AreOfKinds (λ b. (MoveGen-box b).gen_kind b.value) generator_kinds gens.items }
-    ensures { IfOk result (IsOutcomeOf words.now) }
+    ensures told { IfOk result (IsOutcomeOf words.now) }
+    ensures obeyed { IfOk result (IsObeyed H.told H.counts H.moment H.left_since H.goes_on
+        words.now host.old host.new) }
+    ensures undone { OnErr result (host.new ≡ host.old) }
 {
     let exts = kit_extenders(
         alloc,
@@ -67,7 +73,10 @@ fn with_extenders<H: Host>(
     requires longest { longest_scoped_name ≤ H.longest_name }
     requires gens { AreOfKinds (λ b. (MoveGen-box b).gen_kind b.value) generator_kinds gens.items }
     requires exts { AreOfKinds (λ b. (MoveExt-box b).ext_kind b.value) extender_kinds exts.items }
-    ensures { IfOk result (IsOutcomeOf words.now) }
+    ensures told { IfOk result (IsOutcomeOf words.now) }
+    ensures obeyed { IfOk result (IsObeyed H.told H.counts H.moment H.left_since H.goes_on
+        words.now host.old host.new) }
+    ensures undone { OnErr result (host.new ≡ host.old) }
 {
     let rules = kit_rules(
         alloc,
@@ -85,7 +94,9 @@ fn with_extenders<H: Host>(
 fn with_kit<H: Host>(alloc: Global, words: &[Txt], kit: &mut Kit, host: &mut H) -> Outcome
     requires longest { longest_scoped_name ≤ H.longest_name }
     requires kinds { ⟦<Kit as Boxes>⟧.HasKinds kit.old }
-    ensures { IsOutcomeOf words.now result }
+    ensures told { IsOutcomeOf words.now result }
+    ensures obeyed { IsObeyed H.told H.counts H.moment H.left_since H.goes_on
+        words.now host.old host.new result }
 {
     run(alloc, words, kit, host)
 }
