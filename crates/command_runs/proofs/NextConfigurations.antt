@@ -233,7 +233,7 @@ pub run_leads : ReadsTokens → KeepsWorlds → ReadsAsIs → (stop : Stop) (hos
     → (before : List Config) → AllStandFor before host.state → Leads before ran after.state
 run_leads reads keeps now stop host after ran run none before all =
     let first = all host.state.files (now host.state.pending host.state.files) in
-    let led = promised_leads reads keeps now before stop.words host.state run.ended.state ran.output.items first.0 first.1 all run.output
+    let led = promised_leads reads keeps now before stop.words host.state run.ended.state ran.output first.0 first.1 all run.output
     host.counts run.ended.counts run.result none run.promised in (
       last_or_next before first.0 led.0 led.1,
       record {

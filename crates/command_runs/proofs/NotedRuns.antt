@@ -1,7 +1,8 @@
 -- A command that was run, noted and handed on is a run as it is promised.
 use Rattle.std.proofs.Common.{◌≡◌, ◌<◌, ◌≤◌, ◌^◌, ℕ, List, ◌++◌, drop, length, refl, sym, ap, ◌∙◌, subst}
 use Rattle.std.proofs.Math.Seq.{drop-append_seam}
-use Rattle.host_core.specs.MemoryHost.{GoesOn, MemoryHost, faulty_by, files_of}
+use Rattle.std.specs.FinMap.{entries}
+use Rattle.host_core.specs.MemoryHost.{GoesOn, MemoryHost, faulty_by}
 use Rattle.host_core.specs.declared.crash.Pick.{Pick}
 use Rattle.std.specs.Prelude.{Option, Some, None}
 use Rattle.gcu_output.specs.Lines.{number}
@@ -10,6 +11,7 @@ use Rattle.command_runs.specs.Noted.{rise}
 use Rattle.command_runs.specs.Runs.{HasReason, IsFault, IsPromised, IsPromisedInScope, IsRun, handed_on}
 use Rattle.command_runs.specs.declared.stops.Ran.{Ran}
 use Rattle.command_runs.specs.declared.stops.Stop.{Stop}
+use Rattle.command_runs.proofs.NotedFiles.{noted_are_files}
 use Rattle.command_runs.proofs.Reasons.{reason_of}
 
 -- the counts are handed on
@@ -27,18 +29,19 @@ pub run_is : (stop : Stop) (host ended after : MemoryHost) (ran : Ran) (result :
     → GoesOn (faulty_by stop.faults host) ended
     → IsPromised stop.words host.state ended.state host.counts ended.counts result
     → IsPromisedInScope stop.words (faulty_by stop.faults host) ended result
-    → files_of ran.before.items ≡ host.state.files
-    → ran.output.items ≡ drop (length host.state.output) ended.state.output
+    → ran.before ≡ entries host.state.files
+    → ran.output ≡ drop (length host.state.output) ended.state.output
     → ran.status ≡ number result → ran.calls ≡ ended.calls → ran.starved ≡ rise host.starved ended.starved
     → ended.calls < 2 ^ 64 → ended.starved < 2 ^ 64
     → after ≡ handed_on stop.pick ended
     → IsRun stop host after ran
-run_is stop host ended after ran result goes promised scoped finds output status calls starved calls_fit starved_fits handed = record {
+run_is stop host ended after ran result goes promised scoped notes output status calls starved calls_fit starved_fits handed = record {
   ended = ended;
   result = result;
   goes = goes;
-  finds = finds;
-  output = behind host.state.output goes.state.output.0 ended.state.output ran.output.items goes.state.output.1 output;
+  notes = notes;
+  finds = noted_are_files ran.before host.state.files notes;
+  output = behind host.state.output goes.state.output.0 ended.state.output ran.output goes.state.output.1 output;
   status = status;
   calls = calls;
   starved = starved;

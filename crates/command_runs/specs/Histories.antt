@@ -36,7 +36,7 @@ pub record IsNext (before : List Config) (ran : Ran) (after : List Config) : Typ
   pub stands : stored (found ran) ≡ Ok start
   pub moves : List Move
   pub acknowledged : ℕ
-  pub work : IsWork ran.output.items moves acknowledged
+  pub work : IsWork ran.output moves acknowledged
   pub is : after ≡ last_or_next before start moves acknowledged
 
 -- what a command leads to that ends in that state

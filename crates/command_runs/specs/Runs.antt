@@ -1,5 +1,6 @@
 -- What is noted of a command that runs on a host in memory, and what the promises say of it.
 use Rattle.std.specs.Prelude.{◌≡◌, ◌≢◌, ◌⊎◌, ◌<◌, ◌≤◌, ℕ, IsTrue, List, [], ◌∷◌, ◌++◌, Option, Some, None, ⊤}
+use Rattle.std.specs.FinMap.{entries}
 use Rattle.host_core.specs.Counts.{Counts, NoneRose, last_count}
 use Rattle.host_core.specs.Crashes.{Left, MayLeave}
 use Rattle.host_core.specs.Faults.{is_faulty}
@@ -83,8 +84,10 @@ pub record IsRun (stop : Stop) (host after : MemoryHost) (ran : Ran) : Type 0 wh
   pub ended : MemoryHost
   pub result : Outcome
   pub goes : GoesOn (faulty_by stop.faults host) ended
+  -- the files that it found are noted, each once, in the order of their names
+  pub notes : ran.before ≡ entries host.state.files
   pub finds : found ran ≡ host.state.files
-  pub output : ended.state.output ≡ host.state.output ++ ran.output.items
+  pub output : ended.state.output ≡ host.state.output ++ ran.output
   pub status : ran.status ≡ number result
   pub calls : ran.calls ≡ ended.calls
   pub starved : ran.starved ≡ rise host.starved ended.starved

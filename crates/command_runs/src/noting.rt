@@ -1,20 +1,21 @@
 //! What is noted of a host and of a command that ran on it, and what is handed on.
 ghost use Rattle.std.specs.Prelude.{◌≡◌, ◌≤◌, ◌<◌, ◌^◌, drop, length, IfOk, string_bytes};
-ghost use Rattle.host_core.specs.MemoryHost.{files_of};
+ghost use Rattle.std.specs.FinMap.{entries};
 ghost use Rattle.gcu_output.specs.Lines.{number};
 ghost use Rattle.command_runs.specs.Noted.{rise};
 ghost use Rattle.command_runs.specs.Runs.{handed_on};
 
 use crate::Ran;
+use crate::stops::Entries;
 use gcu_engine::Outcome;
-use host_core::{MemHost, Memory, Pick, Txt};
+use host_core::{MemHost, Memory, Pick, Sequence, Txt};
 use std::alloc::Global;
 
-/// The files of a host as they read, in the order of their names.
-pub(crate) fn note_files(alloc: Global, host: &MemHost) -> Result<Vec<(Txt, Vec<u8>)>, Memory>
-    ensures { IfOk result (λ noted. files_of noted.items ≡ host.now.state.files) }
+/// The files of a host as they read, each once, in the order of their names.
+pub(crate) fn note_files(alloc: Global, host: &MemHost) -> Result<Entries, Memory>
+    ensures { IfOk result (λ noted. noted ≡ entries host.now.state.files) }
 {
-    let mut noted = Vec::new(alloc);
+    let mut noted = Sequence::new(alloc);
     for (name, bytes) in host.files() {
         noted.push(copy_file(alloc, name, bytes)?)?;
     }
@@ -22,11 +23,12 @@ pub(crate) fn note_files(alloc: Global, host: &MemHost) -> Result<Vec<(Txt, Vec<
 }
 
 /// A name with its bytes.
-fn copy_file(alloc: Global, name: &String, bytes: &Vec<u8>) -> Result<(Txt, Vec<u8>), Memory>
-    ensures name { IfOk result (λ file. file.0 ≡ string_bytes name.now) }
-    ensures bytes { IfOk result (λ file. file.1.items ≡ bytes.now.items) }
+fn copy_file(alloc: Global, name: &String, bytes: &Vec<u8>) -> Result<(Txt, Sequence<u8>), Memory>
+    ensures { IfOk result (λ file. file ≡ (string_bytes name.now, bytes.now.items)) }
 {
-    Ok((Txt::new(alloc, name.as_str())?, bytes.to_vec(alloc)?))
+    let name = Txt::new(alloc, name.as_str())?;
+    let bytes = bytes.to_vec(alloc)?;
+    Ok((name, Sequence::from_vec(bytes)))
 }
 
 /// By how much a count rose, or 1 where it is at its last value.
@@ -46,14 +48,14 @@ pub(crate) fn note_run(
     alloc: Global,
     outcome: Outcome,
     host: &MemHost,
-    before: Vec<(Txt, Vec<u8>)>,
+    before: Entries,
     printed: usize,
     starved: u64,
 ) -> Result<Ran, Memory>
     requires { printed ≤ length host.now.state.output }
     ensures status { IfOk result (λ ran. ran.status ≡ number outcome) }
-    ensures before { IfOk result (λ ran. ran.before.items ≡ before.items) }
-    ensures output { IfOk result (λ ran. ran.output.items ≡ drop printed host.now.state.output) }
+    ensures before { IfOk result (λ ran. ran.before ≡ before) }
+    ensures output { IfOk result (λ ran. ran.output ≡ drop printed host.now.state.output) }
     ensures calls { IfOk result (λ ran. ran.calls ≡ host.now.calls) }
     ensures starved { IfOk result (λ ran. ran.starved ≡ rise starved host.now.starved) }
     ensures fits { IfOk result (λ ran.
@@ -63,7 +65,7 @@ pub(crate) fn note_run(
     Ok(Ran {
         status: outcome.status(),
         before,
-        output,
+        output: Sequence::from_vec(output),
         calls: host.calls(),
         starved: rise_of(starved, host.starved()),
     })

@@ -4,7 +4,7 @@ use command_runs::Ran;
 use example_rows::{
     Fail, has, has_in, is_null, is_number, is_word, is_written, items_at, names_in, value_at,
 };
-use host_core::{Names, Txt};
+use host_core::{Names, Sequence, Txt};
 use serde_json::Value;
 use std::alloc::Global;
 
@@ -21,7 +21,7 @@ pub fn are_as_said(
     for (number, run) in runs.iter().enumerate() {
         let ran = rans.get(number).ok_or(Fail::Row)?;
         let next = rans.get(number.saturating_add(1)).ok_or(Fail::Row)?;
-        if !is_as_said(alloc, run, ran, &next.before)? {
+        if !is_as_said(alloc, run, ran, next.before.items())? {
             return Ok(false);
         }
     }
@@ -33,21 +33,21 @@ fn is_as_said(
     alloc: Global,
     run: &Value,
     ran: &Ran,
-    left: &[(Txt, Vec<u8>)],
+    left: &[(Txt, Sequence<u8>)],
 ) -> Result<bool, Fail> {
     let same_status = is_number(value_at(run, "status")?, u64::from(ran.status));
     let same_calls = !has(run, "calls") || is_number(value_at(run, "calls")?, ran.calls);
-    let same_output = is_written(alloc, run, "output", &ran.output)?;
+    let same_output = is_written(alloc, run, "output", ran.output.items())?;
     let same = same_status && same_calls && same_output && ran.starved == 0;
-    Ok(same && are_left(alloc, run, &ran.before, left)?)
+    Ok(same && are_left(alloc, run, ran.before.items(), left)?)
 }
 
 /// Whether files become others as a run says under `after`, and no others do.
 fn are_left(
     alloc: Global,
     run: &Value,
-    before: &[(Txt, Vec<u8>)],
-    left: &[(Txt, Vec<u8>)],
+    before: &[(Txt, Sequence<u8>)],
+    left: &[(Txt, Sequence<u8>)],
 ) -> Result<bool, Fail> {
     let stay = are_kept(run, before, left) && are_kept(run, left, before);
     if !stay || !has(run, "after") {
@@ -64,11 +64,11 @@ fn are_left(
 }
 
 /// Whether the first files are among the second ones, as far as the run doesn't name them.
-fn are_kept(run: &Value, some: &[(Txt, Vec<u8>)], others: &[(Txt, Vec<u8>)]) -> bool {
+fn are_kept(run: &Value, some: &[(Txt, Sequence<u8>)], others: &[(Txt, Sequence<u8>)]) -> bool {
     for file in some {
         let name = file.0.as_str();
         let is_free = name == UNDONE || has_in(run, "after", name);
-        if !is_free && find_file(others, name) != Some(file.1.as_slice()) {
+        if !is_free && find_file(others, name) != Some(file.1.items()) {
             return false;
         }
     }
@@ -76,10 +76,10 @@ fn are_kept(run: &Value, some: &[(Txt, Vec<u8>)], others: &[(Txt, Vec<u8>)]) -> 
 }
 
 /// The bytes of the file of a name, where there is one.
-fn find_file<'a>(files: &'a [(Txt, Vec<u8>)], name: &str) -> Option<&'a [u8]> {
+fn find_file<'a>(files: &'a [(Txt, Sequence<u8>)], name: &str) -> Option<&'a [u8]> {
     for file in files {
         if file.0.as_str() == name {
-            return Some(file.1.as_slice());
+            return Some(file.1.items());
         }
     }
     None

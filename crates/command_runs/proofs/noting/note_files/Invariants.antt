@@ -4,4 +4,4 @@ use Rattle.host_core.specs.Entries.{named}
 use Rattle.command_runs.proofs.noting.note_files.Given as goal
 
 abbrev pub invariant-loop-name : goal.invariant-loop-name
-invariant-loop-name l = map (λ p. (p.0, p.1.items)) l.noted.items ≡ map (λ e. named (deref_pair e)) l.yielded
+invariant-loop-name l = l.noted ≡ map (λ e. named (deref_pair e)) l.yielded

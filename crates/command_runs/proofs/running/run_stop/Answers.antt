@@ -1,5 +1,4 @@
 use Rattle.std.proofs.Common.{ℕ, List, ◌∙◌, ap, drop, length}
-use Rattle.host_core.specs.MemoryHost.{files_of}
 use Rattle.command_runs.specs.Noted.{rise}
 use Rattle.command_runs.proofs.NextConfigurations.{run_leads}
 use Rattle.command_runs.proofs.NotedRuns.{run_is}
@@ -12,7 +11,7 @@ returns-clause-runs g c =
     let noted = c.in_ok-ran.ensures in
     run_is c.args.stop c.args.host ended c.in_ok-hand_on.field-0 c.in_ok-ran.ran outcome c.run_with-host.ensures.goes
     c.run_with-host.ensures.promised c.run_with-host.ensures.scoped
-    (ap files_of noted.before ∙ c.in_ok-before.ensures)
+    (noted.before ∙ c.in_ok-before.ensures)
     (noted.output ∙ ap (λ (printed : List ℕ). drop (length printed) ended.state.output) c.output-printed.ensures)
     noted.status noted.calls (noted.starved ∙ ap (λ (n : ℕ). rise n ended.starved) c.starved-starved.ensures)
     noted.fits.0 noted.fits.1 c.in_ok-hand_on.ensures
