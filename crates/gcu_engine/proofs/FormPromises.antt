@@ -17,6 +17,7 @@ use Rattle.gcu_engine.specs.Contents.{IsContextIn, IsMade}
 use Rattle.gcu_engine.specs.Folder.{StandForSame, Stores}
 use Rattle.gcu_engine.specs.Headline.{AddsPoint, HasNoOrder, HasWholePoints, IsUnacknowledged, IsChangeCommand, IsLastOrNext, IsTaskCommand, RemovesPoint}
 use Rattle.gcu_engine.proofs.CommandWords.{IsFormOf, IsPlanForm, form_words, plan_form}
+use Rattle.gcu_engine.proofs.DemoWords.{IsDemonstrated, by_words}
 use Rattle.gcu_engine.proofs.Folders.{same_stands, stores_is}
 
 -- ---- by its form
@@ -42,6 +43,7 @@ pub record LacksOrder (f : Option Form) (s : State) : Type 0 where
   pub start : Config
   pub goal : Config
   pub planned : IsPlanned f s start goal
+  pub demonstrated : IsDemonstrated f start goal
   pub none : ¬ IsReachable (rulebook ctx) goal start goal
 
 -- what the folder stands for after a crash: a command that does no task leaves that as before
@@ -91,6 +93,9 @@ order_by_words words s some lacks = record {
   start = lacks.start;
   goal = lacks.goal;
   planned = λ from plans. by from (task_of_words (reach from) words plans);
+  demonstrated = λ seed ports is.
+      by_words seed ports lacks.start lacks.goal (subst (λ (ws : List (List ℕ)). form ws ≢ None) is some)
+      (subst (λ (ws : List (List ℕ)). IsDemonstrated (form ws) lacks.start lacks.goal) is lacks.demonstrated);
   none = lacks.none;
 }
   where

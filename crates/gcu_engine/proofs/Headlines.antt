@@ -79,6 +79,7 @@ none_of (Some (forms.plan (reach from) budget)) s r (planned p, is, same) h = re
   start = p.start;
   goal = p.goal;
   planned = (is.start.stands, is.made);
+  demonstrated = tt;
   none = (unsolved (request.plan (planned p)) r same h).0;
 }
 none_of (Some (forms.plan (reach from) budget)) s r (operated p, never, same) h = absurd never
@@ -90,6 +91,7 @@ none_of (Some (forms.change (reach from) budget)) s r (planned p, is, same) h = 
   start = p.start;
   goal = p.goal;
   planned = (is.start.stands, is.made);
+  demonstrated = tt;
   none = (unsolved (request.change (planned p)) r same h).0;
 }
 none_of (Some (forms.change (reach from) budget)) s r (operated p, never, same) h = absurd never
@@ -101,6 +103,7 @@ none_of (Some (forms.demo seed ports)) s r (p, read, start, goal, same) h = reco
   start = p.start;
   goal = p.goal;
   planned = tt;
+  demonstrated = (start, goal);
   none = (unsolved (request.demo p ports) r same h).0;
 }
 none_of (Some (forms.save_checkpoint name)) s r (c, there, same) h = absurd (unsolved (request.save_checkpoint name c) r same h)

@@ -14,6 +14,7 @@ mod Completing
 mod Contents
 mod Deletions
 mod DemoSaying
+mod DemoWords
 mod Elapsing
 mod FaultTexts
 mod Folders

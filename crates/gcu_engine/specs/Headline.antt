@@ -15,6 +15,7 @@ use Rattle.host_core.specs.State.{Files, State}
 use Rattle.conf_doc.specs.Texts.{line_feed}
 use Rattle.conf_doc.specs.declared.configuration.Config.{Config}
 use Rattle.conf_store.specs.Changes.{IsSettled}
+use Rattle.patch_core.specs.Indexes.{number}
 use Rattle.checkpoints.specs.Changes.{with_point, without_point}
 use Rattle.checkpoints.specs.Points.{points}
 use Rattle.move_core.specs.Contexts.{IsValidIn, rulebook}
@@ -23,6 +24,7 @@ use Rattle.move_core.specs.Plans.{IsAllowed, IsReachable, conf}
 use Rattle.move_core.specs.declared.contexts.Ctx.{Ctx}
 use Rattle.move_core.specs.declared.moves.Move.{Move}
 use Rattle.change_apply.specs.Acknowledgements.{ack, acks}
+use Rattle.gcu_demo.specs.Demo as generated
 use Rattle.gcu_words.specs.Options.{dry_run_word}
 use Rattle.gcu_words.specs.Targets.{Target, patched, replaced, resumed, rolled_back}
 use Rattle.gcu_output.specs.declared.outcomes.Outcome.{Outcome}
@@ -95,7 +97,7 @@ PrintsTask task s after =
     × (t.output ≡ s.output ++ added) × IsTaskOutput task s (added ++ rest)
 
 -- no sequence of allowed moves leads from the start to the goal: from the stored configuration to what the target
--- makes of it, or in a demonstration from a generated one to another
+-- makes of it, or in a demonstration from the one to the other that its seed and its number of ports generate
 pub record HasNoOrder (words : List (List ℕ)) (s : State) : Type 0 where
   pub ctx : Ctx
   pub read : IsContextIn s ctx
@@ -103,6 +105,9 @@ pub record HasNoOrder (words : List (List ℕ)) (s : State) : Type 0 where
   pub goal : Config
   pub planned : (from : Target) → IsTaskCommand (reach from) words
       → Stores s.files start × IsMade from s start goal
+  pub demonstrated : (seed ports : List ℕ) → words ≡ codes "demo" ∷ seed ∷ ports ∷ []
+      → (start ≡ generated.start (number seed) (number ports))
+      × (goal ≡ generated.goal (number seed) (number ports))
   pub none : ¬ IsReachable (rulebook ctx) goal start goal
 
 -- ---- a crash
