@@ -5,7 +5,7 @@ use Rattle.host_core.specs.Crashes.{Elapses, Image, Left, LeavesOnly, MayLeave, 
 use Rattle.host_core.specs.State.{Files, State}
 use Rattle.host_core.proofs.Runs as runs
 use Rattle.conf_store.specs.Changes.{AreLeft, Changes, IsSettled, Leads, Settles}
-use Rattle.checkpoints.specs.Changes.{LeavesOf}
+use Rattle.checkpoints.specs.Changes.{LeavesOf, UnlessDisk}
 use Rattle.checkpoints.specs.declared.errors.PointError.{PointError}
 use Rattle.checkpoints.specs.declared.errors.PointError.TheVariants.{BadName, Exists, Full, Absent, NotConfig, Disk, Memory}
 
@@ -85,6 +85,16 @@ leaves_unchanged P same o n clean e Full = e
 leaves_unchanged P same o n clean e Absent = e
 leaves_unchanged P same o n clean e NotConfig = e
 leaves_unchanged P same o n clean e Memory = e
+
+-- what a call that failed has done it has done unless the disk failed
+pub unless_disk : (P : Type 0) → P → (e : PointError) → UnlessDisk P e
+unless_disk P done Disk = tt
+unless_disk P done BadName = done
+unless_disk P done Exists = done
+unless_disk P done Full = done
+unless_disk P done Absent = done
+unless_disk P done NotConfig = done
+unless_disk P done Memory = done
 
 -- what holds of every error holds of this one
 pub of_each_err : {T E : Type 0} (P : E → Type 0) (r : Result T E) → ((e : E) → P e) → IfErr r P

@@ -1,5 +1,5 @@
 -- What saving and deleting a checkpoint do to the files, and so to the checkpoints.
-use Rattle.std.specs.Prelude.{◌≡◌, ◌≢◌, ◌⊎◌, ℕ, List, Option, Some, None}
+use Rattle.std.specs.Prelude.{◌≡◌, ◌≢◌, ◌⊎◌, ℕ, List, Option, Some, None, ⊤}
 use Rattle.std.specs.FinMap.{insert, remove}
 use Rattle.host_core.specs.State.{Files, State, with_file}
 use Rattle.conf_doc.specs.declared.configuration.Config.{Config}
@@ -76,3 +76,8 @@ pub record IsDeletedOrNot (name : List ℕ) (before after : Files) : Type 0 wher
 abbrev pub LeavesOf : (Files → Files → Type 0) → Option State → Option State → PointError → Type 0
 LeavesOf P old new Disk = Changes P old new
 LeavesOf P old new other = new ≡ old
+
+-- it is so after another error than a fault of the disk
+abbrev pub UnlessDisk : Type 0 → PointError → Type 0
+UnlessDisk P Disk = ⊤
+UnlessDisk P other = P

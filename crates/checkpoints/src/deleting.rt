@@ -7,7 +7,7 @@ ghost use Rattle.host_core.specs.Names.{longest_plain_name};
 ghost use Rattle.conf_store.specs.Changes.{AreLeft, IsSettled, Settles};
 ghost use Rattle.conf_store.specs.Reads.{OnlyReads};
 ghost use Rattle.checkpoints.specs.Answers.{Deletes, IsOfDeleting, Named};
-ghost use Rattle.checkpoints.specs.Changes.{IsDeleted, IsDeletedOrNot, LeavesOf};
+ghost use Rattle.checkpoints.specs.Changes.{IsDeleted, IsDeletedOrNot, LeavesOf, UnlessDisk};
 ghost use Rattle.checkpoints.specs.Points.{points};
 ghost use Rattle.checkpoints.specs.declared.errors.PointError.TheVariants.{Disk as disk_failed};
 
@@ -33,6 +33,9 @@ pub fn delete<H: Host>(alloc: Global, host: &mut H, name: &str) -> Result<(), Po
     // Where there is no such checkpoint the folder is only read, whatever the answer.
     ensures only_reads { IfSome (H.told host.old) (λ s. get (points s.files) name.now ≡ None
         → OnlyReads H.told H.counts H.moment H.left_since H.goes_on host.old host.new) }
+    // After another error than a fault of the disk, want of memory too, the folder was only read.
+    ensures early { IfErr result (UnlessDisk (OnlyReads
+        H.told H.counts H.moment H.left_since H.goes_on host.old host.new)) }
     ensures any_moment { IfSome (H.told host.old)
         (λ s. LeavesOnly H.moment H.left_since host.old host.new
         (AreLeft (IsDeletedOrNot name.now) s)) }

@@ -6,7 +6,7 @@ ghost use Rattle.host_core.specs.Names.{longest_plain_name};
 ghost use Rattle.conf_store.specs.Changes.{AreLeft, IsSettled, Settles};
 ghost use Rattle.conf_store.specs.Reads.{OnlyReads};
 ghost use Rattle.checkpoints.specs.Answers.{IsInTheWay, IsOfSaving, Named, Saves};
-ghost use Rattle.checkpoints.specs.Changes.{IsSaved, IsSavedOrNot, LeavesOf};
+ghost use Rattle.checkpoints.specs.Changes.{IsSaved, IsSavedOrNot, LeavesOf, UnlessDisk};
 ghost use Rattle.checkpoints.specs.Names.{point_file as file_of};
 ghost use Rattle.checkpoints.specs.Reads.{IsNextText, IsOfNumbering, TellsFull};
 ghost use Rattle.checkpoints.specs.declared.errors.PointError.TheVariants.{Disk as disk_failed};
@@ -44,6 +44,9 @@ pub fn save<H: Host>(
     // Where there is such a checkpoint, or no number is left, the folder is only read, whatever the answer.
     ensures only_reads { IfSome (H.told host.old) (λ s. IsInTheWay name.now s.files
         → OnlyReads H.told H.counts H.moment H.left_since H.goes_on host.old host.new) }
+    // After another error than a fault of the disk, want of memory too, the folder was only read.
+    ensures early { IfErr result (UnlessDisk (OnlyReads
+        H.told H.counts H.moment H.left_since H.goes_on host.old host.new)) }
     ensures any_moment { IfSome (H.told host.old)
         (λ s. LeavesOnly H.moment H.left_since host.old host.new
         (AreLeft (IsSavedOrNot name.now config.now) s)) }

@@ -32,8 +32,7 @@ promised_by words faults host began ended result is answers cause crash headline
         printed = (headline none).printed;
         no_order = (headline none).no_order;
         crash = λ settled left may. (headline none).crash settled left (inl may);
-        refused = λ foreseen settled left may. (headline none).refused foreseen settled left (inl may);
-        kept = λ refusal settled left may. (headline none).kept refusal settled left (inl may);
+        refused = λ refusal settled left may. (headline none).refused refusal settled left (inl may);
         quiet = (headline none).quiet;
         finished = (headline none).finished;
         rolled = (headline none).rolled;

@@ -23,16 +23,16 @@ use Rattle.gcu_words.specs.Form.{Form, form}
 use Rattle.gcu_words.specs.Form as forms
 use Rattle.gcu_words.specs.Tasks.{Task, reach, run_script}
 use Rattle.gcu_requests.specs.Asked.{asked, form_asked, migrate_asked}
-use Rattle.gcu_requests.specs.OneAnswer.{AskedIsOne, HasOneAnswer}
 use Rattle.gcu_requests.specs.Request as request
 use Rattle.gcu_requests.specs.Request.{Request, Work, ctx_of, operated, planned, start_of}
 use Rattle.gcu_requests.specs.WorkAsked.{change_asked}
 use Rattle.gcu_engine.specs.Answers.{Answers, IsDoneOutput, IsRefusal, IsUntouched, Leaves, LeavesDone, Prints, Says}
 use Rattle.gcu_engine.specs.Changing.{IsChangeFor, IsChanged, IsLastLine, acknowledged, begun}
+use Rattle.gcu_engine.specs.Commands.{LeftUnwritten}
 use Rattle.gcu_engine.specs.Crashes.{LeftByForm, LeftChanged, LeftEarly, LeftMeanwhile, LeftOf, LeftOfChange, LeftOfMigration, LeftWriting}
 use Rattle.gcu_engine.specs.Doing.{LeftToEarly}
 use Rattle.gcu_engine.specs.Folder.{Stores}
-use Rattle.gcu_engine.specs.Headline.{HasNoOrder, IsUnacknowledged, IsForeseen, IsHeadline, IsLastOrNext, IsQuiet, PrintsTask, StoresPoint, StoresTarget}
+use Rattle.gcu_engine.specs.Headline.{HasNoOrder, IsUnacknowledged, IsHeadline, IsLastOrNext, IsQuiet, PrintsTask, StoresPoint, StoresTarget}
 use Rattle.gcu_engine.specs.Plannings.{IsUnsolved}
 use Rattle.gcu_engine.proofs.AcknowledgementCounts.{acked_is}
 use Rattle.gcu_engine.proofs.ChangeEnds.{is_last_line}
@@ -196,18 +196,6 @@ module _ (asking : Asking Request) (s now : State) where
           restarts = untouched_restarts says.0;
         }
 
--- what is foreseen is the refusal of what is asked
-foreseen : (asking : Asking Request) (s now : State) (old new : Counts) (e : Outcome) (output : List ℕ) → Prints asking s now old new e output → IsForeseen e → asking.Gives (Err e)
-foreseen asking s now old new Done output h never = absurd never
-foreseen asking s now old new (DiskFault step) output h never = absurd never
-foreseen asking s now old new (PrintFault step) output h never = absurd never
-foreseen asking s now old new (ServiceFault step service) output h never = absurd never
-foreseen asking s now old new Memory output h never = absurd never
-foreseen asking s now old new InputFault output h never = absurd never
-foreseen asking s now old new Unorderable output h never = absurd never
-foreseen asking s now old new (Budget n) output h never = absurd never
-foreseen asking s now old new other output h any = h.0
-
 -- ---- a crash
 
 pub settled_files : (s : State) (part : List ℕ) (left : Left) → IsSettled s → MayLeave (printed part s) left → left.files ≡ s.files
@@ -358,64 +346,65 @@ form_points (Some (forms.change task budget)) s left clean h = inl (change_point
 form_points (Some forms.migrate_checkpoints) s left clean h = migration_points s left clean h
 form_points other s left clean h = other_points other s left clean h
 
--- what is refused and asked for is not one thing
-not_both : (asking : Asking Request) → HasOneAnswer asking → (r : Request) (e : Outcome) → asking.Gives (Ok r) → asking.Gives (Err e) → ⊥
-not_both asking one r e given refused = let same : Ok r ≡ Err e = one.same (Ok r) (Err e) given refused in absurd cc
-
--- a command that is refused leaves the files from before
-change_refused : (asking : Asking Request) → HasOneAnswer asking → (s : State) (left : Left) (e : Outcome) → asking.Gives (Err e) → IsSettled s → LeftOfChange asking s left
-    → left.files ≡ s.files
-change_refused asking one s left e refused clean (inl (part, front, may)) = settled_files s part left clean may
-change_refused asking one s left e refused clean (inr (w, c, told, given, fits, h, kept)) = absurd (not_both asking one (request.change w) e given refused)
-
-other_refused : (asking : Asking Request) → HasOneAnswer asking → (s : State) (left : Left) (e : Outcome) → asking.Gives (Err e) → IsSettled s → LeftOf asking s left
-    → left.files ≡ s.files
-other_refused asking one s left e refused clean (part, front, inl may) = settled_files s part left clean may
-other_refused asking one s left e refused clean (part, front, inr (r, given, h)) = absurd (not_both asking one r e given refused)
-
-migration_refused : (asking : Asking Request) → HasOneAnswer asking → (s : State) (left : Left) (e : Outcome) → asking.Gives (Err e) → IsSettled s → LeftOfMigration asking s left
-    → left.files ≡ s.files
-migration_refused asking one s left e refused clean (inl h) = other_refused asking one s left e refused clean h
-migration_refused asking one s left e refused clean (inr (news, given, h)) = absurd (not_both asking one (request.migrate_checkpoints news) e given refused)
-
-form_refused : (f : Option Form) (s : State) (left : Left) (e : Outcome) → HasOneAnswer (form_asked f s) → (form_asked f s).Gives (Err e) → IsSettled s → LeftByForm f s left
-    → left.files ≡ s.files
-form_refused (Some (forms.change task budget)) s left e one refused clean h = change_refused (change_asked task budget s) one s left e refused clean h
-form_refused (Some forms.migrate_checkpoints) s left e one refused clean h = migration_refused (migrate_asked s) one s left e refused clean h
-form_refused other s left e one refused clean h = other_refused (form_asked other s) one s left e refused clean h
-
 -- ---- a crash in a command that refuses
 
--- of a host that tells its state the folder stands for the same as before, where nothing is pending then
-abbrev KeepsStored : Option State → Left → Type 0
-KeepsStored o left = IfSome o (λ s. IsSettled s → stored left.files ≡ stored s.files)
+-- of a host that tells its state the files are as before, where nothing is pending then
+abbrev KeepsFiles : Option State → Left → Type 0
+KeepsFiles o left = IfSome o (λ s. IsSettled s → left.files ≡ s.files)
 
--- no task is done
-abbrev pub IsNoChange : Option Form → Type 0
-IsNoChange (Some (forms.change task budget)) = ⊥
-IsNoChange other = Unit {0}
+-- it never writes
+abbrev pub IsQuery : Option Form → Type 0
+IsQuery (Some (forms.change task budget)) = ⊥
+IsQuery (Some forms.migrate_checkpoints) = ⊥
+IsQuery (Some (forms.save_checkpoint name)) = ⊥
+IsQuery (Some (forms.delete_checkpoint name)) = ⊥
+IsQuery (Some forms.abandon) = ⊥
+IsQuery other = Unit {0}
 
-form_keeps : (f : Option Form) (s : State) (left : Left) → IsNoChange f → IsSettled s → LeftByForm f s left → stored left.files ≡ stored s.files
+query_unwritten : (f : Option Form) (s now : State) (r : Request) (left : Left) → IsQuery f → IsRequestOf f s r → LeftWriting r now left → ⊥
+query_unwritten (Some (forms.change task budget)) s now r left never is h = never
+query_unwritten (Some forms.migrate_checkpoints) s now r left never is h = never
+query_unwritten (Some (forms.save_checkpoint name)) s now r left never is h = never
+query_unwritten (Some (forms.delete_checkpoint name)) s now r left never is h = never
+query_unwritten (Some forms.abandon) s now r left never is h = never
+query_unwritten (Some (forms.plan task budget)) s now r left query (w, is, same) h = subst (λ (q : Request). LeftWriting q now left) (sym same) h
+query_unwritten (Some (forms.demo seed ports)) s now r left query (p, read, start, goal, same) h = subst (λ (q : Request). LeftWriting q now left) (sym same) h
+query_unwritten (Some (forms.preview path)) s now r left query (c, same) h = subst (λ (q : Request). LeftWriting q now left) (sym same) h
+query_unwritten (Some forms.status) s now r left query (intent, count, same) h = subst (λ (q : Request). LeftWriting q now left) (sym same) h
+query_unwritten (Some (forms.check_plan patch plan)) s now r left query (count, same) h = subst (λ (q : Request). LeftWriting q now left) (sym same) h
+query_unwritten (Some forms.check) s now r left query same h = subst (λ (q : Request). LeftWriting q now left) (sym same) h
+query_unwritten (Some forms.list_checkpoints) s now r left query (names, same) h = subst (λ (q : Request). LeftWriting q now left) (sym same) h
+query_unwritten None s now r left query never h = never
+
+query_keeps : (f : Option Form) (s : State) (left : Left) → IsQuery f → IsSettled s → LeftOf (form_asked f s) s left → left.files ≡ s.files
+query_keeps f s left query clean (part, front, inl may) = settled_files s part left clean may
+query_keeps f s left query clean (part, front, inr (r, given, h)) = absurd (query_unwritten f s (printed part s) r left query (requested f s r given) h)
+
+form_keeps : (f : Option Form) (s : State) (left : Left) → IsQuery f → IsSettled s → LeftByForm f s left → left.files ≡ s.files
 form_keeps (Some (forms.change task budget)) s left never clean h = absurd never
-form_keeps (Some forms.migrate_checkpoints) s left none clean h = migration_stands (migrate_asked s) s left clean h
-form_keeps other s left none clean h = other_stands (form_asked other s) s left clean h
+form_keeps (Some forms.migrate_checkpoints) s left never clean h = absurd never
+form_keeps other s left query clean h = query_keeps other s left query clean h
 
-words_keep : (words : List (List ℕ)) (f : Option Form) (o : Option State) (left : Left) → f ≡ form words → IsNoChange f → LeftMeanwhile words o left → KeepsStored o left
-words_keep words f None left is none h = tt
-words_keep words f (Some s) left is none h = λ clean. form_keeps f s left none clean (subst (λ (g : Option Form). LeftByForm g s left) (sym is) h)
+words_keep : (words : List (List ℕ)) (f : Option Form) (o : Option State) (left : Left) → f ≡ form words → IsQuery f → LeftMeanwhile words o left → KeepsFiles o left
+words_keep words f None left is query h = tt
+words_keep words f (Some s) left is query h = λ clean. form_keeps f s left query clean (subst (λ (g : Option Form). LeftByForm g s left) (sym is) h)
 
-early_keeps : (task : Task) (budget : ℕ) (o : Option State) (left : Left) → LeftToEarly (change_asked task budget) o left → KeepsStored o left
+early_keeps : (task : Task) (budget : ℕ) (o : Option State) (left : Left) → LeftToEarly (change_asked task budget) o left → KeepsFiles o left
 early_keeps task budget None left h = tt
-early_keeps task budget (Some s) left (part, front, may) = λ clean. ap stored (settled_files s part left clean may)
+early_keeps task budget (Some s) left (part, front, may) = λ clean. settled_files s part left clean may
+
+unwritten_keeps : (o : Option State) (left : Left) → LeftUnwritten o left → KeepsFiles o left
+unwritten_keeps None left h = tt
+unwritten_keeps (Some s) left h = λ clean. subst (λ p. Image p s.files left.files) clean h
 
 -- ---- all of it
 
 module _ {H : Type 0} (moment : H → ℕ) (left_since : H → ℕ → Left → Type 0) where
   headline_of : (words : List (List ℕ)) (s : State) (after : Option State) (old new : H) (before later : Counts) (result : Outcome)
-      → AskedIsOne → Answers words (Some s) after before later result → LeavesOnly moment left_since old new (LeftMeanwhile words (Some s))
-      → (IsRefusal result → LeavesOnly moment left_since old new (KeepsStored (Some s)))
+      → Answers words (Some s) after before later result → LeavesOnly moment left_since old new (LeftMeanwhile words (Some s))
+      → (IsRefusal result → LeavesOnly moment left_since old new (KeepsFiles (Some s)))
       → IsHeadline words s after result (left_since new (moment old))
-  headline_of words s after old new before later result one answers crash keeps = record {
+  headline_of words s after old new before later result answers crash keeps = record {
     printed = λ task is. prints task (task_of_words task words is);
     no_order = no_order_is words s after before later result answers;
     crash = λ clean left since.
@@ -424,9 +413,7 @@ module _ {H : Type 0} (moment : H → ℕ) (left_since : H → ℕ → Left → 
           other = other_by_words words s left (form_stands (form words) s left clean (crash.each left since));
           points_are = points_by_words words s left.files (form_points (form words) s left clean (crash.each left since));
         };
-    refused = λ any clean left since.
-        form_refused (form words) s left result (one words s) (foreseen (asked words s) s answers.0 before later result answers.1 answers.3 any) clean (crash.each left since);
-    kept = λ any clean left since. same_stands s.files left.files ((keeps any).each left since clean);
+    refused = λ any clean left since. (keeps any).each left since clean;
     quiet = λ any. quiet_is (asked words s) s answers.0 after answers.1 answers.2 before later result answers.3 any;
     finished = λ from is done. changes from (change_of_words (reach from) words is) done;
     rolled = λ name is done. rolls_back name s after (changes (rolled_back name) (change_of_words (reach (rolled_back name)) words is) done);
@@ -457,25 +444,34 @@ module _ {H : Type 0} (moment : H → ℕ) (left_since : H → ℕ → Left → 
 
   -- of a host that may not tell its state
   headline_in : (words : List (List ℕ)) (o after : Option State) (old new : H) (before later : Counts) (result : Outcome)
-      → AskedIsOne → Answers words o after before later result → LeavesOnly moment left_since old new (LeftMeanwhile words o)
-      → (IsRefusal result → LeavesOnly moment left_since old new (KeepsStored o))
+      → Answers words o after before later result → LeavesOnly moment left_since old new (LeftMeanwhile words o)
+      → (IsRefusal result → LeavesOnly moment left_since old new (KeepsFiles o))
       → IfSome o (λ s. IsHeadline words s after result (left_since new (moment old)))
-  headline_in words None after old new before later result one answers crash keeps = tt
-  headline_in words (Some s) after old new before later result one answers crash keeps = headline_of words s after old new before later result one answers crash keeps
+  headline_in words None after old new before later result answers crash keeps = tt
+  headline_in words (Some s) after old new before later result answers crash keeps = headline_of words s after old new before later result answers crash keeps
 
-  -- of words whose command does no task
-  pub headline : (words : List (List ℕ)) (f : Option Form) (o after : Option State) (old new : H) (before later : Counts) (result : Outcome) → f ≡ form words → IsNoChange f
-      → AskedIsOne → Answers words o after before later result → LeavesOnly moment left_since old new (LeftMeanwhile words o)
+  -- of words whose command never writes
+  pub headline : (words : List (List ℕ)) (f : Option Form) (o after : Option State) (old new : H) (before later : Counts) (result : Outcome) → f ≡ form words → IsQuery f
+      → Answers words o after before later result → LeavesOnly moment left_since old new (LeftMeanwhile words o)
       → IfSome o (λ s. IsHeadline words s after result (left_since new (moment old)))
-  headline words f o after old new before later result is none one answers crash =
-      headline_in words o after old new before later result one answers crash
-      (λ any. weaker moment left_since old new (LeftMeanwhile words o) (KeepsStored o) (λ left h. words_keep words f o left is none h) crash)
+  headline words f o after old new before later result is query answers crash =
+      headline_in words o after old new before later result answers crash
+      (λ any. weaker moment left_since old new (LeftMeanwhile words o) (KeepsFiles o) (λ left h. words_keep words f o left is query h) crash)
 
-  -- of words whose command does one
+  -- of words whose command does a task
   pub change_headline : (words : List (List ℕ)) (task : Task) (budget : ℕ) (o after : Option State) (old new : H) (before later : Counts) (result : Outcome)
-      → AskedIsOne → Answers words o after before later result → LeavesOnly moment left_since old new (LeftMeanwhile words o)
+      → Answers words o after before later result → LeavesOnly moment left_since old new (LeftMeanwhile words o)
       → (IsRefusal result → LeavesOnly moment left_since old new (LeftToEarly (change_asked task budget) o))
       → IfSome o (λ s. IsHeadline words s after result (left_since new (moment old)))
-  change_headline words task budget o after old new before later result one answers crash early =
-      headline_in words o after old new before later result one answers crash
-      (λ any. weaker moment left_since old new (LeftToEarly (change_asked task budget) o) (KeepsStored o) (λ left h. early_keeps task budget o left h) (early any))
+  change_headline words task budget o after old new before later result answers crash early =
+      headline_in words o after old new before later result answers crash
+      (λ any. weaker moment left_since old new (LeftToEarly (change_asked task budget) o) (KeepsFiles o) (λ left h. early_keeps task budget o left h) (early any))
+
+  -- of words whose command writes otherwise
+  pub early_headline : (words : List (List ℕ)) (o after : Option State) (old new : H) (before later : Counts) (result : Outcome)
+      → Answers words o after before later result → LeavesOnly moment left_since old new (LeftMeanwhile words o)
+      → (IsRefusal result → LeavesOnly moment left_since old new (LeftUnwritten o))
+      → IfSome o (λ s. IsHeadline words s after result (left_since new (moment old)))
+  early_headline words o after old new before later result answers crash early =
+      headline_in words o after old new before later result answers crash
+      (λ any. weaker moment left_since old new (LeftUnwritten o) (KeepsFiles o) (λ left h. unwritten_keeps o left h) (early any))

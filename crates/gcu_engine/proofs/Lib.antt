@@ -53,4 +53,5 @@ mod Scoping
 mod StatusSaying
 mod OtherTables
 mod SummaryTexts
+mod Unwritten
 mod Writing

@@ -144,7 +144,7 @@ as_is (dirty name) files = (get files name, sym (same_again name files))
 as_is (listing before) files = inr refl
 
 -- what is left once all is settled may be left before
-settled_left : (s : State) (left : Left) → MayLeave (with_pending settled s) left → MayLeave s left
+pub settled_left : (s : State) (left : Left) → MayLeave (with_pending settled s) left → MayLeave s left
 settled_left s left may = record {
   files = subst (Image s.pending s.files) (sym may.files) (as_is s.pending s.files);
   output = may.output;

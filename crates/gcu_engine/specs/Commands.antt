@@ -1,7 +1,7 @@
 -- What a command leaves and answers that asks a stated question, for commands in functions of their own.
 use Rattle.std.specs.Prelude.{◌≡◌, Option, Some, None, IfSome, ⊤}
 use Rattle.host_core.specs.Counts.{Counts, NoneRose}
-use Rattle.host_core.specs.Crashes.{Left}
+use Rattle.host_core.specs.Crashes.{Image, Left}
 use Rattle.host_core.specs.State.{Files, State}
 use Rattle.conf_store.specs.Changes.{Changes}
 use Rattle.gcu_output.specs.Lines.{last_line}
@@ -42,6 +42,15 @@ abbrev pub LeavesRefused : (Files → Files → Type 0)
     → Option State → Option State → Outcome → Type 0
 LeavesRefused P old new (DiskFault step) = Changes P old new
 LeavesRefused P old new other = new ≡ old
+
+-- it is so after another refusal than a fault of the disk
+abbrev pub UnlessDiskFault : Type 0 → Outcome → Type 0
+UnlessDiskFault P (DiskFault step) = ⊤
+UnlessDiskFault P other = P
+
+-- what a crash leaves while nothing is written: the files as it may have left them before
+abbrev pub LeftUnwritten : Option State → Left → Type 0
+LeftUnwritten told left = IfSome told (λ s. Image s.pending s.files left.files)
 
 -- what is there once nothing but the last line of an answer is left to be printed
 abbrev pub IsReady : (State → Asking Request)

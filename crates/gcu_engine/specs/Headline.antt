@@ -28,7 +28,7 @@ use Rattle.gcu_demo.specs.Demo as generated
 use Rattle.gcu_words.specs.Options.{dry_run_word}
 use Rattle.gcu_words.specs.Targets.{Target, patched, replaced, resumed, rolled_back}
 use Rattle.gcu_output.specs.declared.outcomes.Outcome.{Outcome}
-use Rattle.gcu_output.specs.declared.outcomes.Outcome.TheVariants.{Done, Memory, InputFault, Unorderable, Budget}
+use Rattle.gcu_output.specs.declared.outcomes.Outcome.TheVariants.{Done, Unorderable}
 use Rattle.gcu_words.specs.Tasks.{Task, reach, run_script}
 use Rattle.gcu_engine.specs.Answers.{IsRefusal}
 use Rattle.gcu_engine.specs.Changing.{IsLastLine, IsRefusalLine}
@@ -183,14 +183,6 @@ StoresPoint name s after =
 
 -- ---- a refusal
 
--- an answer that the words, the inputs and the files alone give, whatever the search and the host's calls do
-abbrev pub IsForeseen : Outcome → Type 0
-IsForeseen Memory = ⊥
-IsForeseen InputFault = ⊥
-IsForeseen Unorderable = ⊥
-IsForeseen (Budget n) = ⊥
-IsForeseen other = IsRefusal other
-
 -- the files are as before, the line of a refusal is all that was printed, and nothing was restarted; which line
 -- each answer has, `Says` says
 pub record IsQuiet (s : State) (after : Option State) : Type 0 where
@@ -211,12 +203,9 @@ pub record IsHeadline (words : List (List ℕ)) (s : State) (after : Option Stat
   pub printed : (task : Task) → IsTaskCommand task words → PrintsTask task s after
   pub no_order : result ≡ Unorderable → HasNoOrder words s
   pub crash : IsSettled s → (left : Left) → IsLeftSince left → IsWhole words s left
-  -- a crash in a command that is refused leaves the files from before
-  pub refused : IsForeseen result → IsSettled s
+  -- a crash in a command with another answer than those of 0, 4, 5 and 6 leaves the files from before
+  pub refused : IsRefusal result → IsSettled s
       → (left : Left) → IsLeftSince left → left.files ≡ s.files
-  -- with another answer than those of 0, 4, 5 and 6 it leaves what the folder stood for
-  pub kept : IsRefusal result → IsSettled s
-      → (left : Left) → IsLeftSince left → StandForSame s.files left.files
   pub quiet : IsRefusal result → IsQuiet s after
   pub finished : (from : Target) → IsChangeCommand (reach from) words → result ≡ Done
       → StoresTarget from s after

@@ -11,8 +11,8 @@ ghost use Rattle.gcu_output.specs.Printing.{outcome_of};
 ghost use Rattle.gcu_output.specs.declared.outcomes.Outcome.TheVariants.{DiskFault as disk_fault, Usage as usage};
 ghost use Rattle.gcu_inputs.specs.Preparing.{Refuses};
 ghost use Rattle.gcu_requests.specs.InterruptionAsked.{abandon_asked};
-ghost use Rattle.gcu_engine.specs.Answers.{HasCause};
-ghost use Rattle.gcu_engine.specs.Commands.{AnswersTo, CompleteTo, IsReady, LeavesRefused, LeftTo};
+ghost use Rattle.gcu_engine.specs.Answers.{HasCause, IsRefusal};
+ghost use Rattle.gcu_engine.specs.Commands.{AnswersTo, CompleteTo, IsReady, LeavesRefused, LeftTo, LeftUnwritten, UnlessDiskFault};
 
 use crate::Outcome;
 use change_apply::close;
@@ -30,6 +30,9 @@ pub(crate) fn abandon<H: Host>(alloc: Global, host: &mut H) -> Outcome
     ensures counts { NoneFell (H.counts host.old) (H.counts host.new) }
     ensures crash { LeavesOnly H.moment H.left_since host.old host.new
         (LeftTo abandon_asked (H.told host.old)) }
+    // After a refusal, want of memory too, nothing was written before.
+    ensures early { IsRefusal result → LeavesOnly H.moment H.left_since host.old host.new
+        (LeftUnwritten (H.told host.old)) }
     ensures goes { H.goes_on host.old host.new }
     ensures form { result ≡ usage → ⊥ }
     ensures complete { CompleteTo abandon_asked
@@ -48,6 +51,8 @@ fn give_up<H: Host>(alloc: Global, host: &mut H) -> Result<(), Outcome>
     ensures cause { IfErr result (Refuses (H.counts host.old) (H.counts host.new)) }
     ensures crash { LeavesOnly H.moment H.left_since host.old host.new
         (LeftTo abandon_asked (H.told host.old)) }
+    ensures early { IfErr result (UnlessDiskFault (LeavesOnly
+        H.moment H.left_since host.old host.new (LeftUnwritten (H.told host.old)))) }
     ensures goes { H.goes_on host.old host.new }
 {
     match host.settle() {

@@ -14,8 +14,8 @@ ghost use Rattle.gcu_output.specs.declared.outcomes.Outcome.TheVariants.{Usage a
 ghost use Rattle.gcu_inputs.specs.Preparing.{Finds, Refuses};
 ghost use Rattle.gcu_requests.specs.Asked.{delete_asked, there_asked};
 ghost use Rattle.gcu_requests.specs.Request.{delete_checkpoint as deletion_of};
-ghost use Rattle.gcu_engine.specs.Answers.{HasCause};
-ghost use Rattle.gcu_engine.specs.Commands.{AnswersTo, CompleteTo, IsReady, LeavesRefused, LeftTo};
+ghost use Rattle.gcu_engine.specs.Answers.{HasCause, IsRefusal};
+ghost use Rattle.gcu_engine.specs.Commands.{AnswersTo, CompleteTo, IsReady, LeavesRefused, LeftTo, LeftUnwritten, UnlessDiskFault};
 
 use crate::{Outcome, PointWhy};
 use checkpoints::{PointError, delete, is_good_name};
@@ -33,6 +33,9 @@ pub(crate) fn delete_checkpoint<H: Host>(alloc: Global, name: &Txt, host: &mut H
     ensures counts { NoneFell (H.counts host.old) (H.counts host.new) }
     ensures crash { LeavesOnly H.moment H.left_since host.old host.new
         (LeftTo (delete_asked name.now) (H.told host.old)) }
+    // After a refusal, want of memory too, nothing was written before.
+    ensures early { IsRefusal result → LeavesOnly H.moment H.left_since host.old host.new
+        (LeftUnwritten (H.told host.old)) }
     ensures goes { H.goes_on host.old host.new }
     ensures form { result ≡ usage → ⊥ }
     ensures complete { CompleteTo (delete_asked name.now)
@@ -51,6 +54,8 @@ fn remove_checkpoint<H: Host>(alloc: Global, name: &Txt, host: &mut H) -> Result
     ensures cause { IfErr result (Refuses (H.counts host.old) (H.counts host.new)) }
     ensures crash { LeavesOnly H.moment H.left_since host.old host.new
         (LeftTo (delete_asked name.now) (H.told host.old)) }
+    ensures early { IfErr result (UnlessDiskFault (LeavesOnly
+        H.moment H.left_since host.old host.new (LeftUnwritten (H.told host.old)))) }
     ensures goes { H.goes_on host.old host.new }
 {
     if !is_good_name(name.as_str()) {
@@ -78,6 +83,8 @@ fn delete_settled<H: Host>(alloc: Global, name: &Txt, host: &mut H) -> Result<()
         (LeavesRefused (IsDeletedOrNot name.now) (H.told host.old) (H.told host.new)) }
     ensures only_reads { IfSome (H.told host.old) (λ s. get (points s.files) name.now ≡ None
         → OnlyReads H.told H.counts H.moment H.left_since H.goes_on host.old host.new) }
+    ensures early { IfErr result (UnlessDiskFault (OnlyReads
+        H.told H.counts H.moment H.left_since H.goes_on host.old host.new)) }
     ensures any_moment { IfSome (H.told host.old)
         (λ s. LeavesOnly H.moment H.left_since host.old host.new
         (AreLeft (IsDeletedOrNot name.now) s)) }

@@ -12,7 +12,7 @@ ghost use Rattle.gcu_inputs.specs.Reads.{ReadsFiles};
 ghost use Rattle.gcu_requests.specs.Asked.{migrate_asked, migration_asked, old_asked};
 ghost use Rattle.gcu_requests.specs.Request.{migrate_checkpoints as migration_of};
 ghost use Rattle.gcu_engine.specs.Answers.{HasCause, IsRefusal};
-ghost use Rattle.gcu_engine.specs.Commands.{AnswersTo, CompleteTo, IsReady, LeftTo, LeftToMigration};
+ghost use Rattle.gcu_engine.specs.Commands.{AnswersTo, CompleteTo, IsReady, LeftTo, LeftToMigration, LeftUnwritten};
 ghost use Rattle.gcu_engine.specs.FaultLines.{line_at};
 ghost use Rattle.gcu_engine.specs.Migrating.{LeftMigrating};
 ghost use Rattle.gcu_engine.specs.MigrationEnds.{EndsMigration, HasLines};
@@ -48,6 +48,9 @@ pub(crate) fn migrate_checkpoints<H: Host>(alloc: Global, host: &mut H) -> Outco
     ensures counts { NoneFell (H.counts host.old) (H.counts host.new) }
     ensures crash { LeavesOnly H.moment H.left_since host.old host.new
         (LeftToMigration migrate_asked (H.told host.old)) }
+    // After a refusal, want of memory too, nothing was written before.
+    ensures early { IsRefusal result → LeavesOnly H.moment H.left_since host.old host.new
+        (LeftUnwritten (H.told host.old)) }
     ensures goes { H.goes_on host.old host.new }
     ensures form { result ≡ usage → ⊥ }
     ensures complete { CompleteTo migrate_asked
@@ -74,6 +77,8 @@ fn make_ready<H: Host>(alloc: Global, host: &mut H) -> Result<ReadyMigration, Ou
     ensures cause { IfErr result (Refuses (H.counts host.old) (H.counts host.new)) }
     ensures crash { LeavesOnly H.moment H.left_since host.old host.new
         (LeftTo migrate_asked (H.told host.old)) }
+    ensures early { LeavesOnly H.moment H.left_since host.old host.new
+        (LeftUnwritten (H.told host.old)) }
     ensures goes { H.goes_on host.old host.new }
 {
     match host.settle() {

@@ -13,8 +13,8 @@ ghost use Rattle.gcu_output.specs.declared.outcomes.Outcome.TheVariants.{Usage a
 ghost use Rattle.gcu_inputs.specs.Preparing.{Finds, Refuses};
 ghost use Rattle.gcu_requests.specs.Asked.{absent_asked, save_asked};
 ghost use Rattle.gcu_requests.specs.Request.{save_checkpoint as saving_of};
-ghost use Rattle.gcu_engine.specs.Answers.{HasCause};
-ghost use Rattle.gcu_engine.specs.Commands.{AnswersTo, CompleteTo, IsReady, LeavesRefused, LeftTo};
+ghost use Rattle.gcu_engine.specs.Answers.{HasCause, IsRefusal};
+ghost use Rattle.gcu_engine.specs.Commands.{AnswersTo, CompleteTo, IsReady, LeavesRefused, LeftTo, LeftUnwritten, UnlessDiskFault};
 
 use crate::Outcome;
 use checkpoints::{PointError, is_good_name, save};
@@ -34,6 +34,9 @@ pub(crate) fn save_checkpoint<H: Host>(alloc: Global, name: &Txt, host: &mut H) 
     ensures counts { NoneFell (H.counts host.old) (H.counts host.new) }
     ensures crash { LeavesOnly H.moment H.left_since host.old host.new
         (LeftTo (save_asked name.now) (H.told host.old)) }
+    // After a refusal, want of memory too, nothing was written before.
+    ensures early { IsRefusal result → LeavesOnly H.moment H.left_since host.old host.new
+        (LeftUnwritten (H.told host.old)) }
     ensures goes { H.goes_on host.old host.new }
     ensures form { result ≡ usage → ⊥ }
     ensures complete { CompleteTo (save_asked name.now)
@@ -52,6 +55,8 @@ fn add_checkpoint<H: Host>(alloc: Global, name: &Txt, host: &mut H) -> Result<()
     ensures cause { IfErr result (Refuses (H.counts host.old) (H.counts host.new)) }
     ensures crash { LeavesOnly H.moment H.left_since host.old host.new
         (LeftTo (save_asked name.now) (H.told host.old)) }
+    ensures early { IfErr result (UnlessDiskFault (LeavesOnly
+        H.moment H.left_since host.old host.new (LeftUnwritten (H.told host.old)))) }
     ensures goes { H.goes_on host.old host.new }
 {
     if !is_good_name(name.as_str()) {
@@ -85,6 +90,8 @@ fn save_config<H: Host>(
         (LeavesRefused (IsSavedOrNot name.now config.now) (H.told host.old) (H.told host.new)) }
     ensures only_reads { IfSome (H.told host.old) (λ s. IsInTheWay name.now s.files
         → OnlyReads H.told H.counts H.moment H.left_since H.goes_on host.old host.new) }
+    ensures early { IfErr result (UnlessDiskFault (OnlyReads
+        H.told H.counts H.moment H.left_since H.goes_on host.old host.new)) }
     ensures any_moment { IfSome (H.told host.old)
         (λ s. LeavesOnly H.moment H.left_since host.old host.new
         (AreLeft (IsSavedOrNot name.now config.now) s)) }

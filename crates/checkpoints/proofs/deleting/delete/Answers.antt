@@ -2,12 +2,18 @@ use Rattle.std.proofs.Common.{inl, sym, ◌∙◌, subst, option_map, None, ◌�
 use Rattle.std.proofs.lemmas.Result.{err_from_is_err_and}
 use Rattle.host_core.specs.State.{ListsOrNot, after_listing, with_file}
 use Rattle.conf_store.specs.Changes.{Changes}
-use Rattle.checkpoints.specs.Changes.{IsDeleted, IsDeletedOrNot, LeavesOf}
+use Rattle.conf_store.specs.Reads.{OnlyReads}
+use Rattle.checkpoints.specs.Changes.{IsDeleted, IsDeletedOrNot, LeavesOf, UnlessDisk}
 use Rattle.checkpoints.proofs.FileChanges.{deleted_or_not, deletes, lists, not_deleted}
-use Rattle.checkpoints.proofs.Moments.{goes_on, leaves_unchanged, of_each_err, reads_on, settled_changes}
+use Rattle.checkpoints.proofs.Moments.{goes_on, leaves_unchanged, of_each_err, reads_on, settled_changes, unless_disk}
 use Rattle.checkpoints.proofs.deleting.delete.Goals as goal
 
 -- ---- where a call fails
+
+pub returns-in_err-file-clause-early : goal.returns-in_err-file-clause-early
+returns-in_err-file-clause-early g c =
+    let reads = OnlyReads g.H.Host.told g.H.Host.counts g.H.Host.moment g.H.Host.left_since g.H.Host.goes_on c.args.host.now c.read_point.new.host in
+    of_each_err (UnlessDisk reads) c.from_residual.result (unless_disk reads c.read_point.ensures.reads)
 
 pub returns-in_err-file-clause-err : goal.returns-in_err-file-clause-err
 returns-in_err-file-clause-err g c =

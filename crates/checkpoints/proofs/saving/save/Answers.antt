@@ -1,14 +1,20 @@
 use Rattle.std.proofs.Common.{◌≡◌, ◌∙◌, option_map, subst}
 use Rattle.std.proofs.lemmas.Result.{err_from_is_err_and}
 use Rattle.conf_store.specs.Changes.{Changes}
+use Rattle.conf_store.specs.Reads.{OnlyReads}
 use Rattle.conf_store.specs.Puts.{IsPutOrNot, after_put}
-use Rattle.checkpoints.specs.Changes.{IsSavedOrNot, LeavesOf}
+use Rattle.checkpoints.specs.Changes.{IsSavedOrNot, LeavesOf, UnlessDisk}
 use Rattle.checkpoints.specs.Names.{point_file}
 use Rattle.checkpoints.proofs.FileChanges.{not_saved, saved_told, saves}
-use Rattle.checkpoints.proofs.Moments.{AtAnyMoment, changes_on, changes_weaker, leaves_unchanged, of_each_err, reads_on}
+use Rattle.checkpoints.proofs.Moments.{AtAnyMoment, changes_on, changes_weaker, leaves_unchanged, of_each_err, reads_on, unless_disk}
 use Rattle.checkpoints.proofs.saving.save.Goals as goal
 
 -- ---- where a call fails
+
+pub returns-in_err-file-clause-early : goal.returns-in_err-file-clause-early
+returns-in_err-file-clause-early g c =
+    let reads = OnlyReads g.H.Host.told g.H.Host.counts g.H.Host.moment g.H.Host.left_since g.H.Host.goes_on c.args.host.now c.prepare_point.new.host in
+    of_each_err (UnlessDisk reads) c.from_residual.result (unless_disk reads c.prepare_point.ensures.reads)
 
 pub returns-in_err-file-clause-err : goal.returns-in_err-file-clause-err
 returns-in_err-file-clause-err g c =

@@ -3,6 +3,7 @@ use Rattle.gcu_requests.specs.InterruptionAsked.{abandon_asked}
 use Rattle.gcu_engine.proofs.Causes.{disk_fell, ended_cause}
 use Rattle.gcu_engine.proofs.Completing.{completes}
 use Rattle.gcu_engine.proofs.Elapsing.{asking_prints}
+use Rattle.gcu_engine.proofs.Unwritten.{unwritten_tells}
 use Rattle.gcu_engine.proofs.Writing.{comes_first, outcome_cause, told_answers}
 use Rattle.gcu_engine.proofs.abandon.abandon.Goals as goal
 
@@ -28,6 +29,12 @@ returns-clause-crash g c =
     (outcome_of c.give_up-done.result) c.give_up-done.ensures.left
     c.give_up-done.ensures.crash
     (λ left later may. g.met.H.Host.counts_now c.give_up-done.new.host (g.H.Host.moment c.args.host.now) left later may) c.tell.ensures.time
+
+pub returns-clause-early : goal.returns-clause-early
+returns-clause-early g c = λ refusal.
+    unwritten_tells g.H.Host.moment g.H.Host.left_since abandon_asked (g.H.Host.told c.args.host.now) (g.H.Host.told c.give_up-done.new.host) (g.H.Host.told c.tell.new.host) c.give_up-done.result
+    (g.H.Host.counts c.args.host.now) (g.H.Host.counts c.give_up-done.new.host) (g.H.Host.counts c.give_up-done.new.host) (g.H.Host.counts c.tell.new.host) c.tell.result
+    c.args.host.now c.give_up-done.new.host c.tell.new.host c.give_up-done.ensures.left c.give_up-done.ensures.cause c.give_up-done.ensures.early c.tell.ensures.told c.tell.ensures.time refusal
 
 pub returns-clause-complete : goal.returns-clause-complete
 returns-clause-complete g c =

@@ -1,6 +1,6 @@
-use Rattle.std.proofs.Common.{◌≡◌, Ok, refl, ◌∙◌, sym, subst}
+use Rattle.std.proofs.Common.{◌≡◌, inr, Ok, refl, ◌∙◌, sym, subst}
 use Rattle.std.proofs.lemmas.Result.{err_from_is_err_and}
-use Rattle.host_core.specs.Crashes.{Elapses, MayLeaveNow}
+use Rattle.host_core.specs.Crashes.{Elapses, LeavesOnly, MayLeaveNow}
 use Rattle.change_apply.specs.Intents.{IsClosed, IsClosedOrNot}
 use Rattle.gcu_output.specs.declared.outcomes.Outcome.TheVariants.{DiskFault}
 use Rattle.gcu_inputs.specs.IntentAsked.{interrupted}
@@ -8,7 +8,9 @@ use Rattle.gcu_inputs.specs.Preparing.{Finds}
 use Rattle.gcu_requests.specs.InterruptionAsked.{abandon_asked}
 use Rattle.gcu_requests.specs.Request as request
 use Rattle.gcu_output.proofs.Elapsing.{elapses_both}
+use Rattle.gcu_engine.specs.Commands.{LeftUnwritten}
 use Rattle.gcu_engine.proofs.Abandoning.{abandon_found, abandoning, given, may_remove, none_found, settling_fault_found, settling_reads}
+use Rattle.gcu_engine.proofs.Unwritten.{only_fault, unless_fault, unwritten_reads}
 use Rattle.gcu_engine.proofs.Writing.{asking_goes_on, asking_settles, ready_before, ready_settled, ready_written, writes_within}
 use Rattle.gcu_engine.proofs.abandon.give_up.Goals as goal
 
@@ -42,6 +44,13 @@ returns-in_err-test_interrupted-in-Ok-clause-crash g c =
     (λ left since. g.met.H.Host.only_now c.args.host.now left since)
     (elapses_both g.H.Host.moment g.H.Host.left_since c.args.host.now c.settle.new.self c.test_interrupted.new.host (MayLeaveNow (g.H.Host.told c.settle.new.self)) c.settle.ensures.time c.test_interrupted.ensures.reads.time)
 
+pub returns-in_err-test_interrupted-in-Ok-clause-early : goal.returns-in_err-test_interrupted-in-Ok-clause-early
+returns-in_err-test_interrupted-in-Ok-clause-early g c =
+    let p = err_from_is_err_and c.from_residual.result c.from_residual.ensures.1 in
+    rw (p.1, p.2)
+    (unless_fault (LeavesOnly g.H.Host.moment g.H.Host.left_since c.args.host.now c.test_interrupted.new.host (LeftUnwritten (g.H.Host.told c.args.host.now))) (unwritten_reads g.H.Host.moment g.H.Host.left_since (g.H.Host.told c.args.host.now) (g.H.Host.told c.settle.new.self) c.args.host.now c.test_interrupted.new.host (inr c.in-Ok.ensures.ok)
+    (λ left since. g.met.H.Host.only_now c.args.host.now left since) (elapses_both g.H.Host.moment g.H.Host.left_since c.args.host.now c.settle.new.self c.test_interrupted.new.host (MayLeaveNow (g.H.Host.told c.settle.new.self)) c.settle.ensures.time c.test_interrupted.ensures.reads.time)) c.in_err-test_interrupted-in-Ok.field-0.0)
+
 -- ---- where one was
 
 pub remove_intent-requires-clause-ready : goal.remove_intent-requires-clause-ready
@@ -74,3 +83,7 @@ returns-in_ok-test_interrupted-in-Ok-clause-crash g c =
     (given (g.H.Host.told c.args.host.now) (g.H.Host.told c.test_interrupted.new.host)
     (Elapses g.H.Host.moment g.H.Host.left_since c.test_interrupted.new.host c.remove_intent.new.host (MayLeaveNow (g.H.Host.told c.test_interrupted.new.host))) is gate)
     c.remove_intent.ensures.later
+
+pub returns-in_ok-test_interrupted-in-Ok-clause-early : goal.returns-in_ok-test_interrupted-in-Ok-clause-early
+returns-in_ok-test_interrupted-in-Ok-clause-early g c =
+    only_fault (LeavesOnly g.H.Host.moment g.H.Host.left_since c.args.host.now c.remove_intent.new.host (LeftUnwritten (g.H.Host.told c.args.host.now))) c.remove_intent.result c.remove_intent.ensures.fault

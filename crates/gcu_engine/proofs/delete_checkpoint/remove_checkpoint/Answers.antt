@@ -1,7 +1,7 @@
-use Rattle.std.proofs.Common.{◌≡◌, ◌∙◌, true, false, None, Ok, Err, rules, refl, subst, sym}
+use Rattle.std.proofs.Common.{◌≡◌, inr, ◌∙◌, true, false, None, Ok, Err, rules, refl, subst, sym}
 use Rattle.std.specs.FinMap.{get}
 use Rattle.std.proofs.lemmas.Result.{err_from_is_err_and}
-use Rattle.host_core.specs.Crashes.{Elapses, MayLeaveNow}
+use Rattle.host_core.specs.Crashes.{Elapses, LeavesOnly, MayLeaveNow}
 use Rattle.conf_store.specs.Reads.{OnlyReads}
 use Rattle.checkpoints.specs.Changes.{IsDeleted, IsDeletedOrNot}
 use Rattle.checkpoints.specs.Names.{is_good_name}
@@ -14,7 +14,9 @@ use Rattle.gcu_requests.specs.Request.{delete_checkpoint}
 use Rattle.gcu_output.proofs.Elapsing.{elapses_both}
 use Rattle.gcu_inputs.proofs.Finding.{memory_found}
 use Rattle.gcu_engine.proofs.Deletions.{bad_name_found, deleting, interrupted_found, may_delete, settled_found, settling_fault_found, settling_reads}
+use Rattle.gcu_engine.specs.Commands.{LeftUnwritten}
 use Rattle.gcu_engine.proofs.Elapsing.{asking_begins}
+use Rattle.gcu_engine.proofs.Unwritten.{unless_fault, unless_weaker, unwritten_begins, unwritten_reads}
 use Rattle.gcu_engine.proofs.Writing.{FindsUnit, asking_goes_on, asking_settles, of_some, ready_before, ready_settled, ready_written, writes_within}
 use Rattle.gcu_engine.proofs.delete_checkpoint.remove_checkpoint.Goals as goal
 
@@ -32,6 +34,10 @@ pub returns-in_err-name-clause-crash : goal.returns-in_err-name-clause-crash
 returns-in_err-name-clause-crash g c =
     asking_begins g.H.Host.moment g.H.Host.left_since (delete_asked c.args.name.now) (g.H.Host.told c.args.host.now) c.args.host.now (λ left since. g.met.H.Host.only_now c.args.host.now left since)
 
+pub returns-in_err-name-clause-early : goal.returns-in_err-name-clause-early
+returns-in_err-name-clause-early g c =
+    let p = err_from_is_err_and c.from_residual.result c.from_residual.ensures.1 in rw (p.1, p.2) (unwritten_begins g.H.Host.moment g.H.Host.left_since (g.H.Host.told c.args.host.now) c.args.host.now (λ left since. g.met.H.Host.only_now c.args.host.now left since))
+
 pub returns-then-not-is_good_name-clause-left : goal.returns-then-not-is_good_name-clause-left
 returns-then-not-is_good_name-clause-left g c =
     let bad : is_good_name c.args.name.now ≡ false = search rules in
@@ -43,6 +49,9 @@ returns-then-not-is_good_name-clause-left g c =
 pub returns-then-not-is_good_name-clause-crash : goal.returns-then-not-is_good_name-clause-crash
 returns-then-not-is_good_name-clause-crash g c =
     asking_begins g.H.Host.moment g.H.Host.left_since (delete_asked c.args.name.now) (g.H.Host.told c.args.host.now) c.args.host.now (λ left since. g.met.H.Host.only_now c.args.host.now left since)
+
+pub returns-then-not-is_good_name-clause-early : goal.returns-then-not-is_good_name-clause-early
+returns-then-not-is_good_name-clause-early g c = unwritten_begins g.H.Host.moment g.H.Host.left_since (g.H.Host.told c.args.host.now) c.args.host.now (λ left since. g.met.H.Host.only_now c.args.host.now left since)
 
 -- ---- where a change was stopped
 
@@ -61,6 +70,13 @@ returns-in_err-test_uninterrupted-in-Ok-clause-crash g c =
     asking_settles g.H.Host.moment g.H.Host.left_since (delete_asked c.args.name.now) (g.H.Host.told c.args.host.now) (g.H.Host.told c.settle.new.self) c.args.host.now c.test_uninterrupted.new.host c.in-Ok.ensures.ok
     (λ left since. g.met.H.Host.only_now c.args.host.now left since)
     (elapses_both g.H.Host.moment g.H.Host.left_since c.args.host.now c.settle.new.self c.test_uninterrupted.new.host (MayLeaveNow (g.H.Host.told c.settle.new.self)) c.settle.ensures.time c.test_uninterrupted.ensures.reads.time)
+
+pub returns-in_err-test_uninterrupted-in-Ok-clause-early : goal.returns-in_err-test_uninterrupted-in-Ok-clause-early
+returns-in_err-test_uninterrupted-in-Ok-clause-early g c =
+    let p = err_from_is_err_and c.from_residual-in_err-test_uninterrupted-in-Ok.result c.from_residual-in_err-test_uninterrupted-in-Ok.ensures.1 in
+    rw (p.1, p.2)
+    (unless_fault (LeavesOnly g.H.Host.moment g.H.Host.left_since c.args.host.now c.test_uninterrupted.new.host (LeftUnwritten (g.H.Host.told c.args.host.now))) (unwritten_reads g.H.Host.moment g.H.Host.left_since (g.H.Host.told c.args.host.now) (g.H.Host.told c.settle.new.self) c.args.host.now c.test_uninterrupted.new.host (inr c.in-Ok.ensures.ok)
+    (λ left since. g.met.H.Host.only_now c.args.host.now left since) (elapses_both g.H.Host.moment g.H.Host.left_since c.args.host.now c.settle.new.self c.test_uninterrupted.new.host (MayLeaveNow (g.H.Host.told c.settle.new.self)) c.settle.ensures.time c.test_uninterrupted.ensures.reads.time)) c.in_err-test_uninterrupted-in-Ok.field-0.0)
 
 -- ---- once it is settled
 
@@ -99,6 +115,17 @@ returns-in_ok-test_uninterrupted-in-Ok-clause-crash g c =
     (λ s. get (points s.files) c.args.name.now ≡ None → Elapses g.H.Host.moment g.H.Host.left_since c.test_uninterrupted.new.host c.delete_settled.new.host (MayLeaveNow (g.H.Host.told c.test_uninterrupted.new.host)))
     (λ s h absent. (h absent).time) c.delete_settled.ensures.only_reads))
     c.delete_settled.ensures.later
+
+pub returns-in_ok-test_uninterrupted-in-Ok-clause-early : goal.returns-in_ok-test_uninterrupted-in-Ok-clause-early
+returns-in_ok-test_uninterrupted-in-Ok-clause-early g c =
+    let settled_told = g.H.Host.told c.settle.new.self in
+    let so_far = elapses_both g.H.Host.moment g.H.Host.left_since c.args.host.now c.settle.new.self c.test_uninterrupted.new.host (MayLeaveNow (g.H.Host.told c.settle.new.self)) c.settle.ensures.time c.test_uninterrupted.ensures.reads.time in
+    unless_weaker (OnlyReads g.H.Host.told g.H.Host.counts g.H.Host.moment g.H.Host.left_since g.H.Host.goes_on c.test_uninterrupted.new.host c.delete_settled.new.host) (LeavesOnly g.H.Host.moment g.H.Host.left_since c.args.host.now c.delete_settled.new.host (LeftUnwritten (g.H.Host.told c.args.host.now)))
+    (λ reads.
+    unwritten_reads g.H.Host.moment g.H.Host.left_since (g.H.Host.told c.args.host.now) settled_told c.args.host.now c.delete_settled.new.host (inr c.in-Ok.ensures.ok) (λ left since. g.met.H.Host.only_now c.args.host.now left since)
+    (elapses_both g.H.Host.moment g.H.Host.left_since c.args.host.now c.test_uninterrupted.new.host c.delete_settled.new.host (MayLeaveNow settled_told) so_far
+    (subst (λ o. Elapses g.H.Host.moment g.H.Host.left_since c.test_uninterrupted.new.host c.delete_settled.new.host (MayLeaveNow o)) c.test_uninterrupted.ensures.reads.state reads.time)))
+    c.delete_settled.result c.delete_settled.ensures.early
 
 -- ---- where that fails
 

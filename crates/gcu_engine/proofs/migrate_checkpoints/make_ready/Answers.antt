@@ -1,4 +1,4 @@
-use Rattle.std.proofs.Common.{◌≡◌, option_map, refl, ◌∙◌}
+use Rattle.std.proofs.Common.{◌≡◌, inl, inr, option_map, refl, ◌∙◌}
 use Rattle.host_core.specs.Crashes.{MayLeaveNow}
 use Rattle.host_core.specs.State.{settled, with_pending}
 use Rattle.gcu_output.proofs.Elapsing.{elapses_both}
@@ -6,6 +6,7 @@ use Rattle.gcu_requests.specs.Asked.{migrate_asked}
 use Rattle.gcu_engine.proofs.Causes.{disk_fell}
 use Rattle.gcu_engine.proofs.MigrationReadiness.{due_ready, gives_ready, left_ready, refused_since, unsettled_ready}
 use Rattle.gcu_engine.proofs.Readiness.{of_ok}
+use Rattle.gcu_engine.proofs.Unwritten.{unwritten_reads}
 use Rattle.gcu_engine.proofs.Writing.{asking_goes_on, asking_settles}
 use Rattle.gcu_engine.proofs.migrate_checkpoints.make_ready.Goals as goal
 
@@ -39,6 +40,11 @@ returns-in-Ok-clause-crash g c =
     (λ left since. g.met.H.Host.only_now c.args.host.now left since)
     (elapses_both g.H.Host.moment g.H.Host.left_since c.args.host.now c.settle.new.self c.ready_settled.new.host (MayLeaveNow (g.H.Host.told c.settle.new.self)) c.settle.ensures.time c.ready_settled.ensures.reads.time)
 
+pub returns-in-Ok-clause-early : goal.returns-in-Ok-clause-early
+returns-in-Ok-clause-early g c =
+    unwritten_reads g.H.Host.moment g.H.Host.left_since (g.H.Host.told c.args.host.now) (g.H.Host.told c.settle.new.self) c.args.host.now c.ready_settled.new.host (inr c.in-Ok.ensures.ok) (λ left since. g.met.H.Host.only_now c.args.host.now left since)
+    (elapses_both g.H.Host.moment g.H.Host.left_since c.args.host.now c.settle.new.self c.ready_settled.new.host (MayLeaveNow (g.H.Host.told c.settle.new.self)) c.settle.ensures.time c.ready_settled.ensures.reads.time)
+
 pub returns-in-Ok-clause-goes : goal.returns-in-Ok-clause-goes
 returns-in-Ok-clause-goes g c =
     g.met.H.Host.continues c.args.host.now c.settle.new.self c.ready_settled.new.host c.settle.ensures.goes c.ready_settled.ensures.reads.goes
@@ -56,3 +62,7 @@ pub returns-in-Err-clause-crash : goal.returns-in-Err-clause-crash
 returns-in-Err-clause-crash g c =
     asking_goes_on g.H.Host.moment g.H.Host.left_since migrate_asked (g.H.Host.told c.args.host.now) (g.H.Host.told c.settle.new.self) c.args.host.now c.settle.new.self c.in-Err.ensures.err
     (λ left since. g.met.H.Host.only_now c.args.host.now left since) c.settle.ensures.time
+
+pub returns-in-Err-clause-early : goal.returns-in-Err-clause-early
+returns-in-Err-clause-early g c =
+    unwritten_reads g.H.Host.moment g.H.Host.left_since (g.H.Host.told c.args.host.now) (g.H.Host.told c.settle.new.self) c.args.host.now c.settle.new.self (inl c.in-Err.ensures.err) (λ left since. g.met.H.Host.only_now c.args.host.now left since) c.settle.ensures.time

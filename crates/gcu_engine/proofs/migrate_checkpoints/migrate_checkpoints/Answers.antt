@@ -1,11 +1,14 @@
 use Rattle.std.proofs.Common.{Err}
+use Rattle.host_core.specs.Crashes.{LeavesOnly}
 use Rattle.gcu_requests.specs.Asked.{migrate_asked}
+use Rattle.gcu_engine.specs.Commands.{LeftUnwritten}
 use Rattle.gcu_engine.proofs.Causes.{ended_cause}
 use Rattle.gcu_engine.proofs.Changes.{cause_from}
 use Rattle.gcu_engine.proofs.Completing.{completes}
 use Rattle.gcu_engine.proofs.Elapsing.{asking_prints}
 use Rattle.gcu_engine.proofs.MigrationReadiness.{early_leaves, migration_answers, migration_leaves}
 use Rattle.gcu_engine.proofs.Readiness.{settled_now}
+use Rattle.gcu_engine.proofs.Unwritten.{unless_fault, unwritten_tells}
 use Rattle.gcu_engine.proofs.Writing.{comes_first, outcome_cause, told_answers}
 use Rattle.gcu_engine.proofs.migrate_checkpoints.migrate_checkpoints.Goals as goal
 
@@ -28,6 +31,9 @@ pub returns-in-Ok-clause-crash : goal.returns-in-Ok-clause-crash
 returns-in-Ok-clause-crash g c =
     migration_leaves g.H.Host.moment g.H.Host.left_since (g.H.Host.told c.args.host.now) (g.H.Host.told c.make_ready.new.host) c.in-Ok.ready.migration
     c.args.host.now c.make_ready.new.host c.do_migration.new.host c.in-Ok.ensures.ready c.in-Ok.ensures.told c.make_ready.ensures.crash c.do_migration.ensures.any_moment c.do_migration.ensures.later
+
+pub returns-in-Ok-clause-early : goal.returns-in-Ok-clause-early
+returns-in-Ok-clause-early g c = λ refusal. absurd (c.do_migration.ensures.works refusal)
 
 pub returns-in-Ok-clause-goes : goal.returns-in-Ok-clause-goes
 returns-in-Ok-clause-goes g c =
@@ -61,6 +67,14 @@ returns-in-Err-clause-crash g c =
     (asking_prints g.H.Host.moment g.H.Host.left_since migrate_asked c.args.host.now c.make_ready.new.host c.tell.new.host
     (g.H.Host.told c.args.host.now) (g.H.Host.told c.make_ready.new.host) c.in-Err.refusal c.in-Err.ensures.left c.make_ready.ensures.crash
     (λ left later may. g.met.H.Host.counts_now c.make_ready.new.host (g.H.Host.moment c.args.host.now) left later may) c.tell.ensures.time)
+
+pub returns-in-Err-clause-early : goal.returns-in-Err-clause-early
+returns-in-Err-clause-early g c = λ refusal.
+    unwritten_tells g.H.Host.moment g.H.Host.left_since migrate_asked (g.H.Host.told c.args.host.now) (g.H.Host.told c.make_ready.new.host) (g.H.Host.told c.tell.new.host) (Err c.in-Err.refusal)
+    (g.H.Host.counts c.args.host.now) (g.H.Host.counts c.make_ready.new.host) (g.H.Host.counts c.make_ready.new.host) (g.H.Host.counts c.tell.new.host) c.tell.result
+    c.args.host.now c.make_ready.new.host c.tell.new.host c.in-Err.ensures.left c.in-Err.ensures.cause
+    (unless_fault (LeavesOnly g.H.Host.moment g.H.Host.left_since c.args.host.now c.make_ready.new.host (LeftUnwritten (g.H.Host.told c.args.host.now))) c.make_ready.ensures.early c.in-Err.refusal)
+    c.tell.ensures.told c.tell.ensures.time refusal
 
 pub returns-in-Err-clause-goes : goal.returns-in-Err-clause-goes
 returns-in-Err-clause-goes g c =

@@ -10,7 +10,7 @@ use Rattle.gcu_words.specs.declared.form.Form.{Form}
 use Rattle.gcu_engine.specs.Answers.{TellsUsage}
 use Rattle.gcu_engine.proofs.Causes.{reads_fell}
 use Rattle.gcu_engine.proofs.Completing.{complete_by}
-use Rattle.gcu_engine.proofs.Headlines.{change_headline, headline}
+use Rattle.gcu_engine.proofs.Headlines.{change_headline, early_headline, headline}
 use Rattle.gcu_engine.proofs.Elapsing.{changes_by, command_leaves, command_leaves_behind, leaves_by, migrates_by}
 use Rattle.gcu_engine.proofs.Answering.{answers_by, said_answers, done_completes, said_completes, no_form_says, preview_says, preview_refuses, refused_cause}
 use Rattle.gcu_engine.proofs.Intending.{keeps_intent}
@@ -252,72 +252,72 @@ returns-in-CheckPlan-clause-complete g c words is =
 pub returns-in-Unknown-clause-headline : goal.returns-in-Unknown-clause-headline
 returns-in-Unknown-clause-headline g c words is =
     headline g.H.Host.moment g.H.Host.left_since words _ (g.H.Host.told c.args.host.now) (g.H.Host.told c.refuse_words.new.host) c.args.host.now c.refuse_words.new.host
-    (g.H.Host.counts c.args.host.now) (g.H.Host.counts c.refuse_words.new.host) c.refuse_words.result (of words c.args.command _ is c.in-Unknown.is) tt c.asked_has_one_answer.ensures (returns-in-Unknown-clause-answers g c words is) (returns-in-Unknown-clause-crash g c words is)
+    (g.H.Host.counts c.args.host.now) (g.H.Host.counts c.refuse_words.new.host) c.refuse_words.result (of words c.args.command _ is c.in-Unknown.is) tt (returns-in-Unknown-clause-answers g c words is) (returns-in-Unknown-clause-crash g c words is)
 
 pub returns-in-Ok-clause-headline : goal.returns-in-Ok-clause-headline
 returns-in-Ok-clause-headline g c words is =
     headline g.H.Host.moment g.H.Host.left_since words _ (g.H.Host.told c.args.host.now) (g.H.Host.told c.show.new.host) c.args.host.now c.show.new.host
-    (g.H.Host.counts c.args.host.now) (g.H.Host.counts c.show.new.host) c.show.result (of words c.args.command _ is c.in-Preview.is) tt c.asked_has_one_answer.ensures (returns-in-Ok-clause-answers g c words is) (returns-in-Ok-clause-crash g c words is)
+    (g.H.Host.counts c.args.host.now) (g.H.Host.counts c.show.new.host) c.show.result (of words c.args.command _ is c.in-Preview.is) tt (returns-in-Ok-clause-answers g c words is) (returns-in-Ok-clause-crash g c words is)
 
 pub returns-in-Err-clause-headline : goal.returns-in-Err-clause-headline
 returns-in-Err-clause-headline g c words is =
     headline g.H.Host.moment g.H.Host.left_since words _ (g.H.Host.told c.args.host.now) (g.H.Host.told c.say.new.host) c.args.host.now c.say.new.host
-    (g.H.Host.counts c.args.host.now) (g.H.Host.counts c.say.new.host) c.say.result (of words c.args.command _ is c.in-Preview.is) tt c.asked_has_one_answer.ensures (returns-in-Err-clause-answers g c words is) (returns-in-Err-clause-crash g c words is)
+    (g.H.Host.counts c.args.host.now) (g.H.Host.counts c.say.new.host) c.say.result (of words c.args.command _ is c.in-Preview.is) tt (returns-in-Err-clause-answers g c words is) (returns-in-Err-clause-crash g c words is)
 
 pub returns-in-Check-clause-headline : goal.returns-in-Check-clause-headline
 returns-in-Check-clause-headline g c words is =
     headline g.H.Host.moment g.H.Host.left_since words _ (g.H.Host.told c.args.host.now) (g.H.Host.told c.check.new.host) c.args.host.now c.check.new.host
-    (g.H.Host.counts c.args.host.now) (g.H.Host.counts c.check.new.host) c.check.result (of words c.args.command _ is c.in-Check.is) tt c.asked_has_one_answer.ensures (returns-in-Check-clause-answers g c words is) (returns-in-Check-clause-crash g c words is)
+    (g.H.Host.counts c.args.host.now) (g.H.Host.counts c.check.new.host) c.check.result (of words c.args.command _ is c.in-Check.is) tt (returns-in-Check-clause-answers g c words is) (returns-in-Check-clause-crash g c words is)
 
 pub returns-in-ListCheckpoints-clause-headline : goal.returns-in-ListCheckpoints-clause-headline
 returns-in-ListCheckpoints-clause-headline g c words is =
     headline g.H.Host.moment g.H.Host.left_since words _ (g.H.Host.told c.args.host.now) (g.H.Host.told c.list_checkpoints.new.host) c.args.host.now c.list_checkpoints.new.host
-    (g.H.Host.counts c.args.host.now) (g.H.Host.counts c.list_checkpoints.new.host) c.list_checkpoints.result (of words c.args.command _ is c.in-ListCheckpoints.is) tt c.asked_has_one_answer.ensures (returns-in-ListCheckpoints-clause-answers g c words is) (returns-in-ListCheckpoints-clause-crash g c words is)
+    (g.H.Host.counts c.args.host.now) (g.H.Host.counts c.list_checkpoints.new.host) c.list_checkpoints.result (of words c.args.command _ is c.in-ListCheckpoints.is) tt (returns-in-ListCheckpoints-clause-answers g c words is) (returns-in-ListCheckpoints-clause-crash g c words is)
 
 pub returns-in-MigrateCheckpoints-clause-headline : goal.returns-in-MigrateCheckpoints-clause-headline
 returns-in-MigrateCheckpoints-clause-headline g c words is =
-    headline g.H.Host.moment g.H.Host.left_since words _ (g.H.Host.told c.args.host.now) (g.H.Host.told c.migrate_checkpoints.new.host) c.args.host.now c.migrate_checkpoints.new.host
-    (g.H.Host.counts c.args.host.now) (g.H.Host.counts c.migrate_checkpoints.new.host) c.migrate_checkpoints.result (of words c.args.command _ is c.in-MigrateCheckpoints.is) tt c.asked_has_one_answer.ensures (returns-in-MigrateCheckpoints-clause-answers g c words is) (returns-in-MigrateCheckpoints-clause-crash g c words is)
+    early_headline g.H.Host.moment g.H.Host.left_since words (g.H.Host.told c.args.host.now) (g.H.Host.told c.migrate_checkpoints.new.host) c.args.host.now c.migrate_checkpoints.new.host
+    (g.H.Host.counts c.args.host.now) (g.H.Host.counts c.migrate_checkpoints.new.host) c.migrate_checkpoints.result (returns-in-MigrateCheckpoints-clause-answers g c words is) (returns-in-MigrateCheckpoints-clause-crash g c words is) c.migrate_checkpoints.ensures.early
 
 pub returns-in-SaveCheckpoint-clause-headline : goal.returns-in-SaveCheckpoint-clause-headline
 returns-in-SaveCheckpoint-clause-headline g c words is =
-    headline g.H.Host.moment g.H.Host.left_since words _ (g.H.Host.told c.args.host.now) (g.H.Host.told c.save_checkpoint.new.host) c.args.host.now c.save_checkpoint.new.host
-    (g.H.Host.counts c.args.host.now) (g.H.Host.counts c.save_checkpoint.new.host) c.save_checkpoint.result (of words c.args.command _ is c.in-SaveCheckpoint.is) tt c.asked_has_one_answer.ensures (returns-in-SaveCheckpoint-clause-answers g c words is) (returns-in-SaveCheckpoint-clause-crash g c words is)
+    early_headline g.H.Host.moment g.H.Host.left_since words (g.H.Host.told c.args.host.now) (g.H.Host.told c.save_checkpoint.new.host) c.args.host.now c.save_checkpoint.new.host
+    (g.H.Host.counts c.args.host.now) (g.H.Host.counts c.save_checkpoint.new.host) c.save_checkpoint.result (returns-in-SaveCheckpoint-clause-answers g c words is) (returns-in-SaveCheckpoint-clause-crash g c words is) c.save_checkpoint.ensures.early
 
 pub returns-in-DeleteCheckpoint-clause-headline : goal.returns-in-DeleteCheckpoint-clause-headline
 returns-in-DeleteCheckpoint-clause-headline g c words is =
-    headline g.H.Host.moment g.H.Host.left_since words _ (g.H.Host.told c.args.host.now) (g.H.Host.told c.delete_checkpoint.new.host) c.args.host.now c.delete_checkpoint.new.host
-    (g.H.Host.counts c.args.host.now) (g.H.Host.counts c.delete_checkpoint.new.host) c.delete_checkpoint.result (of words c.args.command _ is c.in-DeleteCheckpoint.is) tt c.asked_has_one_answer.ensures (returns-in-DeleteCheckpoint-clause-answers g c words is) (returns-in-DeleteCheckpoint-clause-crash g c words is)
+    early_headline g.H.Host.moment g.H.Host.left_since words (g.H.Host.told c.args.host.now) (g.H.Host.told c.delete_checkpoint.new.host) c.args.host.now c.delete_checkpoint.new.host
+    (g.H.Host.counts c.args.host.now) (g.H.Host.counts c.delete_checkpoint.new.host) c.delete_checkpoint.result (returns-in-DeleteCheckpoint-clause-answers g c words is) (returns-in-DeleteCheckpoint-clause-crash g c words is) c.delete_checkpoint.ensures.early
 
 pub returns-in-Plan-clause-headline : goal.returns-in-Plan-clause-headline
 returns-in-Plan-clause-headline g c words is =
     headline g.H.Host.moment g.H.Host.left_since words _ (g.H.Host.told c.args.host.now) (g.H.Host.told c.dry_run.new.host) c.args.host.now c.dry_run.new.host
-    (g.H.Host.counts c.args.host.now) (g.H.Host.counts c.dry_run.new.host) c.dry_run.result (of words c.args.command _ is c.in-Plan.is) tt c.asked_has_one_answer.ensures (returns-in-Plan-clause-answers g c words is) (returns-in-Plan-clause-crash g c words is)
+    (g.H.Host.counts c.args.host.now) (g.H.Host.counts c.dry_run.new.host) c.dry_run.result (of words c.args.command _ is c.in-Plan.is) tt (returns-in-Plan-clause-answers g c words is) (returns-in-Plan-clause-crash g c words is)
 
 pub returns-in-Change-clause-headline : goal.returns-in-Change-clause-headline
 returns-in-Change-clause-headline g c words is =
     change_headline g.H.Host.moment g.H.Host.left_since words (task_view c.in-Change.task) c.in-Change.options.budget (g.H.Host.told c.args.host.now) (g.H.Host.told c.change.new.host) c.args.host.now c.change.new.host
-    (g.H.Host.counts c.args.host.now) (g.H.Host.counts c.change.new.host) c.change.result c.asked_has_one_answer.ensures (returns-in-Change-clause-answers g c words is) (returns-in-Change-clause-crash g c words is) c.change.ensures.early
+    (g.H.Host.counts c.args.host.now) (g.H.Host.counts c.change.new.host) c.change.result (returns-in-Change-clause-answers g c words is) (returns-in-Change-clause-crash g c words is) c.change.ensures.early
 
 pub returns-in-Status-clause-headline : goal.returns-in-Status-clause-headline
 returns-in-Status-clause-headline g c words is =
     headline g.H.Host.moment g.H.Host.left_since words _ (g.H.Host.told c.args.host.now) (g.H.Host.told c.status.new.host) c.args.host.now c.status.new.host
-    (g.H.Host.counts c.args.host.now) (g.H.Host.counts c.status.new.host) c.status.result (of words c.args.command _ is c.in-Status.is) tt c.asked_has_one_answer.ensures (returns-in-Status-clause-answers g c words is) (returns-in-Status-clause-crash g c words is)
+    (g.H.Host.counts c.args.host.now) (g.H.Host.counts c.status.new.host) c.status.result (of words c.args.command _ is c.in-Status.is) tt (returns-in-Status-clause-answers g c words is) (returns-in-Status-clause-crash g c words is)
 
 pub returns-in-Abandon-clause-headline : goal.returns-in-Abandon-clause-headline
 returns-in-Abandon-clause-headline g c words is =
-    headline g.H.Host.moment g.H.Host.left_since words _ (g.H.Host.told c.args.host.now) (g.H.Host.told c.abandon.new.host) c.args.host.now c.abandon.new.host
-    (g.H.Host.counts c.args.host.now) (g.H.Host.counts c.abandon.new.host) c.abandon.result (of words c.args.command _ is c.in-Abandon.is) tt c.asked_has_one_answer.ensures (returns-in-Abandon-clause-answers g c words is) (returns-in-Abandon-clause-crash g c words is)
+    early_headline g.H.Host.moment g.H.Host.left_since words (g.H.Host.told c.args.host.now) (g.H.Host.told c.abandon.new.host) c.args.host.now c.abandon.new.host
+    (g.H.Host.counts c.args.host.now) (g.H.Host.counts c.abandon.new.host) c.abandon.result (returns-in-Abandon-clause-answers g c words is) (returns-in-Abandon-clause-crash g c words is) c.abandon.ensures.early
 
 pub returns-in-Demo-clause-headline : goal.returns-in-Demo-clause-headline
 returns-in-Demo-clause-headline g c words is =
     headline g.H.Host.moment g.H.Host.left_since words _ (g.H.Host.told c.args.host.now) (g.H.Host.told c.demo.new.host) c.args.host.now c.demo.new.host
-    (g.H.Host.counts c.args.host.now) (g.H.Host.counts c.demo.new.host) c.demo.result (of words c.args.command _ is c.in-Demo.is) tt c.asked_has_one_answer.ensures (returns-in-Demo-clause-answers g c words is) (returns-in-Demo-clause-crash g c words is)
+    (g.H.Host.counts c.args.host.now) (g.H.Host.counts c.demo.new.host) c.demo.result (of words c.args.command _ is c.in-Demo.is) tt (returns-in-Demo-clause-answers g c words is) (returns-in-Demo-clause-crash g c words is)
 
 pub returns-in-CheckPlan-clause-headline : goal.returns-in-CheckPlan-clause-headline
 returns-in-CheckPlan-clause-headline g c words is =
     headline g.H.Host.moment g.H.Host.left_since words _ (g.H.Host.told c.args.host.now) (g.H.Host.told c.check_plan.new.host) c.args.host.now c.check_plan.new.host
-    (g.H.Host.counts c.args.host.now) (g.H.Host.counts c.check_plan.new.host) c.check_plan.result (of words c.args.command _ is c.in-CheckPlan.is) tt c.asked_has_one_answer.ensures (returns-in-CheckPlan-clause-answers g c words is) (returns-in-CheckPlan-clause-crash g c words is)
+    (g.H.Host.counts c.args.host.now) (g.H.Host.counts c.check_plan.new.host) c.check_plan.result (of words c.args.command _ is c.in-CheckPlan.is) tt (returns-in-CheckPlan-clause-answers g c words is) (returns-in-CheckPlan-clause-crash g c words is)
 
 -- ---- the file intent
 

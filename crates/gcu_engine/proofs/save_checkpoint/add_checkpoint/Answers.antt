@@ -1,6 +1,6 @@
-use Rattle.std.proofs.Common.{◌≡◌, true, false, Ok, Err, rules, refl, subst, sym, ◌∙◌}
+use Rattle.std.proofs.Common.{◌≡◌, inr, true, false, Ok, Err, rules, refl, subst, sym, ◌∙◌}
 use Rattle.std.proofs.lemmas.Result.{err_from_is_err_and}
-use Rattle.host_core.specs.Crashes.{Elapses, MayLeaveNow}
+use Rattle.host_core.specs.Crashes.{Elapses, LeavesOnly, MayLeaveNow}
 use Rattle.conf_store.specs.Reads.{OnlyReads}
 use Rattle.checkpoints.specs.Answers.{IsInTheWay}
 use Rattle.checkpoints.specs.Changes.{IsSaved, IsSavedOrNot}
@@ -15,7 +15,9 @@ use Rattle.gcu_requests.specs.Request.{check, save_checkpoint}
 use Rattle.gcu_output.proofs.Elapsing.{elapses_both}
 use Rattle.gcu_inputs.proofs.Finding.{memory_found}
 use Rattle.gcu_engine.proofs.Savings.{bad_name_found, may_save, not_valid_found, saving, saving_found, settling_fault_found, settling_reads}
+use Rattle.gcu_engine.specs.Commands.{LeftUnwritten}
 use Rattle.gcu_engine.proofs.Elapsing.{asking_begins}
+use Rattle.gcu_engine.proofs.Unwritten.{unless_fault, unless_weaker, unwritten_begins, unwritten_reads}
 use Rattle.gcu_engine.proofs.Writing.{FindsUnit, asking_goes_on, asking_settles, of_some, ready_before, ready_settled, ready_written, writes_within}
 use Rattle.gcu_engine.proofs.save_checkpoint.add_checkpoint.Goals as goal
 
@@ -33,6 +35,10 @@ pub returns-in_err-name-clause-crash : goal.returns-in_err-name-clause-crash
 returns-in_err-name-clause-crash g c =
     asking_begins g.H.Host.moment g.H.Host.left_since (save_asked c.args.name.now) (g.H.Host.told c.args.host.now) c.args.host.now (λ left since. g.met.H.Host.only_now c.args.host.now left since)
 
+pub returns-in_err-name-clause-early : goal.returns-in_err-name-clause-early
+returns-in_err-name-clause-early g c =
+    let p = err_from_is_err_and c.from_residual.result c.from_residual.ensures.1 in rw (p.1, p.2) (unwritten_begins g.H.Host.moment g.H.Host.left_since (g.H.Host.told c.args.host.now) c.args.host.now (λ left since. g.met.H.Host.only_now c.args.host.now left since))
+
 pub returns-then-not-is_good_name-clause-left : goal.returns-then-not-is_good_name-clause-left
 returns-then-not-is_good_name-clause-left g c =
     let bad : is_good_name c.args.name.now ≡ false = search rules in
@@ -44,6 +50,9 @@ returns-then-not-is_good_name-clause-left g c =
 pub returns-then-not-is_good_name-clause-crash : goal.returns-then-not-is_good_name-clause-crash
 returns-then-not-is_good_name-clause-crash g c =
     asking_begins g.H.Host.moment g.H.Host.left_since (save_asked c.args.name.now) (g.H.Host.told c.args.host.now) c.args.host.now (λ left since. g.met.H.Host.only_now c.args.host.now left since)
+
+pub returns-then-not-is_good_name-clause-early : goal.returns-then-not-is_good_name-clause-early
+returns-then-not-is_good_name-clause-early g c = unwritten_begins g.H.Host.moment g.H.Host.left_since (g.H.Host.told c.args.host.now) c.args.host.now (λ left since. g.met.H.Host.only_now c.args.host.now left since)
 
 -- ---- where nothing is settled
 
@@ -76,6 +85,13 @@ returns-in_err-config-in-Ok-clause-crash g c =
     asking_settles g.H.Host.moment g.H.Host.left_since (save_asked c.args.name.now) (g.H.Host.told c.args.host.now) (g.H.Host.told c.settle.new.self) c.args.host.now c.judge_stored.new.host c.in-Ok.ensures.ok
     (λ left since. g.met.H.Host.only_now c.args.host.now left since)
     (elapses_both g.H.Host.moment g.H.Host.left_since c.args.host.now c.settle.new.self c.judge_stored.new.host (MayLeaveNow (g.H.Host.told c.settle.new.self)) c.settle.ensures.time c.judge_stored.ensures.reads.time)
+
+pub returns-in_err-config-in-Ok-clause-early : goal.returns-in_err-config-in-Ok-clause-early
+returns-in_err-config-in-Ok-clause-early g c =
+    let p = err_from_is_err_and c.from_residual-in_err-config-in-Ok.result c.from_residual-in_err-config-in-Ok.ensures.1 in
+    rw (p.1, p.2)
+    (unless_fault (LeavesOnly g.H.Host.moment g.H.Host.left_since c.args.host.now c.judge_stored.new.host (LeftUnwritten (g.H.Host.told c.args.host.now))) (unwritten_reads g.H.Host.moment g.H.Host.left_since (g.H.Host.told c.args.host.now) (g.H.Host.told c.settle.new.self) c.args.host.now c.judge_stored.new.host (inr c.in-Ok.ensures.ok)
+    (λ left since. g.met.H.Host.only_now c.args.host.now left since) (elapses_both g.H.Host.moment g.H.Host.left_since c.args.host.now c.settle.new.self c.judge_stored.new.host (MayLeaveNow (g.H.Host.told c.settle.new.self)) c.settle.ensures.time c.judge_stored.ensures.reads.time)) c.in_err-config-in-Ok.field-0.0)
 
 -- ---- once it is settled
 
@@ -118,3 +134,14 @@ returns-in_ok-config-in-Ok-clause-crash g c =
     (λ s. IsInTheWay c.args.name.now s.files → Elapses g.H.Host.moment g.H.Host.left_since c.judge_stored.new.host c.save_config.new.host (MayLeaveNow (g.H.Host.told c.judge_stored.new.host)))
     (λ s h there. (h there).time) c.save_config.ensures.only_reads))
     c.save_config.ensures.later
+
+pub returns-in_ok-config-in-Ok-clause-early : goal.returns-in_ok-config-in-Ok-clause-early
+returns-in_ok-config-in-Ok-clause-early g c =
+    let settled_told = g.H.Host.told c.settle.new.self in
+    let so_far = elapses_both g.H.Host.moment g.H.Host.left_since c.args.host.now c.settle.new.self c.judge_stored.new.host (MayLeaveNow (g.H.Host.told c.settle.new.self)) c.settle.ensures.time c.judge_stored.ensures.reads.time in
+    unless_weaker (OnlyReads g.H.Host.told g.H.Host.counts g.H.Host.moment g.H.Host.left_since g.H.Host.goes_on c.judge_stored.new.host c.save_config.new.host) (LeavesOnly g.H.Host.moment g.H.Host.left_since c.args.host.now c.save_config.new.host (LeftUnwritten (g.H.Host.told c.args.host.now)))
+    (λ reads.
+    unwritten_reads g.H.Host.moment g.H.Host.left_since (g.H.Host.told c.args.host.now) settled_told c.args.host.now c.save_config.new.host (inr c.in-Ok.ensures.ok) (λ left since. g.met.H.Host.only_now c.args.host.now left since)
+    (elapses_both g.H.Host.moment g.H.Host.left_since c.args.host.now c.judge_stored.new.host c.save_config.new.host (MayLeaveNow settled_told) so_far
+    (subst (λ o. Elapses g.H.Host.moment g.H.Host.left_since c.judge_stored.new.host c.save_config.new.host (MayLeaveNow o)) c.judge_stored.ensures.reads.state reads.time)))
+    c.save_config.result c.save_config.ensures.early

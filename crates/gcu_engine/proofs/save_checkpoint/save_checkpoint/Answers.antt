@@ -3,6 +3,7 @@ use Rattle.gcu_requests.specs.Asked.{save_asked}
 use Rattle.gcu_engine.proofs.Causes.{ended_cause}
 use Rattle.gcu_engine.proofs.Completing.{completes}
 use Rattle.gcu_engine.proofs.Elapsing.{asking_prints}
+use Rattle.gcu_engine.proofs.Unwritten.{unwritten_tells}
 use Rattle.gcu_engine.proofs.Writing.{comes_first, outcome_cause, told_answers}
 use Rattle.gcu_engine.proofs.save_checkpoint.save_checkpoint.Goals as goal
 
@@ -28,6 +29,12 @@ returns-clause-crash g c =
     (outcome_of c.add_checkpoint-done.result) c.add_checkpoint-done.ensures.left
     c.add_checkpoint-done.ensures.crash
     (λ left later may. g.met.H.Host.counts_now c.add_checkpoint-done.new.host (g.H.Host.moment c.args.host.now) left later may) c.tell.ensures.time
+
+pub returns-clause-early : goal.returns-clause-early
+returns-clause-early g c = λ refusal.
+    unwritten_tells g.H.Host.moment g.H.Host.left_since (save_asked c.args.name.now) (g.H.Host.told c.args.host.now) (g.H.Host.told c.add_checkpoint-done.new.host) (g.H.Host.told c.tell.new.host) c.add_checkpoint-done.result
+    (g.H.Host.counts c.args.host.now) (g.H.Host.counts c.add_checkpoint-done.new.host) (g.H.Host.counts c.add_checkpoint-done.new.host) (g.H.Host.counts c.tell.new.host) c.tell.result
+    c.args.host.now c.add_checkpoint-done.new.host c.tell.new.host c.add_checkpoint-done.ensures.left c.add_checkpoint-done.ensures.cause c.add_checkpoint-done.ensures.early c.tell.ensures.told c.tell.ensures.time refusal
 
 pub returns-clause-complete : goal.returns-clause-complete
 returns-clause-complete g c =
