@@ -42,14 +42,14 @@ use Rattle.gcu_words.specs.Targets.{Target, patched, replaced, resumed, rolled_b
 use Rattle.gcu_output.specs.declared.outcomes.Outcome.{Outcome}
 use Rattle.gcu_inputs.specs.IntentAsked.{held_answer as intent_held, intended_asked}
 use Rattle.gcu_inputs.specs.ModelFiles.{File, Text, bytes_asked, bytes_in, files_asked, list_limit, list_path, model_limit, models_asked, paths_asked, statements_of, text_answer, texts_in}
-use Rattle.gcu_inputs.specs.PatchAsked.{patch_answer, patch_in, patch_limit, target_shape}
+use Rattle.gcu_inputs.specs.PatchAsked.{patch_answer, patch_asked, patch_in, patch_limit, target, target_shape}
 use Rattle.gcu_inputs.specs.PatchAsked as patches
 use Rattle.gcu_inputs.specs.RulesAsked.{ctx_asked, rules_answer, rules_limit, rules_path, settings_asked}
 use Rattle.gcu_requests.specs.FileAsked.{config_answer, document_answer, file_asked, file_limit}
 use Rattle.gcu_requests.specs.PlanAsked.{made_asked}
 use Rattle.gcu_requests.specs.PointAsked.{held_answer}
 use Rattle.gcu_engine.specs.Contents.{AreModelsIn, HoldFiles, Holds, HoldsJson, IsContextIn, IsMade}
-use Rattle.gcu_engine.specs.Folder.{HoldsConfig}
+use Rattle.gcu_engine.specs.Folder.{HoldsConfig, HoldsPatch}
 use Rattle.gcu_engine.specs.RulesValues.{IsSettings}
 use Rattle.gcu_engine.proofs.Folders.{holds_config}
 use Rattle.gcu_engine.proofs.PatchResults.{patched_within}
@@ -233,13 +233,18 @@ intent_in s goal (inr (None, is, e)) = absurd cc
 intent_in s goal (inr (Some bytes, is, e)) =
     let there : get s.files intent_file ≡ Some bytes = cc in holds_config s.files intent_file bytes goal there (config_held (config_in bytes) goal e)
 
--- the goal is what the target makes of the start
-pub target_made : (from : Target) (start : Config) (s : State) (goal : Config) → (made_asked from start s).Gives (Ok goal) → IsMade from s start goal
-target_made (patched path) start s goal (inl never) = absurd never
-target_made (patched path) start s goal (inr (ops, found, e)) =
+-- a patch that is asked for makes of a configuration what is the target then
+pub patch_makes : (path : List ℕ) (start : Config) (s : State) (goal : Config) (ops : List Operation) → (patch_asked path s).Gives (Ok ops) → target ops start ≡ Ok goal
+    → HoldsPatch s.inputs path start goal
+patch_makes path start s goal ops found e =
     let (bytes, at, reads) = patch_found (get s.inputs path) path ops found in
     let (d, is, shapes) = applied (apply ops (tree start)) goal e in
     (bytes, ops, d, at, (operations_are_held bytes ops).1 reads, patched_within ops (tree start) d is, configuration_of (configuration d) goal shapes)
+
+-- the goal is what the target makes of the start
+pub target_made : (from : Target) (start : Config) (s : State) (goal : Config) → (made_asked from start s).Gives (Ok goal) → IsMade from s start goal
+target_made (patched path) start s goal (inl never) = absurd never
+target_made (patched path) start s goal (inr (ops, found, e)) = patch_makes path start s goal ops found e
 target_made (replaced path) start s goal h = file_in path s goal h
 target_made (rolled_back name) start s goal e = point_held name (get (points s.files) name) goal e
 target_made resumed start s goal h = intent_in s goal h

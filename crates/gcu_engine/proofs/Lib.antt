@@ -9,6 +9,7 @@ mod CheckSaying
 pub mod IntentRemovals
 mod Closing
 mod CommandWords
+mod CommitGoals
 pub mod CompactLines
 mod Completing
 mod Contents

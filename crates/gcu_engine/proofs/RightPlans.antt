@@ -1,17 +1,15 @@
 -- What is planned, or committed by operators, is right: its configurations, its moves and its goal.
-use Rattle.std.proofs.Common.{◌≡◌, inl, inr, ℕ, zero, suc, List, [], ◌∷◌, ◌++◌, append_assoc, length, refl, sym, ap, ◌∙◌, subst, Some, Result, Ok, Err}
-use Rattle.std.specs.Prelude.{codes, decimal, slice_get}
+use Rattle.std.proofs.Common.{◌≡◌, inl, inr, ℕ, zero, suc, List, [], ◌∷◌, ◌++◌, length, refl, sym, ap, ◌∙◌, subst, Some, Result, Ok, Err}
+use Rattle.std.specs.List.{flat_map}
 use Rattle.std.proofs.lemmas.List.{length-map}
 use Rattle.host_core.specs.State.{State}
-use Rattle.conf_doc.specs.Texts.{line_feed}
 use Rattle.conf_doc.specs.declared.configuration.Config.{Config}
 use Rattle.conf_store.specs.Stored.{stored}
 use Rattle.conf_store.specs.declared.errors.StoredWhy.{StoredWhy}
 use Rattle.move_core.specs.Contexts.{IsValidIn, rulebook}
 use Rattle.move_core.specs.Moves.{step}
 use Rattle.move_core.specs.Operations.{plan_text}
-use Rattle.move_core.specs.Plans.{IsAllowed, IsWay, conf}
-use Rattle.move_core.specs.Rulebook.{Rulebook}
+use Rattle.move_core.specs.Plans.{IsWay, conf}
 use Rattle.move_core.specs.declared.contexts.Ctx.{Ctx}
 use Rattle.move_core.specs.declared.moves.Move.{Move}
 use Rattle.gcu_words.specs.Targets.{Target}
@@ -22,17 +20,19 @@ use Rattle.gcu_requests.specs.PlanAsked.{goal_asked, planning_asked, start_asked
 use Rattle.gcu_requests.specs.Request.{Operating, Planning, Work, ctx_of, operated, planned, start_of}
 use Rattle.gcu_requests.specs.SessionsAsked.{operating_asked}
 use Rattle.gcu_requests.specs.WorkAsked.{work_asked}
-use Rattle.operators.specs.Replies.{commits_line}
-use Rattle.operators.specs.Runs.{IsOperated, reply_lines}
+use Rattle.operators.specs.Replies.{commits_line, reply_line}
+use Rattle.operators.specs.Runs.{IsOperated}
 use Rattle.operators.proofs.WorldInvariants.{operated_ctx, operated_kept, operated_opening}
 use Rattle.sessions.specs.Runs.{moves_of}
 use Rattle.sessions.specs.Worlds.{Leads, WorldState}
 use Rattle.sessions.specs.declared.commits.Commit.{Commit}
+use Rattle.sessions.specs.declared.replies.Reply.{Reply}
 use Rattle.sessions.proofs.CommitWays.{each_is_valid}
 use Rattle.gcu_engine.specs.Contents.{IsContextIn, IsMade}
-use Rattle.gcu_engine.specs.Headline.{IsGoal, IsRightWork, IsTextOf}
+use Rattle.gcu_engine.specs.Headline.{IsRightWork, IsTextOf}
 use Rattle.gcu_engine.specs.Plannings.{IsPlanFor}
 use Rattle.gcu_engine.specs.Works.{IsWorkOf}
+use Rattle.gcu_engine.proofs.CommitGoals.{AreHeld, lines_are, lines_held, names_told, run_commits}
 use Rattle.gcu_engine.proofs.Contents.{context_in, target_made}
 use Rattle.gcu_engine.proofs.Folders.{stores_is}
 
@@ -83,6 +83,7 @@ asked_is from budget s p (inr (u, gate, inr (ctx, read, inr (start, st, inr (goa
 pub record IsRunAsked (s : State) (p : Operating) : Type 0 where
   pub read : IsContextIn s p.ctx
   pub start : IsStart p.ctx s p.start
+  pub held : AreHeld s p.patches
 
 operating_is : (q p : Operating) (r : Result Operating Outcome) → r ≡ Ok q → r ≡ Ok p → q ≡ p
 operating_is q p r a e = let same : q ≡ p = cc in same
@@ -95,7 +96,7 @@ run_is path budget s p (inr (u, gate, inr (ctx, read, inr (start, st, inl never)
 run_is path budget s p (inr (u, gate, inr (ctx, read, inr (start, st, inr (lines, script, inl never))))) = absurd never
 run_is path budget s p (inr (u, gate, inr (ctx, read, inr (start, st, inr (lines, script, inr (patches, found, e)))))) =
     subst (IsRunAsked s) (operating_is (record { ctx = ctx; start = start; lines = lines; patches = patches; budget = budget }) p _ refl e)
-    (record { read = context_in s ctx read; start = start_is ctx s start st })
+    (record { read = context_in s ctx read; start = start_is ctx s start st; held = lines_held s [] lines patches tt found })
 
 -- what a task needs is what is asked
 abbrev pub IsWorkAsked : Task → State → Work → Type 0
@@ -119,26 +120,11 @@ module _ (ctx : Ctx) (goal : Config) where
   way_valid c (m ∷ ms) x valid way zero = valid
   way_valid c (m ∷ ms) x valid way (suc i) = way_valid (step c m) ms x way.0.rules.full way.1 i
 
-  pub way_allowed : (c : Config) (ms : List Move) (x : Config) → IsWay (rulebook ctx) goal c ms x → (i : ℕ) (m : Move) → slice_get ms i ≡ Some m
-      → IsAllowed (rulebook ctx) goal (conf c ms i) m
-  way_allowed c [] x way zero m e = absurd cc
-  way_allowed c [] x way (suc i) m e = absurd cc
-  way_allowed c (n ∷ ms) x way zero m e = let same : n ≡ m = cc in subst (λ (k : Move). IsAllowed (rulebook ctx) goal c k) same way.0
-  way_allowed c (n ∷ ms) x way (suc i) m e = way_allowed (step c n) ms x way.1 i m e
-
   pub way_last : (c : Config) (ms : List Move) (x : Config) → IsWay (rulebook ctx) goal c ms x → conf c ms (length ms) ≡ x
   way_last c [] x way = sym way
   way_last c (m ∷ ms) x way = way_last (step c m) ms x way.1
 
 -- ---- commits
-
--- each commit is allowed where it stands
-leads_allowed : (book : Rulebook) (c : Config) (ks : List Commit) (x : Config) → Leads book c ks x → (i : ℕ) (m : Move) → slice_get (moves_of ks) i ≡ Some m
-    → (goal : Config) × IsAllowed book goal (conf c (moves_of ks) i) m
-leads_allowed book c [] x leads zero m e = absurd cc
-leads_allowed book c [] x leads (suc i) m e = absurd cc
-leads_allowed book c (k ∷ ks) x leads zero m e = let same : k.mv ≡ m = cc in (k.goal, subst (λ (n : Move). IsAllowed book k.goal c n) same leads.0)
-leads_allowed book c (k ∷ ks) x leads (suc i) m e = leads_allowed book (step c k.mv) ks x leads.1 i m e
 
 -- what the operators of a script have committed leads on from the stored configuration
 run_leads : (p : Operating) (text : List ℕ) (after : WorldState) → IsValidIn p.ctx p.start → IsOperated p text after → Leads (rulebook p.ctx) p.start after.commits after.config
@@ -147,12 +133,6 @@ run_leads p text after valid told =
     subst (λ (x : Ctx). Leads (rulebook x) after.opening after.commits after.config) (operated_ctx p text after told) (operated_kept p text after told valid).leads in
     subst (λ (x : Config). Leads (rulebook p.ctx) x after.commits after.config) (operated_opening p text after told) from
 
--- how many there are, behind a text
-commits_behind : (told : List ℕ) (n : ℕ) → told ++ commits_line n ≡ told ++ codes "commits " ++ decimal n ++ line_feed
-commits_behind told n =
-    sym (append_assoc told (codes "commits " ++ decimal n) line_feed)
-    ∙ ap (λ (text : List ℕ). text ++ line_feed) (sym (append_assoc told (codes "commits ") (decimal n)))
-
 -- ---- right moves
 
 -- what a task asks for and what it then does, as the headline says it
@@ -160,21 +140,17 @@ pub record IsRight (task : Task) (s : State) (ctx : Ctx) (start : Config) (ms : 
   pub read : IsContextIn s ctx
   pub stands : stored s.files ≡ Ok start
   pub valid : (i : ℕ) → IsValidIn ctx (conf start ms i)
-  pub allowed : (i : ℕ) (m : Move) → slice_get ms i ≡ Some m
-      → (goal : Config) × IsGoal task (conf start ms (length ms)) goal × IsAllowed (rulebook ctx) goal (conf start ms i) m
-  pub is : IsTextOf task s start ms text
+  pub is : IsTextOf task s ctx start ms text
 
 -- a plan for what is asked
 right_plan : (from : Target) (s : State) (p : Planning) (ms : List Move) (text : List ℕ) → IsAsked from s p → IsPlanFor p ms → text ≡ plan_text ms
     → IsRight (reach from) s p.ctx p.start ms text
 right_plan from s p ms text is plan told =
-    let last : conf p.start ms (length ms) ≡ p.goal = way_last p.ctx p.goal p.start ms p.goal plan.0 in
     record {
       read = is.read;
       stands = is.start.stands;
       valid = way_valid p.ctx p.goal p.start ms p.goal is.start.valid plan.0;
-      allowed = λ i m e. (p.goal, sym last, way_allowed p.ctx p.goal p.start ms p.goal plan.0 i m e);
-      is = (subst (IsMade from s p.start) (sym last) is.made, told);
+      is = (p.goal, is.made, plan.0, told);
     }
 
 -- what the operators of a script commit
@@ -186,11 +162,13 @@ right_run path s p text after is told =
       read = is.read;
       stands = is.start.stands;
       valid = λ i. each_is_valid (rulebook p.ctx) p.start after.commits after.config i is.start.valid leads;
-      allowed = λ i m e. let k = leads_allowed (rulebook p.ctx) p.start after.commits after.config leads i m e in (k.0, tt, k.1);
       is = (
-        reply_lines p.lines told.0,
-        told.2 ∙ ap (λ (n : ℕ). reply_lines p.lines told.0 ++ commits_line n) (sym (length-map after.commits (λ (k : Commit). k.mv)))
-            ∙ commits_behind (reply_lines p.lines told.0) (length (moves_of after.commits)),
+        names_told p.lines told.0,
+        run_commits s p.ctx p.start p.patches p.budget p.lines told.0 after is.start.valid is.held told.1,
+        told.2
+            ∙ ap (λ (t : List ℕ). t ++ commits_line (length after.commits)) (lines_are p.lines told.0)
+            ∙ ap (λ (n : ℕ). flat_map (λ (t : List ℕ × Reply). reply_line t.0 t.1) (names_told p.lines told.0) ++ commits_line n)
+            (sym (length-map after.commits (λ (k : Commit). k.mv))),
       );
     }
 
@@ -210,7 +188,6 @@ right_work task s w ms text is work = record {
   stands = (stores_is s.files (start_of w)).1 (is_right task s w ms text is work).stands;
   moves = ms;
   valid = (is_right task s w ms text is work).valid;
-  allowed = (is_right task s w ms text is work).allowed;
   text = text;
   is = (is_right task s w ms text is work).is;
 }

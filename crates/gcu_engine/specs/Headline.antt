@@ -6,13 +6,14 @@
 -- checkpoints are whole; a finished rollback stores exactly its checkpoint.
 --
 -- Of `replace`, `rollback` and `resume` the last configuration is that of the file, of the checkpoint and of
--- `intent`. Of `sessions` the moves are what its operators commit. Where nothing is done, or the command is refused,
+-- `intent`. Of `sessions` the moves are those that its operators are told of, each allowed for the goal of its session. Where nothing is done, or the command is refused,
 -- the stored configuration after a crash is that of the beginning.
-use Rattle.std.specs.Prelude.{◌≡◌, ◌≢◌, ◌≤◌, ◌⊎◌, ℕ, suc, List, [], ◌∷◌, ◌++◌, codes, decimal, length, slice_get, Contains, Option, Some, ⊤}
-use Rattle.std.specs.FinMap.{get}
+use Rattle.std.specs.Prelude.{◌≡◌, ◌≢◌, ◌≤◌, ◌⊎◌, ℕ, suc, List, [], ◌∷◌, ◌++◌, codes, length, Contains, Option, Some}
+use Rattle.std.specs.FinMap.{FinMap, empty, get, insert, remove}
+use Rattle.std.specs.List.{flat_map}
 use Rattle.host_core.specs.Crashes.{Left}
+use Rattle.host_core.specs.Names.{name_cmp}
 use Rattle.host_core.specs.State.{Files, State}
-use Rattle.conf_doc.specs.Texts.{line_feed}
 use Rattle.conf_doc.specs.declared.configuration.Config.{Config}
 use Rattle.conf_store.specs.Changes.{IsSettled}
 use Rattle.patch_core.specs.Indexes.{number}
@@ -20,7 +21,8 @@ use Rattle.checkpoints.specs.Changes.{with_point, without_point}
 use Rattle.checkpoints.specs.Points.{points}
 use Rattle.move_core.specs.Contexts.{IsValidIn, rulebook}
 use Rattle.move_core.specs.Operations.{plan_text}
-use Rattle.move_core.specs.Plans.{IsAllowed, IsReachable, conf}
+use Rattle.move_core.specs.Moves.{step}
+use Rattle.move_core.specs.Plans.{IsAllowed, IsReachable, IsWay, conf}
 use Rattle.move_core.specs.declared.contexts.Ctx.{Ctx}
 use Rattle.move_core.specs.declared.moves.Move.{Move}
 use Rattle.change_apply.specs.Acknowledgements.{ack, acks}
@@ -30,10 +32,13 @@ use Rattle.gcu_words.specs.Targets.{Target, patched, replaced, resumed, rolled_b
 use Rattle.gcu_output.specs.declared.outcomes.Outcome.{Outcome}
 use Rattle.gcu_output.specs.declared.outcomes.Outcome.TheVariants.{Done, Unorderable}
 use Rattle.gcu_words.specs.Tasks.{Task, reach, run_script}
+use Rattle.operators.specs.Replies.{commits_line, reply_line}
+use Rattle.sessions.specs.declared.replies.Reply.{Reply}
+use Rattle.sessions.specs.declared.replies.Reply.TheVariants.{Applied, Began, Ended, Retargeted}
 use Rattle.gcu_engine.specs.Answers.{IsRefusal}
 use Rattle.gcu_engine.specs.Changing.{IsLastLine, IsRefusalLine}
 use Rattle.gcu_engine.specs.Contents.{IsContextIn, IsMade}
-use Rattle.gcu_engine.specs.Folder.{StandForSame, Stores}
+use Rattle.gcu_engine.specs.Folder.{HoldsPatch, StandForSame, Stores}
 
 -- ---- the words
 
@@ -57,18 +62,35 @@ IsChangeCommand task words =
 
 -- ---- right moves
 
--- a goal of moves: where they lead; several operators may have any
-abbrev pub IsGoal : Task → Config → Config → Type 0
-IsGoal (reach from) last goal = goal ≡ last
-IsGoal (run_script path) last goal = ⊤
+-- Operators are told so, line by line, and commit these moves from a configuration on. The goal of a session is what
+-- the patch of a file made of the configuration when the session began or was last retargeted, and each move that it
+-- commits is allowed for its goal.
+abbrev pub AreCommitted : Ctx → State → Config → FinMap name_cmp Config
+    → List (List ℕ × Reply) → List Move → Type 0
+AreCommitted ctx s now goals [] ms = ms ≡ []
+AreCommitted ctx s now goals ((name, Applied m) ∷ told) ms =
+    (goal : Config) × (rest : List Move) × (get goals name ≡ Some goal) × (ms ≡ m ∷ rest)
+    × IsAllowed (rulebook ctx) goal now m × AreCommitted ctx s (step now m) goals told rest
+AreCommitted ctx s now goals ((name, Began count) ∷ told) ms =
+    (file : List ℕ) × (goal : Config) × HoldsPatch s.inputs file now goal
+    × AreCommitted ctx s now (insert goals name goal) told ms
+AreCommitted ctx s now goals ((name, Retargeted count) ∷ told) ms =
+    (file : List ℕ) × (goal : Config) × HoldsPatch s.inputs file now goal
+    × AreCommitted ctx s now (insert goals name goal) told ms
+AreCommitted ctx s now goals ((name, Ended done) ∷ told) ms =
+    AreCommitted ctx s now (remove goals name) told ms
+AreCommitted ctx s now goals ((name, other) ∷ told) ms = AreCommitted ctx s now goals told ms
 
--- what is printed before moves from a configuration: the plan, to what the target makes of that one, of a patch
--- the result by RFC 6902; or what operators are told, and last how many moves there are
-abbrev pub IsTextOf : Task → State → Config → List Move → List ℕ → Type 0
-IsTextOf (reach from) s start ms text =
-    IsMade from s start (conf start ms (length ms)) × (text ≡ plan_text ms)
-IsTextOf (run_script path) s start ms text =
-    (told : List ℕ) × (text ≡ told ++ codes "commits " ++ decimal (length ms) ++ line_feed)
+-- what is printed before moves from a configuration, each of which is allowed where it stands: the plan, to what the
+-- target makes of that one, of a patch the result by RFC 6902; or what the operators are told who commit them, and
+-- last how many there are
+abbrev pub IsTextOf : Task → State → Ctx → Config → List Move → List ℕ → Type 0
+IsTextOf (reach from) s ctx start ms text =
+    (goal : Config) × IsMade from s start goal × IsWay (rulebook ctx) goal start ms goal
+    × (text ≡ plan_text ms)
+IsTextOf (run_script path) s ctx start ms text =
+    (told : List (List ℕ × Reply)) × AreCommitted ctx s start empty told ms
+    × (text ≡ flat_map (λ t. reply_line t.0 t.1) told ++ commits_line (length ms))
 
 -- each configuration from the stored one on satisfies every model, and each move is allowed where it stands
 pub record IsRightWork (task : Task) (s : State) : Type 0 where
@@ -78,11 +100,8 @@ pub record IsRightWork (task : Task) (s : State) : Type 0 where
   pub stands : Stores s.files start
   pub moves : List Move
   pub valid : (i : ℕ) → IsValidIn ctx (conf start moves i)
-  pub allowed : (i : ℕ) (m : Move) → slice_get moves i ≡ Some m
-      → (goal : Config) × IsGoal task (conf start moves (length moves)) goal
-      × IsAllowed (rulebook ctx) goal (conf start moves i) m
   pub text : List ℕ
-  pub is : IsTextOf task s start moves text
+  pub is : IsTextOf task s ctx start moves text
 
 -- what is printed before right moves and what follows it, or the last line of an answer
 abbrev pub IsTaskOutput : Task → State → List ℕ → Type 0
