@@ -33,6 +33,11 @@ def change_of(ports):
     return operations
 
 
+def speeds_of(ports):
+    """All ports get another speed, which requires each to be down before: so each of them goes down, changes, and comes up."""
+    return [{"op": "replace", "path": f"/PORT/Ethernet{4 * i}/speed", "value": "40000"} for i in range(ports)]
+
+
 def least_time(words, folder, said, runs):
     """The least processor time (user and system) of some runs, in milliseconds; each prints what is said, and ends with 0."""
     times = []

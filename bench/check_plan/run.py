@@ -1,19 +1,22 @@
 #!/usr/bin/env python3
-"""Times `gcu check-plan PATCH PLAN` on the plans of generated changes, beside the dry run that made them: the whole
-processes, the least processor time (user and system) of some runs.
+"""Times `gcu check-plan PATCH PLAN` beside the dry run that made the plan: the whole processes, the least processor time
+(user and system) of some runs, and by callgrind, where it is there, the millions of instructions of one.
 
 usage: bench/check_plan/run.py PROGRAM [PORTS..]     PROGRAM is the built gcu, as crates/gcu_cli/out/gcu_cli
 
-The stored configuration and the change are those of bench/demo.py: 15 steps for eight ports. The models and the rules are
-those of the example folder.
+The changes are those of bench/demo.py (15 steps for eight ports, and the speed of all ports), the changes of examples/leaf32,
+and 400 rules that come beside 4,000 (bench/size). The models and the rules are those of the example folder or of leaf32.
 """
 import json, pathlib, resource, shutil, subprocess, sys, tempfile
 
 sys.dont_write_bytecode = True
-sys.path.insert(0, str(pathlib.Path(__file__).resolve().parent.parent))
-from demo import change_of, start_of
+bench = pathlib.Path(__file__).resolve().parent.parent
+sys.path[:0] = [str(bench), str(bench / "size")]
+from demo import change_of, instructions, speeds_of, start_of
+import folders
 
-example = pathlib.Path(__file__).resolve().parent.parent.parent / "crates" / "gcu_cli" / "data"
+example = bench.parent / "crates" / "gcu_cli" / "data"
+leaf = bench.parent / "examples" / "leaf32"
 program = pathlib.Path(sys.argv[1]).resolve()
 sizes = [int(word) for word in sys.argv[2:]] or [16, 64, 256]
 RUNS = 3
@@ -31,19 +34,35 @@ def timed(folder, *words):
     return ran.stdout, best
 
 
-print("| Ports | Steps | Dry run, seconds | Check, seconds | Times as long |\n|---|---|---|---|---|")
+def row(folder, what, patch):
+    """A row of a change of the folder."""
+    search, check = ("apply-patch", patch, "--dry-run"), ("check-plan", patch, "saved.plan")
+    plan, searched = timed(folder, *search)
+    (folder / "saved.plan").write_text(plan)
+    said, checked = timed(folder, *check)
+    steps = plan.split()[1]
+    if said != f"yes {steps}\ndone\n":
+        return f"| {what} | {said.splitlines()[-1]} | {searched:.3f} | {checked:.3f} | | | |"
+    counts = [instructions([str(program), *words], folder) for words in (search, check)]
+    return f"| {what} | {steps} | {searched:.3f} | {checked:.3f} | {checked / searched:.1f} | {counts[0]} | {counts[1]} |"
+
+
+print("| Change | Steps | Dry run, seconds | Check, seconds | Times as long | Dry run, M | Check, M |\n" + "|---" * 7 + "|")
 for ports in sizes:
+    for kind, change in ("generated", change_of), ("speed of all", speeds_of):
+        with tempfile.TemporaryDirectory() as name:
+            folder = pathlib.Path(name)
+            for path in [*example.glob("*.yang"), example / "models.list", example / "rules.json"]:
+                shutil.copy(path, folder)
+            (folder / "config_db.json").write_text(json.dumps(start_of(ports)))
+            (folder / "change.json").write_text(json.dumps(change(ports)))
+            print(row(folder, f"{ports} ports, {kind}", "change.json"), flush=True)
+for change in sorted((leaf / "changes").glob("*.json")):
     with tempfile.TemporaryDirectory() as name:
-        folder = pathlib.Path(name)
-        for path in [*example.glob("*.yang"), example / "models.list", example / "rules.json"]:
-            shutil.copy(path, folder)
-        (folder / "config_db.json").write_text(json.dumps(start_of(ports)))
-        (folder / "change.json").write_text(json.dumps(change_of(ports)))
-        plan, searched = timed(folder, "apply-patch", "change.json", "--dry-run")
-        (folder / "saved.plan").write_text(plan)
-        said, checked = timed(folder, "check-plan", "change.json", "saved.plan")
-        steps = plan.split()[1]
-        if said != f"yes {steps}\ndone\n":
-            print(f"| {ports} | {said.splitlines()[-1]} | {searched:.3f} | {checked:.3f} | |", flush=True)
-            continue
-        print(f"| {ports} | {steps} | {searched:.3f} | {checked:.3f} | {checked / searched:.1f} |", flush=True)
+        folder = pathlib.Path(name) / "leaf"
+        shutil.copytree(leaf, folder)
+        print(row(folder, change.stem, f"changes/{change.name}"), flush=True)
+with tempfile.TemporaryDirectory() as name:
+    folder = pathlib.Path(name) / "rules"
+    folders.make(folder, example, 64, 4000, 400, "add")
+    print(row(folder, "400 rules beside 4,000", "p.json"), flush=True)

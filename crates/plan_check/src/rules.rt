@@ -11,7 +11,7 @@ ghost use Rattle.move_core.specs.Rules.{EmptiesNoTable, HasNoDependency, IsAtOrB
 ghost use Rattle.plan_check.specs.Keeping.{HasValueInBoth, KeepsField, KeepsFieldAt, KeepsKey, KeepsKeysOf, KeepsPlaces, KeepsRule, requiring_place};
 ghost use Rattle.plan_check.specs.Touching.{IsInItem, IsTouched, Touches, WantsHold, names_at};
 
-use crate::steps::list_at;
+use crate::places::list_at;
 use conf_check::{WantAt, WantIter, check, entry_wants, is_satisfied, wants};
 use conf_doc::{Config, Path, Value};
 use key_split::KeyView;
@@ -162,7 +162,7 @@ pub(crate) fn keeps_create_only(settings: &Settings, cur: &Config, next: &Config
 }
 
 /// Whether the field of a rule has the required value at a key; absent it counts as having the default.
-fn has_required(rule: &Required, key: &str, config: &Config) -> bool
+pub(crate) fn has_required(rule: &Required, key: &str, config: &Config) -> bool
     ensures { IsTrue result ↔ HasRequired rule.now key.now config.now }
 {
     let text = match config.value(rule.table.as_str(), key, rule.field.as_str()) {
@@ -183,7 +183,7 @@ fn has_value_in_both(rule: &Required, key: &str, cur: &Config, next: &Config) ->
 }
 
 /// Whether a requiring place at a key is the same before and after.
-fn stays(requiring: &Requiring, key: &str, cur: &Config, next: &Config) -> bool
+pub(crate) fn stays(requiring: &Requiring, key: &str, cur: &Config, next: &Config) -> bool
     ensures { IsTrue result ↔ Agree cur.now next.now (requiring_place requiring.now key.now) }
 {
     let table = requiring.table.as_str();

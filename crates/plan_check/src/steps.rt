@@ -1,16 +1,17 @@
 //! One step of a plan: whether it is allowed where it stands, or the first cause against it.
-ghost use Rattle.std.specs.Prelude.{◌≡◌, ◌↔◌, ◌<◌, ◌≤◌, length, option_map, IfOk, IsSomeAnd, IsTrue, MatchOption};
-ghost use Rattle.conf_doc.specs.Changes.{Fits, HasParent, HasPlace};
+ghost use Rattle.std.specs.Prelude.{◌≡◌, ◌↔◌, ◌<◌, ◌≤◌, length, IfOk, IsSomeAnd, IsTrue, MatchOption};
+ghost use Rattle.conf_doc.specs.Changes.{Fits};
 ghost use Rattle.conf_doc.specs.WellFormed.{IsConfig};
 ghost use Rattle.move_core.specs.Contexts.{IsNamed, rulebook};
 ghost use Rattle.move_core.specs.Moves.{IsDefined, list_at};
 ghost use Rattle.plan_check.specs.Verdicts.{IsFine, IsFirstBroken, IsVerdict};
 
 use crate::NoWhy;
-use crate::chains::is_listed;
+use crate::listed::is_listed;
+use crate::places::{has_parent, has_place, list_at};
 use crate::rules::{empties_none, has_no_dependency, is_valid, keeps_create_only, keeps_required};
-use conf_doc::{Config, Part, Path, Value};
-use host_core::{Memory, Names};
+use conf_doc::{Config, Part, Path};
+use host_core::Memory;
 use move_core::{Ctx, Move, step};
 use std::alloc::Global;
 
@@ -23,30 +24,6 @@ pub(crate) enum Verdict {
     Refused(NoWhy),
 }
 
-/// Whether something stands at a place.
-fn has_place(config: &Config, place: &Path) -> bool
-    ensures { IsTrue result ↔ HasPlace config.now place.now }
-{
-    match place.len() {
-        1 => config.table(place.name_at(0)).is_some(),
-        2 => config.entry(place.name_at(0), place.name_at(1)).is_some(),
-        _ => config
-            .value(place.name_at(0), place.name_at(1), place.name_at(2))
-            .is_some(),
-    }
-}
-
-/// Whether what stands one name above a place is there.
-fn has_parent(config: &Config, place: &Path) -> bool
-    ensures { IsTrue result ↔ HasParent config.now place.now }
-{
-    match place.len() {
-        1 => true,
-        2 => config.table(place.name_at(0)).is_some(),
-        _ => config.entry(place.name_at(0), place.name_at(1)).is_some(),
-    }
-}
-
 /// Whether a part fits a place.
 fn fits(place: &Path, part: &Part) -> bool
     ensures { IsTrue result ↔ Fits place.now part.now }
@@ -55,19 +32,6 @@ fn fits(place: &Path, part: &Part) -> bool
         Part::Table(_) => place.len() == 1,
         Part::Entry(_) => place.len() == 2,
         Part::Value(_) => place.len() == 3,
-    }
-}
-
-/// The items of the list at a place, where a list stands there.
-pub(crate) fn list_at<'c>(config: &'c Config, place: &Path) -> Option<&'c Names>
-    ensures { option_map (λ items. items.now) result ≡ list_at config.now place.now }
-{
-    if place.len() != 3 {
-        return None;
-    }
-    match config.value(place.name_at(0), place.name_at(1), place.name_at(2)) {
-        Some(Value::List(items)) => Some(items),
-        _ => None,
     }
 }
 
@@ -94,7 +58,7 @@ fn has_more_items(config: &Config, place: &Path, count: usize) -> bool
 }
 
 /// Whether a move is defined at a configuration.
-fn is_defined(cur: &Config, mv: &Move) -> bool
+pub(crate) fn is_defined(cur: &Config, mv: &Move) -> bool
     ensures { IsTrue result ↔ IsDefined cur.now mv.now }
 {
     match mv {

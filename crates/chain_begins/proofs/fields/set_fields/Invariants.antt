@@ -1,7 +1,0 @@
-use Rattle.move_core.specs.Appends.{Appends}
-use Rattle.chain_begins.specs.Given.{IsSetField}
-use Rattle.chain_begins.specs.Giving.{IsOfFirst}
-use Rattle.chain_begins.proofs.fields.set_fields.Given as goal
-
-abbrev pub invariant-loop-i : goal.invariant-loop-i
-invariant-loop-i l = Appends (IsOfFirst (IsSetField l.table l.key l.old) l.new l.i) l.fn.out.items l.out.items

@@ -1,8 +1,0 @@
-use Rattle.chain_extends.proofs.EntryWants.{IsEntryWalk}
-use Rattle.chain_extends.proofs.referrers.find_in_entry.Given as goal
-
-abbrev pub invariant-loop-at : goal.invariant-loop-at
-invariant-loop-at l =
-    (goal.iterator-loop-at).can_next l.at-iterator
-    × (goal.iterator-loop-at).is_finite l.at-iterator
-    × IsEntryWalk l.change l.gone l.table l.key l.fn.found l.at-iterator l.found

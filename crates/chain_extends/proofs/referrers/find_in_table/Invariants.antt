@@ -1,8 +1,0 @@
-use Rattle.std.proofs.Common.{map}
-use Rattle.chain_extends.specs.Found.{Finds}
-use Rattle.chain_extends.specs.Mentions.{GivesOfEntry}
-use Rattle.chain_extends.proofs.DistinctLists.{GivenBefore}
-use Rattle.chain_extends.proofs.referrers.find_in_table.Given as goal
-
-abbrev pub invariant-loop-i : goal.invariant-loop-i
-invariant-loop-i l = Finds (GivenBefore (GivesOfEntry l.change l.gone.table.now l.table) (map (λ e. e.0) l.entries) l.i) l.fn.found l.found

@@ -1,8 +1,0 @@
-use Rattle.std.proofs.Common.{◌≡◌, ℕ, ◌<◌, Some, true, slice_get}
-use Rattle.yang_model.specs.declared.shapes.FieldRule.{FieldRule}
-use Rattle.yang_types.specs.DataTypes.{data_type}
-use Rattle.chain_extends.specs.Referring.{type_refers}
-use Rattle.chain_extends.proofs.referring.fields_refer.Given as goal
-
-abbrev pub invariant-loop-i : goal.invariant-loop-i
-invariant-loop-i l = (j : ℕ) → j < l.i → (rule : FieldRule) → slice_get l.rules j ≡ Some rule → ¬ (type_refers l.to (data_type rule.ty) ≡ true)

@@ -1,0 +1,46 @@
+-- What is taken at keys and in tables, where a move may precede the sought one.
+use Rattle.std.proofs.Common.{◌≡◌, ◌⊎◌, ℕ, List, [], ◌∷◌, slice_get, Contains, Some, IsTrue, inl, inr, refl, sym, ap, ◌∙◌, subst, Bool}
+use Rattle.move_core.specs.Moves.{Place, place}
+use Rattle.move_core.specs.Services.{table_of}
+use Rattle.move_core.specs.Extensions.{required_part}
+use Rattle.move_core.specs.declared.moves.Move.{Move}
+use Rattle.move_core.specs.declared.moves.Move.TheVariants.{Add, Remove, Replace, AddItem, RemoveItem}
+use Rattle.conf_doc.specs.declared.configuration.Config.{Config}
+use Rattle.conf_doc.specs.declared.parts.Part.{Part}
+use Rattle.plan_check.specs.Backwards.{Leads}
+use Rattle.plan_check.specs.Candidates.{GivesSome, IsFieldOf, IsInEntry, IsOfOne, IsPlainAt, IsPut}
+use Rattle.plan_check.specs.Nearby.{IsIn, IsInKeys, IsInTable}
+use Rattle.plan_check.specs.declared.here.Here.{Here}
+use Rattle.plan_check.specs.declared.preceding.Sought.{Sought}
+
+module _ (h : Here) where
+  put_at : (p : Place) (x : Part) (m : Move) → IsPut p x m → place m ≡ p
+  put_at p x m (inl is) = ap place is
+  put_at p x m (inr is) = ap place is
+
+  -- a move at a place has that place
+  pub plain_at : (p : Place) (m : Move) → IsPlainAt h p m → place m ≡ p
+  plain_at p m (inl (inl is)) = put_at p is.part m is.puts
+  plain_at p m (inl (inr is)) = ap place is.move
+  plain_at p m (inr (inl is)) = ap place is.move
+  plain_at p m (inr (inr is)) = ap place is
+
+  field_at : (c : Config) (t k : List ℕ) (m : Move) → IsFieldOf h c t k m → IsIn (place m) t (Some k)
+  field_at c t k m is = subst (λ p. IsIn p t (Some k)) (sym (plain_at (t ∷ k ∷ is.field ∷ []) m is.is)) (refl, refl)
+
+  -- one in an entry is at that key
+  pub entry_at : (t k : List ℕ) (m : Move) → IsInEntry h t k m → IsIn (place m) t (Some k)
+  entry_at t k m (inl (inl is)) = subst (λ p. IsIn p t (Some k)) (sym (plain_at (t ∷ k ∷ []) m is)) (refl, refl)
+  entry_at t k m (inl (inr is)) = field_at h.cur.now t k m is
+  entry_at t k m (inr (inl is)) = field_at h.goal.now t k m is
+  entry_at t k m (inr (inr is)) = subst (λ p. IsIn p t (Some k)) (sym (put_at (t ∷ k ∷ is.item.field ∷ []) (required_part is.item) m is.is.1)) (refl, refl)
+
+module _ (s : Sought) where
+  keys_at : (t : List ℕ) (keys : List (List ℕ)) (m : Move) → IsInKeys s t keys m → table_of (place m) ≡ t
+  keys_at t keys m is = (entry_at s.here.now t is.item m is.is.0).0
+
+  -- one in a table is in it
+  pub table_at : (t : List ℕ) (m : Move) → IsInTable s t m → table_of (place m) ≡ t
+  table_at t m (inl is) = ap table_of (plain_at s.here.now (t ∷ []) m is)
+  table_at t m (inr (inl is)) = keys_at t _ m is
+  table_at t m (inr (inr is)) = keys_at t _ m is

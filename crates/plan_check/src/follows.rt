@@ -1,0 +1,156 @@
+//! Whether a move follows another one.
+ghost use Rattle.std.specs.Prelude.{◌≡◌, ◌↔◌, Some, IfOk, IsTrue};
+ghost use Rattle.move_core.specs.Contexts.{IsResult, item_at};
+ghost use Rattle.move_core.specs.Extensions.{IsDelete, IsUpper, as_in_goal, upper, upper_place};
+ghost use Rattle.move_core.specs.Moves.{place};
+ghost use Rattle.plan_check.specs.Beginnings.{Precedes};
+ghost use Rattle.plan_check.specs.Broken.{HasBroken, HasOneBroken, IsBrokenAt, IsReferrerAt};
+
+use crate::here::Here;
+use crate::places::{has_part, has_place, is_entry_at, is_table_at, list_at};
+use crate::required::is_required;
+use crate::wants::{want_at, wants_at};
+use conf_check::{WantAt, is_satisfied};
+use conf_doc::{Config, Path};
+use host_core::Memory;
+use move_core::Move;
+use std::alloc::Global;
+
+/// Whether a place is one name longer than another.
+fn is_below(place: &Path, above: &Path) -> bool
+    ensures { IsTrue result ↔ (upper place.now ≡ Some above.now) }
+{
+    match place.len() {
+        2 => is_table_at(above, place.name_at(0)),
+        3 => is_entry_at(above, place.name_at(0), place.name_at(1)),
+        _ => false,
+    }
+}
+
+/// Whether a place is the one above what a move's operation names.
+fn is_above(mv: &Move, above: &Path) -> bool
+    ensures { IsTrue result ↔ (upper_place mv.now ≡ Some above.now) }
+{
+    match mv {
+        Move::Add(place, _) => is_below(place, above),
+        Move::Remove(place) => is_below(place, above),
+        Move::Replace(place, _) => is_below(place, above),
+        Move::AddItem(place, _, _) => place.same(above),
+        Move::RemoveItem(place, _) => place.same(above),
+    }
+}
+
+/// Whether a move makes its place as in goal.
+fn is_as_in_goal(goal: &Config, mv: &Move) -> bool
+    ensures { IsTrue result ↔ (mv.now ≡ as_in_goal goal.now (place mv.now)) }
+{
+    match mv {
+        Move::Remove(place) => !has_place(goal, place),
+        Move::Replace(place, part) => has_part(goal, place, part),
+        _ => false,
+    }
+}
+
+/// Whether the second makes the place above the first as in goal.
+fn is_upper(goal: &Config, mv: &Move, more: &Move) -> bool
+    ensures { IsTrue result ↔ IsUpper goal.now mv.now more.now }
+{
+    if !is_as_in_goal(goal, more) {
+        return false;
+    }
+    is_above(mv, more.place())
+}
+
+/// Whether the second removes what the first replaces.
+fn is_delete(mv: &Move, more: &Move) -> bool
+    ensures { IsTrue result ↔ IsDelete mv.now more.now }
+{
+    match (mv, more) {
+        (Move::Replace(place, _), Move::Remove(other)) => place.same(other),
+        _ => false,
+    }
+}
+
+/// The index of a text, where it is an item of a list that stands at the place.
+fn item_at(config: &Config, place: &Path, i: usize) -> Option<usize>
+    ensures { result ≡ item_at config.now place.now i }
+{
+    match list_at(config, place) {
+        Some(_) => Some(i),
+        None => None,
+    }
+}
+
+/// Whether a want stands there, in the item of that index where one is given, and is unsatisfied afterwards.
+fn is_broken(here: &Here, next: &Config, place: &Path, item: Option<usize>, at: &WantAt) -> bool
+    ensures { IsTrue result ↔ IsBrokenAt here.now next.now place.now item at.now }
+{
+    item_at(here.cur, place, at.item) == item && !is_satisfied(&here.ctx.models, next, &at.want)
+}
+
+/// Whether some of those wants is so.
+fn has_one_broken(
+    here: &Here,
+    next: &Config,
+    place: &Path,
+    item: Option<usize>,
+    wants: &[WantAt],
+) -> bool
+    ensures { IsTrue result ↔ HasOneBroken here.now next.now place.now item wants.now }
+{
+    for i in 0..wants.len() {
+        if is_broken(here, next, place, item, want_at(wants, i)) {
+            return true;
+        }
+    }
+    false
+}
+
+/// Whether some want at a place is so.
+fn has_broken(
+    alloc: Global,
+    here: &Here,
+    next: &Config,
+    place: &Path,
+    item: Option<usize>,
+) -> Result<bool, Memory>
+    ensures { IfOk result (λ b. IsTrue b ↔ HasBroken here.now next.now place.now item) }
+{
+    let wants = wants_at(alloc, &here.ctx.models, here.cur, place)?;
+    Ok(has_one_broken(here, next, place, item, &wants))
+}
+
+/// Whether what has such a want is removed.
+fn is_referrer(alloc: Global, here: &Here, next: &Config, more: &Move) -> Result<bool, Memory>
+    ensures { IfOk result (λ b. IsTrue b ↔ IsReferrerAt here.now next.now more.now) }
+{
+    match more {
+        Move::Remove(place) => has_broken(alloc, here, next, place, None),
+        Move::RemoveItem(place, i) => has_broken(alloc, here, next, place, Some(*i)),
+        _ => Ok(false),
+    }
+}
+
+/// Whether the second move follows the first, which leads to next: it makes the place above as in goal, removes
+/// what is replaced or what refers to what goes, or gives a required value.
+pub(crate) fn follows(
+    alloc: Global,
+    here: &Here,
+    mv: &Move,
+    next: &Config,
+    more: &Move,
+) -> Result<bool, Memory>
+    requires { IsResult here.now.cur.now mv.now next.now }
+    ensures { IfOk result (λ b. IsTrue b ↔ Precedes here.now mv.now more.now) }
+{
+    if is_upper(here.goal, mv, more) {
+        return Ok(true);
+    }
+    if is_delete(mv, more) {
+        return Ok(true);
+    }
+    if is_required(here, mv, next, more) {
+        return Ok(true);
+    }
+    is_referrer(alloc, here, next, more)
+}
