@@ -18,8 +18,8 @@ use std::sync::ledger::{Blank, Ledger};
 /// A row has a situation, how many configurations a search from `cur` to `goal`, with the row's `budget` where
 /// it has one, has `expanded`, and how often it has asked each of the `generators`, `extenders` and `rules`, in
 /// the order of their numbers. Generators are asked at each configuration that is expanded, and again where the
-/// search comes back to one, an extender of each move that it may extend, and a rule where all have said yes
-/// that the search asks before it.
+/// search comes back to one, an extender of each move that it may extend, the rule of create-only fields of each
+/// move that is tried, and each other rule where all have said yes that the search asks before it.
 #[derive(Drop)]
 pub struct Counts<'a> {
     /// The models and the rules of the rows.

@@ -1,7 +1,6 @@
 pub mod AfterMove
 pub mod SearchAnswers
 pub mod AnswerCauses
-pub mod FieldMoves
 pub mod FirstPart
 pub mod Frames
 pub mod PairHashes
@@ -11,9 +10,7 @@ pub mod OneAnswer
 pub mod Orders
 pub mod Pairs
 pub mod Parts
-pub mod NamedPlaces
 pub mod Positions
-pub mod SettingRefusals
 pub mod Routes
 pub mod RuleKinds
 pub mod SetAnswers

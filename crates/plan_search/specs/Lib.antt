@@ -10,6 +10,5 @@ pub mod ConfigKeys
 pub mod Hashes
 pub mod Kits
 pub mod Problems
-pub mod Refusals
 pub mod Searching
 pub mod Stacks

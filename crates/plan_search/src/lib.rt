@@ -1,7 +1,6 @@
 //! The search for the first plan over the listed moves.
 #![tactic(auto)]
 
-mod early_refusals;
 mod errors;
 mod expanding;
 mod first_plans;

@@ -8,7 +8,6 @@ ghost use Rattle.plan_search.specs.Kits.{move_problem, moves_lawful};
 ghost use Rattle.plan_search.specs.Searches.{IsSearchAnswer};
 ghost use Rattle.plan_search.specs.Stacks.{but_first};
 
-use crate::early_refusals::is_refused;
 use crate::expanding::Expanding;
 use crate::hashed::Hashed;
 use crate::rules::keep_rules;
@@ -110,9 +109,6 @@ impl<'a> Expanding for KitMoves<'a> {
     ) -> Result<Option<Config>, Memory> {
         listed_moves_are_defined();
         let _tables = cur.len();
-        if is_refused(&self.ctx.settings, cur, mv) {
-            return Ok(None);
-        }
         let next = step(alloc, cur, mv)?;
         let goal = self.goal.config();
         if !keep_rules(self.ctx, kit, cur, &next, goal, mv) || is_same(cur, &next, mv) {

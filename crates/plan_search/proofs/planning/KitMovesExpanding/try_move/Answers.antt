@@ -1,10 +1,5 @@
 use Rattle.plan_search.proofs.planning.KitMovesExpanding.try_move.Goals as goal
 
-pub is_refused-requires : goal.is_refused-requires
-is_refused-requires g c =
-    let s = c.args.self.now in
-    c.listed_moves_are_defined.ensures.listed s.ctx.now c.args.cur.now s.goal.now c.args.mv.now c.len-tables.ensures.formed c.requires.listed
-
 pub step-requires : goal.step-requires
 step-requires g c =
     let s = c.args.self.now in
