@@ -31,6 +31,13 @@ abbrev pub BeginsAt : Change → List ℕ → List ℕ → WantIter → Type 0
 BeginsAt c u k s =
     (p : WantPlace) (w : Want) → IsWantAhead s p w ↔ (IsEntryAt c.cur.now u k p.table p.key × IsWantAt c.models.now c.cur.now p w)
 
+-- the want that a walk gives next is one of the configuration
+pub walk_wants : (c : Change) (t u k : List ℕ) (old : List Move) (s v : WantIter) (a : WantAt) (found : List Move) → IsEntryWalk c t u k old s found
+    → (steps : GivesNextWant s (Some a) v) → IsWantAt c.models.now c.cur.now steps.gives.place (want_of a.want)
+walk_wants c t u k old s v a found walk steps =
+    subst (λ d. IsWantAt c.models.now d steps.gives.place (want_of a.want)) walk.of
+    (subst (λ ms. IsWantAt ms s.config.now steps.gives.place (want_of a.want)) walk.by steps.gives.wanted.1)
+
 module _ (c : Change) (t u k : List ℕ) (old : List Move) where
   pub entry_begins : (s : WantIter) → s.models.now ≡ c.models.now → s.config.now ≡ c.cur.now → BeginsAt c u k s → IsEntryWalk c t u k old s old
   entry_begins s by of begins = record {
@@ -52,9 +59,7 @@ module _ (c : Change) (t u k : List ℕ) (old : List Move) where
     named = names_named c.cur.now first.place a (subst (λ d. IsNamed d first.place a) walk.of first.named)
 
     wanted : IsWantAt c.models.now c.cur.now first.place (want_of a.want)
-    wanted =
-        subst (λ d. IsWantAt c.models.now d first.place (want_of a.want)) walk.of
-        (subst (λ ms. IsWantAt ms s.config.now first.place (want_of a.want)) walk.by first.wanted.1)
+    wanted = walk_wants c t u k old s v a found walk steps
 
     item : a.item ≡ first.place.item
     item = (subst (λ d. IsNamed d first.place a) walk.of first.named).item

@@ -6,6 +6,7 @@ pub mod DistinctLists
 pub mod GoneKeys
 pub mod UntouchedPlaces
 pub mod KeptKeys
+pub mod KeyLengths
 pub mod Leafrefs
 pub mod NonemptyNames
 pub mod Names

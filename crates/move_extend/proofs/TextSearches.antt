@@ -14,6 +14,13 @@ among f (t ∷ ts) s (zero, below, is) = ap (λ b. b || list_any (λ u. bytes_eq
 among f (t ∷ ts) s (suc i, below, is) =
     ap (λ b. bytes_eq (f t) s || b) (among f ts s (i, omega (arith, below), is)) ∙ or_true (bytes_eq (f t) s)
 
+-- so is one that passes a test
+pub any_of : {A : Type 0} (f : A → List ℕ) (test : List ℕ → Bool) (ts : List A) (s : List ℕ) → Contains (map f ts) s → test s ≡ true → list_any (λ t. test (f t)) ts ≡ true
+any_of f test [] s has passes = absurd (omega (arith, has.1))
+any_of f test (t ∷ ts) s (zero, below, is) passes = ap (λ b. b || list_any (λ u. test (f u)) ts) (ap test is ∙ passes)
+any_of f test (t ∷ ts) s (suc i, below, is) passes =
+    ap (λ b. test (f t) || b) (any_of f test ts s (i, omega (arith, below), is) passes) ∙ or_true (test (f t))
+
 -- one text is among itself alone
 pub alone : (t s : List ℕ) → Contains (t ∷ []) s → t ≡ s
 alone t s (zero, below, is) = is

@@ -10,7 +10,7 @@ use Rattle.conf_doc.specs.declared.configuration.Table.{Table}
 use Rattle.conf_doc.specs.declared.configuration.Value.{Value}
 use Rattle.conf_doc.specs.declared.configuration.Value.TheVariants.{Text, List as Listed}
 use Rattle.conf_doc.proofs.Edits.{find_at, same_Some}
-use Rattle.conf_check.specs.Rows.{Row, if_modelled, row_at, row_of, rule_of, texts_by_kind, texts_of, typed_text, typed_texts}
+use Rattle.conf_check.specs.Rows.{IsShapeOf, Row, if_modelled, row_at, row_of, rule_of, texts_by_kind, texts_of, typed_text, typed_texts}
 use Rattle.conf_check.specs.Wants.{Want, IsWantedText}
 use Rattle.key_split.specs.Key.{key_parts}
 use Rattle.yang_model.specs.ModelSets.{ModelSet, table_named}
@@ -124,6 +124,22 @@ module _ (models : ModelSet) (c : Config) (w : Want) where
   wanted_text : (shape : Shape) (row : Row) (f : Option ℕ) (i : ℕ) → IsWantedText models c (typed_text shape row f i) w → HasText row.key row.fields w.text
   wanted_text shape row None i wanted = inl (leaf_text row.key i (slice_get shape.keys i) wanted)
   wanted_text shape row (Some j) i wanted = inr (field_text row.fields j i shape (slice_get row.fields j) refl wanted)
+
+-- the entry of a broken want belongs to a shape
+pub shaped_entry : (c : Change) (t u k : List ℕ) (x : Move) → GivesOfEntry c t u k x → (shape : Shape) × IsShapeOf c.models.now u k shape
+shaped_entry c t u k x gives =
+    let given = gives.given in
+    let at = gives.at in
+    let row : Row = given.wanted.row in
+    let shape : Shape = given.wanted.shape in
+    let stands : Stands c.cur.now given.at.table given.at.key row = row_stands c.models.now c.cur.now given.at.table given.at.key row given.wanted.at in
+    let tables : (u, at.entries) ≡ (row.table, stands.entries) = same_Some (u, at.entries) (row.table, stands.entries) (sym at.at ∙ stands.at) in
+    let at_key : slice_get at.entries given.at.key ≡ Some (row.key, row.fields) =
+    subst (λ (p : List ℕ × Table). slice_get p.1 given.at.key ≡ Some (row.key, row.fields)) (sym tables) stands.at_key in
+    let entries : (row.key, row.fields) ≡ (k, at.fields) = same_Some (row.key, row.fields) (k, at.fields) (sym at_key ∙ at.at_key) in
+    let of_table : IsShapeOf c.models.now u row.key shape =
+    subst (λ (p : List ℕ × Table). IsShapeOf c.models.now p.0 row.key shape) (sym tables) given.wanted.shaped in
+    (shape, subst (λ (p : List ℕ × Entry). IsShapeOf c.models.now u p.0 shape) entries of_table)
 
 -- an entry of which a broken want is has one of the texts
 pub mentioned : (c : Change) (t u k : List ℕ) (fields : Entry) (parts : List (List ℕ)) (x : Move) → IsConfig c.cur.now → entry_at c.cur.now u k ≡ Some fields → BreaksOnly c t parts

@@ -2,6 +2,7 @@
 pub mod Entries
 pub mod Found
 pub mod KeptKeys
+pub mod KeyLengths
 pub mod Mentions
 pub mod Referrers
 pub mod Referring

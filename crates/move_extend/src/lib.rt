@@ -5,6 +5,7 @@ mod changes;
 mod delete;
 mod found;
 mod kept_keys;
+mod key_lengths;
 mod mentions;
 mod referrers;
 mod referring;

@@ -3,6 +3,7 @@ ghost use Rattle.std.specs.Prelude.{◌≡◌, ℕ, List, map, IfOk, IsTrue};
 ghost use Rattle.std.specs.List.{Contains, list_any};
 ghost use Rattle.std.specs.Str.{bytes_eq};
 ghost use Rattle.key_split.specs.Key.{key_parts};
+ghost use Rattle.move_extend.specs.KeyLengths.{HasFewParts, is_at_an_end};
 ghost use Rattle.move_extend.specs.Mentions.{Mentions, texts_of_value};
 
 use conf_doc::{Entry, Value};
@@ -25,7 +26,7 @@ pub(crate) fn parts_of<'a>(alloc: Global, key: &'a str) -> Result<Vec<&'a str>, 
 }
 
 /// Whether a text is among some texts.
-fn is_among(texts: &[&str], text: &str) -> bool
+pub(crate) fn is_among(texts: &[&str], text: &str) -> bool
     ensures { result ≡ list_any (λ t. bytes_eq t.now text.now) texts.now }
 {
     texts.iter().any(|t| *t == text)
@@ -42,6 +43,35 @@ fn has_part(texts: &[&str], key: &str) -> bool
         }
     }
     false
+}
+
+/// Whether a text stands at the begin or at the end of a key.
+fn is_at_an_end(key: &str, text: &str) -> bool
+    ensures { result ≡ is_at_an_end key.now text.now }
+{
+    if key.starts_with(text) {
+        return true;
+    }
+    key.ends_with(text)
+}
+
+/// Whether one of some texts stands at an end of a key.
+fn has_end(texts: &[&str], key: &str) -> bool
+    ensures { result ≡ list_any (λ t. is_at_an_end key.now t.now) texts.now }
+{
+    texts.iter().any(|text| is_at_an_end(key, text))
+}
+
+/// Whether a part of the key may be among some texts. One of two parts stands at an end of the key.
+fn may_have_part(texts: &[&str], is_short: bool, key: &str) -> bool
+    ensures { (IsTrue is_short → HasFewParts key.now) → (s : List ℕ)
+        → Contains (map (λ t. t.now) texts.now) s
+        → Contains (key_parts key.now) s → IsTrue result }
+{
+    if is_short {
+        return has_end(texts, key);
+    }
+    has_part(texts, key)
 }
 
 /// Whether a value's text or one of its items is among some texts.
@@ -68,11 +98,13 @@ fn has_item(texts: &[&str], items: &Names) -> bool
     false
 }
 
-/// Whether an entry has one of some texts: as a part of its key, as a field or as an item of one.
-pub(crate) fn mentions_one(texts: &[&str], key: &str, fields: &Entry) -> bool
-    ensures { Mentions (map (λ t. t.now) texts.now) key.now fields.now → IsTrue result }
+/// Whether an entry has one of some texts: as a part of its key, as a field or as an item of one. Of a key that has at
+/// most two parts, where it belongs to a shape, only the ends are looked at.
+pub(crate) fn mentions_one(texts: &[&str], is_short: bool, key: &str, fields: &Entry) -> bool
+    ensures { (IsTrue is_short → HasFewParts key.now)
+        → Mentions (map (λ t. t.now) texts.now) key.now fields.now → IsTrue result }
 {
-    if has_part(texts, key) {
+    if may_have_part(texts, is_short, key) {
         return true;
     }
     for i in 0..fields.len() {

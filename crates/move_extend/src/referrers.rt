@@ -1,5 +1,6 @@
 //! The extender of referrers.
 ghost use Rattle.std.specs.Prelude.{◌≡◌, ◌↔◌, [], map, Some, IfOk, IsSome, IsTrue, OnOk};
+ghost use Rattle.std.specs.List.{Contains};
 ghost use Rattle.conf_check.specs.Wants.{want_of};
 ghost use Rattle.conf_doc.specs.Changes.{entry_at};
 ghost use Rattle.conf_doc.specs.Pairs.{find};
@@ -10,13 +11,15 @@ ghost use Rattle.move_core.specs.Extensions.{IsReferrer};
 ghost use Rattle.move_core.specs.Moves.{IsDefined, list_at};
 ghost use Rattle.key_split.specs.Key.{key_parts};
 ghost use Rattle.move_extend.specs.Found.{Finds};
+ghost use Rattle.move_extend.specs.KeyLengths.{AreKeysShort};
 ghost use Rattle.move_extend.specs.Mentions.{BreaksOnly, GivesOfChange, GivesOfEntry, GivesOfTable, IsRemovalOf, texts_of};
 ghost use Rattle.move_extend.specs.Referrers.{AddsRemoval, GivesRemovals, IsBroken, place_of, removal_of};
 
 use crate::changes::Change;
 use crate::found::{add_move, add_unless_last, append_moves};
 use crate::kept_keys::{keeps_always, keeps_keys};
-use crate::mentions::{Gone, mentions_one, parts_of};
+use crate::key_lengths::has_short_keys;
+use crate::mentions::{Gone, is_among, mentions_one, parts_of};
 use crate::referring::{is_referred, table_refers};
 use conf_check::{Want, WantAt, entry_wants, is_satisfied, wants};
 use conf_doc::{Config, Entry, Path, Table, Value};
@@ -146,19 +149,37 @@ fn broken_wants(
     Ok(found)
 }
 
+/// The same of a key that a move takes away, where such a want has one of the texts that are given with it. By its
+/// text most wants are told at once.
+fn is_lost(change: &Change<'_>, gone: &Gone<'_>, want: &Want) -> bool
+    requires { let c = change.now in
+        IsBroken c.models.now c.next.now gone.now.table.now (want_of want.now)
+        → Contains (texts_of gone.now) want.now.text.now }
+    ensures { let c = change.now in IsTrue result
+        ↔ IsBroken c.models.now c.next.now gone.now.table.now (want_of want.now) }
+{
+    if !is_among(gone.parts, want.text) {
+        return false;
+    }
+    is_broken(change.models, change.next, gone.table, want)
+}
+
 /// Adds the removal of the place of such a want, unless it is there.
 fn find_removal(
     alloc: Global,
     change: &Change<'_>,
-    gone: &str,
+    gone: &Gone<'_>,
     at: &WantAt,
     found: &mut Moves,
 ) -> Result<(), Memory>
-    requires { IsPath (place_of at.now) }
+    requires path { IsPath (place_of at.now) }
+    requires only { let c = change.now in
+        IsBroken c.models.now c.next.now gone.now.table.now (want_of at.now.want)
+        → Contains (texts_of gone.now) at.now.want.text.now }
     ensures { OnOk result
-        (Finds (IsRemovalOf change.now gone.now at.now) found.old found.new) }
+        (Finds (IsRemovalOf change.now gone.now.table.now at.now) found.old found.new) }
 {
-    if is_broken(change.models, change.next, gone, &at.want) {
+    if is_lost(change, gone, &at.want) {
         let removal = removal_of(alloc, change.cur, at)?;
         add_move(found, removal)
     } else {
@@ -170,12 +191,13 @@ fn find_removal(
 fn find_in_entry(
     alloc: Global,
     change: &Change<'_>,
-    gone: &str,
+    gone: &Gone<'_>,
     table: &str,
     key: &str,
     found: &mut Moves,
 ) -> Result<(), Memory>
-    ensures { let Gives = GivesOfEntry change.now gone.now table.now key.now in
+    requires { BreaksOnly change.now gone.now.table.now (texts_of gone.now) }
+    ensures { let Gives = GivesOfEntry change.now gone.now.table.now table.now key.now in
         OnOk result (Finds Gives found.old found.new) }
 {
     let _tables = change.cur.len();
@@ -191,18 +213,20 @@ fn find_in_mentioning(
     change: &Change<'_>,
     gone: &Gone<'_>,
     table: &str,
+    is_short: bool,
     key: &str,
     fields: &Entry,
     found: &mut Moves,
 ) -> Result<(), Memory>
     requires entry { entry_at change.now.cur.now table.now key.now ≡ Some fields.now }
     requires only { BreaksOnly change.now gone.now.table.now (texts_of gone.now) }
+    requires short { IsTrue is_short → AreKeysShort change.now.models.now table.now }
     ensures { let Gives = GivesOfEntry change.now gone.now.table.now table.now key.now in
         OnOk result (Finds Gives found.old found.new) }
 {
     let _tables = change.cur.len();
-    if mentions_one(gone.parts, key, fields) {
-        find_in_entry(alloc, change, gone.table, table, key, found)
+    if mentions_one(gone.parts, is_short, key, fields) {
+        find_in_entry(alloc, change, gone, table, key, found)
     } else {
         Ok(())
     }
@@ -225,10 +249,11 @@ fn find_in_table(
     if !table_refers(change.models, table, gone.table) {
         return Ok(());
     }
+    let is_short = has_short_keys(change.models, table);
     for i in 0..entries.len() {
         let key = entries.name_at(i);
         let fields = entries.part_at(i);
-        find_in_mentioning(alloc, change, gone, table, key, fields, found)?;
+        find_in_mentioning(alloc, change, gone, table, is_short, key, fields, found)?;
     }
     Ok(())
 }

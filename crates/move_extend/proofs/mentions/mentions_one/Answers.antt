@@ -19,12 +19,12 @@ loop-i-preserved c =
     absurd cc)
 
 pub returns : goal.returns
-returns c = λ m.
+returns c = λ short m.
     let values = map (λ f. f.1) c.args.fields.now in
     elim m.has [
       | inl part ↦
-          let yes = c.has_part.ensures m.text m.part part in
-          let no = c.if-has_part.false in
+          let yes = c.may_have_part.ensures short m.text m.part part in
+          let no = c.if-may_have_part.false in
           absurd cc
       | inr field ↦
           let below = within values field.field field.value field.has.0 in

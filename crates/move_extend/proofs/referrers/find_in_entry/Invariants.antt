@@ -5,4 +5,4 @@ abbrev pub invariant-loop-at : goal.invariant-loop-at
 invariant-loop-at l =
     (goal.iterator-loop-at).can_next l.at-iterator
     × (goal.iterator-loop-at).is_finite l.at-iterator
-    × IsEntryWalk l.change l.gone l.table l.key l.fn.found l.at-iterator l.found
+    × IsEntryWalk l.change l.gone.table.now l.table l.key l.fn.found l.at-iterator l.found

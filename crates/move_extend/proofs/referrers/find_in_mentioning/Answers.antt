@@ -1,7 +1,7 @@
 use Rattle.std.proofs.Common.{refl}
 use Rattle.move_extend.specs.Mentions.{GivesOfEntry, texts_of}
 use Rattle.move_extend.proofs.DistinctLists.{finds_none}
-use Rattle.move_extend.proofs.Texts.{mentioned}
+use Rattle.move_extend.proofs.Texts.{mentioned, shaped_entry}
 use Rattle.move_extend.proofs.referrers.find_in_mentioning.Goals as goal
 
 pub returns-else-mentions_one : goal.returns-else-mentions_one
@@ -12,5 +12,8 @@ returns-else-mentions_one c =
     (λ x gives.
     let no = c.if-mentions_one.false in
     let has = c.mentions_one.ensures
+    (λ short.
+    let shaped = shaped_entry change gone.table.now c.args.table.now c.args.key.now x gives in
+    c.requires.short short c.args.key.now shaped.0 shaped.1)
     (mentioned change gone.table.now c.args.table.now c.args.key.now c.args.fields.now (texts_of gone) x c.len-tables.ensures.formed c.requires.entry c.requires.only gives) in
     absurd cc)
