@@ -1,5 +1,5 @@
 -- Entries that are gone through, and how many of them are counted.
-use Rattle.std.proofs.Common.{◌≡◌, ◌<◌, ◌≤◌, ◌+◌, ◌-◌, ℕ, zero, suc, Bool, true, false, cond, ◌&&◌, IsTrue, List, [], ◌∷◌, ◌++◌, map, take, drop, length, insert, Option, Some, None, Result, IfOk, is_some, slice_get, min, refl, sym, ap, ◌∙◌, subst, inl, inr, add-one, length-append, arith}
+use Rattle.std.proofs.Common.{◌≡◌, ◌<◌, ◌≤◌, ◌+◌, ℕ, zero, suc, Bool, true, false, cond, ◌&&◌, IsTrue, List, [], ◌∷◌, ◌++◌, map, take, drop, length, insert, Option, Some, None, Result, IfOk, is_some, slice_get, min, refl, sym, ap, ◌∙◌, subst, inl, inr, add-one, length-append, arith}
 use Rattle.std.proofs.lemmas.List.{take-append-drop}
 use Rattle.std.proofs.lemmas.Result.{IfOk-weaker}
 use Rattle.std.specs.Prelude.{if◌then◌else◌}
@@ -8,18 +8,19 @@ use Rattle.std.specs.Str.{bytes_eq}
 use Rattle.std.proofs.lemmas.Slice.Eq.{bytes_eq-Decides}
 use Rattle.conf_doc.specs.declared.configuration.Config.{Config}
 use Rattle.conf_doc.specs.declared.configuration.Table.{Table}
-use Rattle.move_core.specs.Moves.{place}
 use Rattle.move_core.specs.declared.moves.Move.{Move}
 use Rattle.yang_model.specs.ModelSets.{ModelSet, table_named}
-use Rattle.recheck.specs.Counts.{AreChecked, AreCounted, AreLeft, IsCount, IsOneCounted, IsOneLooked, IsRaised, number_of}
-use Rattle.recheck.specs.Entries.{AreWithin, entries_in, entries_of, entries_with_model, greatest, is_of, raised}
+use Rattle.ref_index.specs.Agreements.{entry_of}
+use Rattle.recheck.specs.Counts.{AreChecked, AreCounted, AreLeft, IsCount, IsOneCounted, IsRaised, IsTold, number_of}
+use Rattle.recheck.specs.Entries.{AreWithin, IsLooked, entries_in, entries_of, entries_with_model, greatest, is_of, raised}
 use Rattle.recheck.specs.SoleEntries.{IsSoleEntry}
-use Rattle.recheck.specs.Rechecks.{AreWalked, IsNext, IsNotedAt}
+use Rattle.recheck.specs.Rechecks.{AreLooked, AreWalked, IsNext, IsNotedAt}
 use Rattle.recheck.specs.Verdicts.{is_on}
 use Rattle.recheck.specs.declared.kept.Kept.{Kept}
 use Rattle.recheck.specs.declared.verdicts.Verdict.{Verdict}
 use Rattle.recheck.proofs.Pairs.{some_same}
 use Rattle.recheck.proofs.ParallelWalks.{all_passed, both_more, missed, one_more, passed}
+use Rattle.recheck.proofs.VerdictOrder.{some_breaks, some_entry}
 
 -- ---- lists cut at a place
 
@@ -84,7 +85,7 @@ module _ {A : Type 0} where
   there (x ∷ xs) (suc i) lt = there xs i (omega (arith, lt))
 
 -- a verdict is on its own entry
-on_itself : (table key : List ℕ) → is_on table key (record { table = table; key = key }) ≡ true
+pub on_itself : (table key : List ℕ) → is_on table key (record { table = table; key = key }) ≡ true
 on_itself table key =
     let k : bytes_eq key key ≡ true = (bytes_eq-Decides key key).1 refl in
     let t : bytes_eq table table ≡ true = (bytes_eq-Decides table table).1 refl in
@@ -204,13 +205,13 @@ module _ (table key : List ℕ) (vs : List Verdict) (b c : ℕ) where
 
 -- ---- tables
 
-named_at : (name : List ℕ) (entries : Table) (i : ℕ) (key : List ℕ) → slice_get (map (λ e. e.0) entries) i ≡ Some key
+pub named_at : (name : List ℕ) (entries : Table) (i : ℕ) (key : List ℕ) → slice_get (map (λ e. e.0) entries) i ≡ Some key
     → slice_get (entries_in (name, entries)) i ≡ Some (name, key)
 named_at name [] i key at = cc
 named_at name (x ∷ xs) zero key at = ap (λ k. Some (name, k)) (some_same x.0 key at)
 named_at name (x ∷ xs) (suc i) key at = named_at name xs i key at
 
-long_in : (name : List ℕ) (entries : Table) → length (entries_in (name, entries)) ≡ length entries
+pub long_in : (name : List ℕ) (entries : Table) → length (entries_in (name, entries)) ≡ length entries
 long_in name [] = refl
 long_in name (x ∷ xs) = ap suc (long_in name xs)
 
@@ -245,7 +246,7 @@ unmodelled_none models p name o u a j same is lacks =
     let e : is_some (table_named p.0 models) ≡ false = ap (λ n. is_some (table_named n models)) (sym same) ∙ sym is ∙ lacks in
     subst (λ x. AreWalked (cond x (entries_in p) []) u a u a j j true) (sym e) (walked_none u a j)
 
-entries_more : (models : ModelSet) (c : Config) (t : ℕ) (p : List ℕ × Table) → slice_get c t ≡ Some p
+pub entries_more : (models : ModelSet) (c : Config) (t : ℕ) (p : List ℕ × Table) → slice_get c t ≡ Some p
     → entries_of models (take (suc t) c) ≡ entries_of models (take t c) ++ entries_with_model models p
 entries_more models [] t p at = cc
 entries_more models (q ∷ c) zero p at =
@@ -270,6 +271,19 @@ pub tables_all : (models : ModelSet) (config : Config) (t : ℕ) (u v : List Ver
     → AreWalked (entries_of models (take t config)) u a v b j k valid → AreWalked (entries_of models config) u a v b j k valid
 tables_all models config t u v a b j k valid past walked =
     subst (λ (x : Config). AreWalked (entries_of models x) u a v b j k valid) (take_all config t past) walked
+
+-- they are no more than all entries
+few_if : (b : Bool) (p : List ℕ × Table) → length (cond b (entries_in p) []) ≤ length p.1
+few_if true p = let l = long_in p.0 p.1 in omega (arith, l)
+few_if false p = omega arith
+
+entries_few : (models : ModelSet) (c : Config) → length (entries_of models c) ≤ number_of c
+entries_few models [] = omega arith
+entries_few models (p ∷ c) =
+    let l = long (entries_with_model models p) (entries_of models c) in
+    let first = few_if (is_some (table_named p.0 models)) p in
+    let rest = entries_few models c in
+    omega (arith, l, first, rest)
 
 -- ---- a call, by what is found, noted and read
 
@@ -321,8 +335,8 @@ module _ (models : ModelSet) (config : Config) (left u v : List Verdict) (a b c 
 
   -- and as many entries were counted as had none
   checked_after : (old : Option Kept) (kept : Kept) → AreLeft models old config left → kept.verdicts.items ≡ v → kept.valid ≡ valid
-      → IsRaised c c' (λ count. AreChecked models old config kept count valid)
-  checked_after old kept are holds known =
+      → AreLooked models config es u v → IsRaised c c' (λ count. AreChecked models old config kept count valid)
+  checked_after old kept are holds known looked =
       let ahead : drop a u ≡ left = ap (λ n. drop n u) start ∙ is in
       let none : take a u ≡ [] = ap (λ n. take n u) start in
       let l1 = ap length ahead in
@@ -335,6 +349,7 @@ module _ (models : ModelSet) (config : Config) (left u v : List Verdict) (a b c 
           left = left;
           are = are;
           counts = omega (arith, walked.counts, l1, l2);
+          looked = λ table key has. subst (λ l. IsLooked models config l table key) (sym holds) (looked.each table key has);
           noted = λ yes.
               elim (walked.noted yes) [
                 | inl all ↦ inl (omega (arith, all, l3, l4, l5))
@@ -345,9 +360,9 @@ module _ (models : ModelSet) (config : Config) (left u v : List Verdict) (a b c 
         walked.raises,
       )
 
-  pub counted_after : (old : Option Kept) (kept : Kept) → AreLeft models old config left → kept.verdicts.items ≡ v → kept.valid ≡ valid → (mv : Move)
-      → IsRaised c c' (λ count. AreCounted models old config mv kept count valid)
-  counted_after old kept are holds known mv = let is = checked_after old kept are holds known in (is.0, inr is.1, is.2)
+  pub counted_after : (old : Option Kept) (kept : Kept) → AreLeft models old config left → kept.verdicts.items ≡ v → kept.valid ≡ valid
+      → AreLooked models config es u v → (mv : Move) → IsRaised c c' (λ count. AreCounted models old config mv kept count valid)
+  counted_after old kept are holds known looked mv = let is = checked_after old kept are holds known looked in (is.0, inr is.1, is.2)
 
 -- ---- what is counted, in a call that may be refused
 
@@ -362,26 +377,47 @@ module _ (models : ModelSet) (next : Config) (mv : Move) {E : Type 0} (c d : ℕ
 
 module _ (models : ModelSet) (old new : Option Kept) (next : Config) (mv : Move) where
   -- an entry told at once that the next configuration is invalid
-  pub told_counts : (c c' : ℕ) → new ≡ old → (length (place mv) ≤ 2) × (c' ≡ raised c 1) → IsRaised c c' (IsCount models old new next mv false)
-  told_counts c c' same told = (1, inl (record { invalid = refl; kept = same; one = refl; at = told.0 }), told.1)
+  pub told_counts : (c d : ℕ) → new ≡ old → IsTold models old next mv → d ≡ raised c 1 → IsRaised c d (IsCount models old new next mv false)
+  told_counts c d same told raises = (1, inl (record { invalid = refl; kept = same; one = refl; told = told }), raises)
 
   -- the others were counted
-  pub rechecked_counts : (kept : Kept) (valid : Bool) (c d e : ℕ) → new ≡ Some kept → IsRaised c d (IsOneLooked mv)
-      → IsRaised d e (λ count. AreCounted models old next mv kept count valid) → IsRaised c e (IsCount models old new next mv valid)
-  rechecked_counts kept valid c d e same first more =
-      let f = first.2 in
-      let t = more.2 in (
-        first.0 + more.0,
-        inr (inl (record { first = first.0; looked = first.1; rest = more.0; is = refl; kept = kept; keeps = same; checked = more.1 })),
-        omega (arith, f, t),
-      )
+  pub rechecked_counts : (kept : Kept) (valid : Bool) (c d : ℕ) → new ≡ Some kept → IsRaised c d (λ count. AreCounted models old next mv kept count valid)
+      → IsRaised c d (IsCount models old new next mv valid)
+  rechecked_counts kept valid c d same more = (more.0, inr (inl (record { kept = kept; keeps = same; checked = more.1 })), more.2)
 
   -- all were
-  pub refused_counts : (valid : Bool) (c d e n f : ℕ) → new ≡ None → c ≤ d → d ≤ e → e ≤ greatest → n ≡ min (number_of next) greatest → f ≡ min (e + n) greatest
-      → IsRaised c f (IsCount models old new next mv valid)
-  refused_counts valid c d e n f none le more bound is raises =
-      let k = e - c in
-      (k + number_of next, inr (inr (record { none = none; all = omega arith })), omega (arith, le, more, bound, is, raises))
+  pub refused_counts : (valid : Bool) (c d n : ℕ) → new ≡ None → c ≤ greatest → n ≡ min (number_of next) greatest → d ≡ min (c + n) greatest
+      → IsRaised c d (IsCount models old new next mv valid)
+  refused_counts valid c d n none bound is raises =
+      (number_of next, inr (inr (record { none = none; all = refl })), omega (arith, bound, is, raises))
+
+  -- they are no more than there are
+  one_within : (table key : List ℕ) (count : ℕ) → is_some (table_named table models) ≡ true
+      → (b : Bool) → is_some (entry_of table key next) ≡ b → count ≡ (if b then 1 else 0) → count ≤ number_of next
+  one_within table key count model true there is =
+      let some = some_entry models next table key model there in
+      let few = entries_few models next in
+      omega (arith, some, few, is)
+  one_within table key count model false there is = omega (arith, is)
+
+  counted_within : (kept : Kept) (count : ℕ) (valid : Bool) → AreCounted models old next mv kept count valid → count ≤ number_of next
+  counted_within kept count valid (inl one) =
+      one_within one.table one.key count one.entry.sole.alone.modelled (is_some (entry_of one.table one.key next)) refl one.counted.counts
+  counted_within kept count valid (inr all) = let few = entries_few models next in omega (arith, few, all.counts)
+
+  within : (count : ℕ) (valid : Bool) → IsCount models old new next mv valid count → count ≤ number_of next
+  within count valid (inl first) =
+      let some = some_breaks models next first.told.entry.table first.told.entry.key first.told.breaks in
+      let few = entries_few models next in
+      omega (arith, some, few, first.one)
+  within count valid (inr (inl rest)) = counted_within rest.kept count valid rest.checked
+  within count valid (inr (inr all)) = omega (arith, all.all)
+
+  pub at_most : (c d : ℕ) (valid : Bool) → IsRaised c d (IsCount models old new next mv valid) → d ≤ c + number_of next
+  at_most c d valid counts =
+      let few = within counts.0 valid counts.1 in
+      let raises = counts.2 in
+      omega (arith, few, raises)
 
 -- ---- all entries
 

@@ -1,6 +1,8 @@
 pub mod VerdictChanges
 pub mod EntryValidity
 pub mod EntryCounts
+pub mod LookedEntries
+pub mod Losers
 pub mod VerdictDrops
 pub mod ShapeDecisions
 pub mod RemainingVerdicts

@@ -70,6 +70,12 @@ module _ {V : Type 0} where
   Each P [] = Unit {0}
   Each P (x ∷ xs) = P x × Each P xs
 
+  -- where P holds of each that is dropped
+  pub left_where : (P D G : V → Type 0) → ((v : V) → P v → D v → G v) → (old new : List V) → Each P old → IsLeft D old new → IsLeft G old new
+  left_where P D G f [] new all is = is
+  left_where P D G f (v ∷ old) new all (inl gone) = inl (f v all.0 gone.0, left_where P D G f old new all.1 gone.1)
+  left_where P D G f (v ∷ old) new all (inr stays) = inr (stays.0, stays.1, left_where P D G f old stays.0 all.1 stays.2)
+
   pub each_left : (D P : V → Type 0) (old new : List V) → IsLeft D old new → Each P old → Each P new
   each_left D P [] new is all = subst (λ l. Each P l) (sym is) all
   each_left D P (v ∷ old) new (inl gone) all = each_left D P old new gone.1 all.1

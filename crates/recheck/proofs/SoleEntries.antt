@@ -3,6 +3,7 @@ use Rattle.std.proofs.Common.{◌≡◌, ◌⊎◌, ◌↔◌, ◌≤◌, ◌+�
 use Rattle.std.specs.Bool.{OnFalse}
 use Rattle.std.specs.List.{All}
 use Rattle.std.proofs.lemmas.Bool.{cases_lt, eqb-true}
+use Rattle.std.proofs.lemmas.List.Elements.{All-contains}
 use Rattle.std.proofs.lemmas.Option.{slice_get_cases, slice_get_within}
 use Rattle.conf_doc.specs.Pairs.{find}
 use Rattle.conf_doc.specs.WellFormed.{IsConfig}
@@ -17,13 +18,15 @@ use Rattle.ref_index.specs.Agreements.{AgreeBut, entry_of}
 use Rattle.ref_index.specs.Referrers.{AreReferrers, HasWant, want_for}
 use Rattle.ref_index.specs.declared.places.Place.{Place}
 use Rattle.ref_index.proofs.Agreements.{by_name, same_or_one}
-use Rattle.recheck.specs.Changes.{AreAmong, AreNoReaders, AreUnreadBefore, IsPartUnwanted, IsTextUnwanted}
+use Rattle.recheck.specs.Changes.{AreAmong, AreNoReaders, AreUnreadBefore, IsOnGone, IsPartUnwanted, IsTextUnwanted}
 use Rattle.recheck.specs.SoleEntries.{IsUnread, IsUnwanted, StandsAlone}
-use Rattle.recheck.specs.Turned.{IsOn, IsSame, IsTouched, Reads}
+use Rattle.recheck.specs.Turned.{IsOn, IsSame, IsTouched, IsTurned, Reads}
 use Rattle.recheck.specs.Verdicts.{AreSound, IsSound}
+use Rattle.recheck.specs.Within.{IsLeft}
 use Rattle.recheck.specs.declared.verdicts.Verdict.{Verdict}
 use Rattle.recheck.proofs.Lists.{among_all, entry_found, entry_there}
 use Rattle.recheck.proofs.Pairs.{left_at}
+use Rattle.recheck.proofs.ParallelWalks.{each_all, left_where}
 use Rattle.recheck.proofs.Readers.{no_readers}
 use Rattle.recheck.proofs.Rows.{no_row_past_keys, no_row_past_tables}
 use Rattle.recheck.proofs.VerdictChanges.{sound_one}
@@ -145,6 +148,19 @@ still_sound models config next table key old new agree valid sound among stays i
             | inr none ↦ absurd (none i d lt one)
           ]
         ]
+
+-- a verdict on the entry falls where that is gone, which may turn it
+pub gone_turned : (models : ModelSet) (config next : Config) (table key : List ℕ) (old new : List Verdict) → AreSound models config old
+    → IsLeft (IsOnGone next table key) old new → IsLeft (IsTurned models config next) old new
+gone_turned models config next table key old new sound =
+    left_where (IsSound models config) (IsOnGone next table key) (IsTurned models config next) turns old new
+    (each_all (IsSound models config) old (λ v has. All-contains (IsSound models config) old v sound has))
+  where
+    turns : (v : Verdict) → IsSound models config v → IsOnGone next table key v → IsTurned models config next v
+    turns v is gone =
+        let there : IsTrue (is_some (entry_of table key config)) =
+        subst (λ t. IsTrue (is_some (entry_of t key config))) gone.0.0 (subst (λ k. IsTrue (is_some (entry_of v.table k config))) gone.0.1 is.there) in
+        inl (record { table = table; key = key; there = there; differs = λ same. gone.1 (ap is_some same ∙ there); touches = inl (inl gone.0) })
 
 -- ---- an entry that none wants
 

@@ -1,5 +1,5 @@
 -- Verdicts are in the order of the entries, whichever configuration these are of.
-use Rattle.std.proofs.Common.{◌≡◌, ◌⊎◌, ℕ, zero, suc, Bool, true, false, cond, ◌&&◌, List, [], ◌∷◌, Some, is_some, slice_get, Less, Equal, refl, sym, ap, ◌∙◌, subst, inl, inr}
+use Rattle.std.proofs.Common.{◌≡◌, ◌⊎◌, ◌≤◌, ℕ, zero, suc, Bool, true, false, cond, ◌&&◌, IsTrue, List, [], ◌∷◌, length, Some, is_some, slice_get, Less, Equal, refl, sym, ap, ◌∙◌, subst, inl, inr, arith}
 use Rattle.std.specs.FinMap.Entries.{below_all}
 use Rattle.std.specs.Str.{bytes_eq}
 use Rattle.std.proofs.lemmas.Bool.{and_parts}
@@ -13,12 +13,15 @@ use Rattle.conf_doc.specs.declared.configuration.Config.{Config}
 use Rattle.conf_doc.specs.declared.configuration.Entry.{Entry}
 use Rattle.conf_doc.specs.declared.configuration.Table.{Table}
 use Rattle.yang_model.specs.ModelSets.{ModelSet, table_named}
+use Rattle.conf_check.specs.Validity.{IsValidAt}
+use Rattle.ref_index.specs.Agreements.{entry_of}
 use Rattle.recheck.specs.Entries.{AreWithin, entries_in, entries_of, entries_with_model, is_of}
 use Rattle.recheck.specs.Verdicts.{AreSound, IsSound}
 use Rattle.recheck.specs.Within.{IsLeft}
 use Rattle.recheck.specs.declared.verdicts.Verdict.{Verdict}
 use Rattle.recheck.proofs.Lists.{entry_there}
 use Rattle.recheck.proofs.Pairs.{less_is, some_same}
+use Rattle.recheck.proofs.Rows.{no_row_unmodelled}
 use Rattle.recheck.proofs.ParallelWalks.{Each, Has, Rises, each_all, each_also, each_append, each_left, each_two, each_within, has_first, has_second, rises_append, rises_left, rises_within, within_rising}
 
 abbrev Name : Type 0
@@ -132,6 +135,37 @@ module _ (models : ModelSet) where
       (has_if (is_some (table_named table models)) (entries_in (table, entries)) (table, key) is (has_key table key entries fields k at_key)))
   has_entry (p ∷ c) (suc t) k table key entries fields at at_key is =
       has_second (entries_with_model models p) (entries_of models c) (table, key) (has_entry c t k table key entries fields at at_key is)
+
+  some_has : (es : List Name) (e : Name) → Has es e → 1 ≤ length es
+  some_has [] e has = absurd has
+  some_has (x ∷ es) e has = omega arith
+
+  -- there is one where an entry of a table with a model is there
+  pub some_entry : (c : Config) (table key : List ℕ) → is_some (table_named table models) ≡ true → IsTrue (is_some (entry_of table key c))
+      → 1 ≤ length (entries_of models c)
+  some_entry c table key model there =
+      let at = entry_there c table key there in
+      some_has (entries_of models c) (table, key) (has_entry c at.0 at.1 table key at.2.entries at.2.fields at.2.at at.2.at_key model)
+
+  -- and where one breaks a rule
+  none_breaks : (c : Config) (table key : List ℕ) → length (entries_of models c) ≡ 0 → IsValidAt models c table key
+  none_breaks c table key none b is = by (is_some (table_named table models)) refl
+    where
+      by : (o : Bool) → is_some (table_named table models) ≡ o → ⊥
+      by true model =
+          let has = has_entry c b.table b.key table key is.entry.entries is.entry.fields is.entry.at is.entry.at_key model in
+          let some = some_has (entries_of models c) (table, key) has in
+          omega (arith, some, none)
+      by false model =
+          no_row_unmodelled models c b.table b.key table is.entry.entries is.entry.at
+          (λ yes. let e : true ≡ false = sym yes ∙ model in absurd cc) is.broken.row is.broken.at
+
+  pub some_breaks : (c : Config) (table key : List ℕ) → (¬ IsValidAt models c table key) → 1 ≤ length (entries_of models c)
+  some_breaks c table key breaks = by (length (entries_of models c)) refl
+    where
+      by : (n : ℕ) → length (entries_of models c) ≡ n → 1 ≤ n
+      by zero is = absurd (breaks (none_breaks c table key is))
+      by (suc n) is = omega arith
 
   -- verdicts that are left and true in another configuration are in the order of its entries
   pub ordered_on : (D : Verdict → Type 0) (config next : Config) (old new : List Verdict) → IsConfig config → IsConfig next → IsLeft D old new

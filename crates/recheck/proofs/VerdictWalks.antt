@@ -10,9 +10,9 @@ use Rattle.conf_doc.specs.declared.configuration.Table.{Table}
 use Rattle.yang_model.specs.ModelSets.{ModelSet}
 use Rattle.conf_check.specs.Rows.{IsEntryAt}
 use Rattle.conf_check.specs.Validity.{IsValidAt}
-use Rattle.recheck.specs.Rechecks.{HasVerdict, IsNoted}
+use Rattle.recheck.specs.Rechecks.{IsNoted}
 use Rattle.ref_index.specs.Agreements.{entry_of}
-use Rattle.recheck.specs.Verdicts.{AreSound, IsSound}
+use Rattle.recheck.specs.Verdicts.{AreSound, HasVerdict, IsSound}
 use Rattle.recheck.specs.declared.verdicts.Verdict.{Verdict}
 use Rattle.recheck.proofs.Lists.{all_insert, entry_found}
 use Rattle.recheck.proofs.Pairs.{holder_at, pair_at}

@@ -1,5 +1,5 @@
 -- Which verdicts are dropped, and which may be left.
-use Rattle.std.specs.Prelude.{◌≡◌, ◌⊎◌, ◌<◌, ◌≤◌, ℕ, suc, Bool, false, List, Some, length, map, slice_get}
+use Rattle.std.specs.Prelude.{◌≡◌, ◌⊎◌, ◌<◌, ◌≤◌, ℕ, suc, Bool, false, List, Some, is_some, IsTrue, length, map, slice_get}
 use Rattle.std.specs.List.{All, Contains, list_any}
 use Rattle.std.specs.Str.{bytes_eq}
 use Rattle.conf_doc.specs.Pairs.{find}
@@ -10,6 +10,7 @@ use Rattle.conf_check.specs.Wants.{Want}
 use Rattle.yang_model.specs.ModelSets.{ModelSet, shapes_of}
 use Rattle.yang_model.specs.declared.shapes.MustRule.{MustRule}
 use Rattle.yang_model.specs.declared.shapes.Shape.{Shape}
+use Rattle.ref_index.specs.Agreements.{entry_of}
 use Rattle.ref_index.specs.Referrers.{HasWant, want_for}
 use Rattle.ref_index.specs.declared.places.Place.{Place}
 use Rattle.recheck.specs.declared.verdicts.Verdict.{Verdict}
@@ -101,6 +102,11 @@ AreTablesHandled models config next verdicts of n =
 -- the verdict is on the entry of one of some places
 abbrev pub IsOnOne : List Place → Verdict → Type 0
 IsOnOne places v = (p : Place) × Contains places p × IsOn p.table p.key v
+
+-- the verdict is on that entry, which isn't there
+abbrev pub IsOnGone : Config → List ℕ → List ℕ → Verdict → Type 0
+IsOnGone next table key v =
+    IsOn table key v × (¬ IsTrue (is_some (entry_of table key next)))
 
 -- a text of the verdict's entry has that want
 abbrev pub HasText : ModelSet → Config → Want → Verdict → Type 0

@@ -1,14 +1,16 @@
--- How many entries a call of the rule counts.
+-- How many entries a call of the rule counts, and which verdicts it leaves.
 use Rattle.std.specs.Prelude.{◌≡◌, ◌⊎◌, ◌≤◌, ◌+◌, ℕ, List, [], ◌∷◌, Option, Some, None, Bool, false, if◌then◌else◌, is_some, IsTrue, length}
 use Rattle.std.specs.Bool.{OnFalse, OnTrue}
+use Rattle.std.specs.List.{Contains}
 use Rattle.conf_doc.specs.declared.configuration.Config.{Config}
-use Rattle.move_core.specs.Moves.{place}
+use Rattle.conf_check.specs.Validity.{IsValidAt}
 use Rattle.move_core.specs.declared.moves.Move.{Move}
 use Rattle.yang_model.specs.ModelSets.{ModelSet}
 use Rattle.ref_index.specs.Agreements.{entry_of}
 use Rattle.recheck.specs.Turned.{IsTurned}
 use Rattle.recheck.specs.SoleEntries.{IsSoleEntry}
-use Rattle.recheck.specs.Entries.{entries_of, most_verdicts, raised}
+use Rattle.recheck.specs.Entries.{IsLooked, entries_of, most_verdicts, raised}
+use Rattle.recheck.specs.Losses.{IsLoserOfKept}
 use Rattle.recheck.specs.Within.{IsLeft}
 use Rattle.recheck.specs.declared.kept.Kept.{Kept}
 use Rattle.recheck.specs.declared.verdicts.Verdict.{Verdict}
@@ -24,13 +26,23 @@ AreLeft models None next left = left ≡ []
 AreLeft models (Some kept) next left =
     IsLeft (IsTurned models kept.index.config next) kept.verdicts.items left
 
--- so many entries have no verdict that is left; where none has a violation, each has one then, or there are
--- as many as are kept, and the configuration is known to be valid
+-- each verdict that was kept still is, but those that a difference of the configurations may turn
+abbrev pub AreStillKept : ModelSet → Option Kept → Config → List Verdict → Type 0
+AreStillKept models None next new = Unit {0}
+AreStillKept models (Some kept) next new =
+    (v : Verdict) → Contains kept.verdicts.items v → ¬ IsTurned models kept.index.config next v
+    → Contains new v
+
+-- so many entries have no verdict that is left, and each entry was looked at; where none has a violation,
+-- each has a verdict then, or there are as many as are kept, and the configuration is known to be valid
 pub record AreChecked (models : ModelSet) (old : Option Kept) (next : Config) (kept : Kept)
     (count : ℕ) (valid : Bool) : Type 0 where
   pub left : List Verdict
   pub are : AreLeft models old next left
   pub counts : count + length left ≡ length (entries_of models next)
+  pub looked :
+      (table key : List ℕ) → Contains (entries_of models next) (table, key)
+      → IsLooked models next kept.verdicts.items table key
   pub noted : IsTrue valid
       → (length kept.verdicts.items ≡ length (entries_of models next))
       ⊎ (most_verdicts ≤ length kept.verdicts.items)
@@ -62,39 +74,38 @@ AreCounted models old next mv kept count valid =
     IsOneChecked models old next mv kept count valid
     ⊎ AreChecked models old next kept count valid
 
--- an entry is looked at before anything else, which a move at a field never asks
-abbrev pub IsOneLooked : Move → ℕ → Type 0
-IsOneLooked mv count = (count ≡ 0) ⊎ ((count ≡ 1) × (length (place mv) ≤ 2))
-
--- that entry told that the configuration is invalid
-pub record IsToldFirst (old new : Option Kept) (mv : Move) (count : ℕ) (valid : Bool)
+-- an entry that lost what it wants by what is kept breaks a rule
+pub record IsTold (models : ModelSet) (old : Option Kept) (next : Config) (mv : Move)
     : Type 0 where
+  pub entry : Verdict
+  pub loser : IsLoserOfKept models old next mv entry
+  pub breaks : ¬ IsValidAt models next entry.table entry.key
+
+-- that one told that the configuration is invalid, and alone is counted
+pub record IsToldFirst (models : ModelSet) (old new : Option Kept) (next : Config) (mv : Move)
+    (count : ℕ) (valid : Bool) : Type 0 where
   pub invalid : valid ≡ false
   pub kept : new ≡ old
   pub one : count ≡ 1
-  pub at : length (place mv) ≤ 2
+  pub told : IsTold models old next mv
 
--- they were counted, and the one looked at before
+-- they were counted
 pub record IsRechecked (models : ModelSet) (old new : Option Kept) (next : Config) (mv : Move)
     (count : ℕ) (valid : Bool) : Type 0 where
-  pub first : ℕ
-  pub looked : IsOneLooked mv first
-  pub rest : ℕ
-  pub is : count ≡ first + rest
   pub kept : Kept
   pub keeps : new ≡ Some kept
-  pub checked : AreCounted models old next mv kept rest valid
+  pub checked : AreCounted models old next mv kept count valid
 
--- a growth was refused: nothing is kept, and all entries were counted, and maybe some before
+-- a growth was refused: nothing is kept, and all entries were counted, each once
 pub record IsRefused (new : Option Kept) (next : Config) (count : ℕ) : Type 0 where
   pub none : new ≡ None
-  pub all : number_of next ≤ count
+  pub all : count ≡ number_of next
 
 -- how many entries a call counts
 abbrev pub IsCount :
     ModelSet → Option Kept → Option Kept → Config → Move → Bool → ℕ → Type 0
 IsCount models old new next mv valid count =
-    IsToldFirst old new mv count valid
+    IsToldFirst models old new next mv count valid
     ⊎ IsRechecked models old new next mv count valid
     ⊎ IsRefused new next count
 

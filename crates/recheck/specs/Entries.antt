@@ -1,10 +1,11 @@
 -- The entries that are checked for violations, and the verdicts on them in their order.
-use Rattle.std.specs.Prelude.{◌+◌, ◌++◌, ℕ, List, [], ◌∷◌, Bool, if◌then◌else◌, is_some, IsTrue, map, max, min}
+use Rattle.std.specs.Prelude.{◌⊎◌, ◌≤◌, ◌+◌, ◌++◌, ℕ, List, [], ◌∷◌, Bool, if◌then◌else◌, is_some, IsTrue, length, map, max, min}
 use Rattle.conf_doc.specs.declared.configuration.Config.{Config}
 use Rattle.conf_doc.specs.declared.configuration.Table.{Table}
+use Rattle.conf_check.specs.Validity.{IsValidAt}
 use Rattle.yang_model.specs.ModelSets.{ModelSet, table_named}
 use Rattle.ref_index.specs.Referrers.{Indexed}
-use Rattle.recheck.specs.Verdicts.{is_on}
+use Rattle.recheck.specs.Verdicts.{HasVerdict, is_on}
 use Rattle.recheck.specs.Within.{is_within}
 use Rattle.recheck.specs.declared.verdicts.Verdict.{Verdict}
 
@@ -37,6 +38,13 @@ AreOrdered index verdicts = AreWithin verdicts (entries_of index.models index.co
 -- how many verdicts are kept at most
 abbrev pub most_verdicts : ℕ
 most_verdicts = 4096
+
+-- an entry was looked at: it has a verdict or breaks a rule, or there are as many as are kept
+abbrev pub IsLooked : ModelSet → Config → List Verdict → List ℕ → List ℕ → Type 0
+IsLooked models config verdicts table key =
+    HasVerdict table key verdicts
+    ⊎ (¬ IsValidAt models config table key)
+    ⊎ (most_verdicts ≤ length verdicts)
 
 -- the greatest number that is counted
 abbrev pub greatest : ℕ

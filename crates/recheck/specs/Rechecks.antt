@@ -4,7 +4,7 @@ use Rattle.std.specs.List.{Contains, insert}
 use Rattle.conf_doc.specs.declared.configuration.Config.{Config}
 use Rattle.conf_check.specs.Validity.{Breach, IsBreach}
 use Rattle.yang_model.specs.ModelSets.{ModelSet}
-use Rattle.recheck.specs.Entries.{AreWithin, most_verdicts, raised}
+use Rattle.recheck.specs.Entries.{AreWithin, IsLooked, most_verdicts, raised}
 use Rattle.recheck.specs.Verdicts.{is_on}
 use Rattle.recheck.specs.declared.verdicts.Verdict.{Verdict}
 
@@ -20,11 +20,6 @@ IsTableValid models config t = (b : Breach) → b.table ≡ t → ¬ IsBreach mo
 -- no entry of the tables before a position has a violation
 abbrev pub AreTablesValid : ModelSet → Config → ℕ → Type 0
 AreTablesValid models config n = (b : Breach) → b.table < n → ¬ IsBreach models config b
-
--- some verdict is on that entry
-abbrev pub HasVerdict : List ℕ → List ℕ → List Verdict → Type 0
-HasVerdict table key verdicts =
-    (v : Verdict) × Contains verdicts v × (is_on table key v ≡ true)
 
 -- nothing is added, or a verdict on that entry
 abbrev pub IsNoted : List ℕ → List ℕ → List Verdict → List Verdict → Type 0
@@ -60,3 +55,11 @@ pub record AreWalked (entries : List (List ℕ × List ℕ)) (old : List Verdict
   pub noted : IsTrue valid
       → (length (take behind' new) ≡ length (take behind old) + length entries)
       ⊎ (most_verdicts ≤ length new)
+
+-- verdicts are only added; each of some entries has one then or breaks a rule, or there are as many as are kept
+pub record AreLooked (models : ModelSet) (config : Config) (entries : List (List ℕ × List ℕ))
+    (old new : List Verdict) : Type 0 where
+  pub stay : (v : Verdict) → Contains old v → Contains new v
+  pub longer : length old ≤ length new
+  pub each :
+      (table key : List ℕ) → Contains entries (table, key) → IsLooked models config new table key

@@ -1,6 +1,6 @@
 -- What a verdict on an entry says.
-use Rattle.std.specs.Prelude.{ℕ, List, is_some, IsTrue, Bool, ◌&&◌, not}
-use Rattle.std.specs.List.{All}
+use Rattle.std.specs.Prelude.{◌≡◌, ℕ, List, is_some, IsTrue, Bool, true, ◌&&◌, not}
+use Rattle.std.specs.List.{All, Contains}
 use Rattle.std.specs.Str.{bytes_eq}
 use Rattle.conf_doc.specs.declared.configuration.Config.{Config}
 use Rattle.conf_check.specs.Validity.{IsValidAt}
@@ -29,3 +29,8 @@ is_on table key v = bytes_eq v.key key && bytes_eq v.table table
 -- it is on another one
 abbrev pub is_elsewhere : List ℕ → List ℕ → Verdict → Bool
 is_elsewhere table key v = not (is_on table key v)
+
+-- some verdict is on that entry
+abbrev pub HasVerdict : List ℕ → List ℕ → List Verdict → Type 0
+HasVerdict table key verdicts =
+    (v : Verdict) × Contains verdicts v × (is_on table key v ≡ true)

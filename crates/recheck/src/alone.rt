@@ -3,7 +3,7 @@
 ghost use Rattle.std.specs.Prelude.{◌≡◌, ◌⊎◌, ℕ, IsTrue, is_some};
 ghost use Rattle.std.specs.Bool.{OnFalse};
 ghost use Rattle.std.specs.List.{All};
-ghost use Rattle.recheck.specs.Changes.{AreAmong, IsPartUnwanted, IsTextUnwanted};
+ghost use Rattle.recheck.specs.Changes.{AreAmong, IsOnGone, IsPartUnwanted, IsTextUnwanted};
 ghost use Rattle.recheck.specs.SoleEntries.{IsUnread, IsUnwanted, StandsAlone};
 ghost use Rattle.recheck.specs.Turned.{IsOn};
 ghost use Rattle.recheck.specs.Within.{IsLeft};
@@ -111,7 +111,8 @@ pub(crate) fn drop_if_gone(verdicts: &mut Vec<Verdict>, next: &Config, table: &s
     ensures among { AreAmong verdicts.old.items verdicts.new.items }
     ensures there { IsTrue (is_some (entry_of table.now key.now next.now))
         ⊎ All (λ v. ¬ IsOn table.now key.now v) verdicts.new.items }
-    ensures left { IsLeft (IsOn table.now key.now) verdicts.old.items verdicts.new.items }
+    ensures left { IsLeft (IsOnGone next.now table.now key.now)
+        verdicts.old.items verdicts.new.items }
 {
     if has_entry(next, table, key) {
         return;

@@ -162,6 +162,8 @@ impl Kept {
         ensures index { IfOk result
             (λ k. k.index ≡ record { models = models.now; config = next.now }) }
         ensures valid { IfOk result (λ k. IsTrue k.valid) }
+        ensures left { IfOk result (λ k. IsLeft (IsTurned models.now self.index.config next.now)
+            self.verdicts.items k.verdicts.items) }
     {
         let Kept {
             mut index,

@@ -1,8 +1,12 @@
 //! A removed target of a reference, and an entry that wants it: the entry to look at before anything else. Which one it
 //! is steers only how soon an invalid configuration is told.
-ghost use Rattle.std.specs.Prelude.{◌≤◌, length, IfSome};
-ghost use Rattle.move_core.specs.Moves.{place};
+ghost use Rattle.std.specs.Prelude.{◌≡◌, IfSome, IsTrue, is_some};
+ghost use Rattle.std.specs.List.{Contains};
+ghost use Rattle.recheck.specs.Losses.{HasLost, IsLoser, IsWantOfPart, entry_at};
+ghost use Rattle.recheck.specs.Turned.{Wants};
+ghost use Rattle.ref_index.specs.Agreements.{entry_of};
 
+use crate::alone::has_entry;
 use conf_doc::Config;
 use key_split::KeyView;
 use move_core::Move;
@@ -10,9 +14,13 @@ use ref_index::{Place, RefIndex};
 use yang_model::Models;
 
 /// The first of some places whose entry another configuration has.
-fn first_there<'a>(places: &'a [Place], next: &Config) -> Option<&'a Place> {
+fn first_there<'a>(places: &'a [Place], next: &Config) -> Option<&'a Place>
+    ensures one { IfSome result (λ p. Contains places.now p.now) }
+    ensures there { IfSome result
+        (λ p. IsTrue (is_some (entry_of p.now.table p.now.key next.now))) }
+{
     for place in places {
-        if next.has_entry(place.table.as_str(), place.key.as_str()) {
+        if has_entry(next, place.table.as_str(), place.key.as_str()) {
             return Some(place);
         }
     }
@@ -27,9 +35,18 @@ fn referrer_of_part<'a>(
     shape: u32,
     key: &KeyView,
     part: usize,
-) -> Option<&'a Place> {
-    let number = u32::try_from(part).ok()?;
-    let text = key.part(part)?;
+) -> Option<&'a Place>
+    ensures wants { IfSome result (λ p. IsWantOfPart index.now.models index.now.config
+        table.now shape key.now part p.now) }
+    ensures there { IfSome result
+        (λ p. IsTrue (is_some (entry_of p.now.table p.now.key next.now))) }
+{
+    let Ok(number) = u32::try_from(part) else {
+        return None;
+    };
+    let Some(text) = key.part(part) else {
+        return None;
+    };
     first_there(index.referrers(table, shape, number, text), next)
 }
 
@@ -40,16 +57,41 @@ fn referrer_of_key<'a>(
     next: &Config,
     table: &str,
     key: &str,
-) -> Option<&'a Place> {
+) -> Option<&'a Place>
+    requires { index.now.models ≡ models.now }
+    ensures wants { IfSome result
+        (λ p. Wants models.now index.now.config table.now key.now (entry_at p.now)) }
+    ensures there { IfSome result
+        (λ p. IsTrue (is_some (entry_of p.now.table p.now.key next.now))) }
+{
     let view = KeyView::new(key);
-    let shape = models.list_of(table, &view)?;
+    let Some(shape) = models.list_of(table, &view) else {
+        return None;
+    };
     for part in 0..view.parts() {
-        let found = referrer_of_part(index, next, table, shape, &view, part);
-        if found.is_some() {
-            return found;
+        if let Some(place) = referrer_of_part(index, next, table, shape, &view, part) {
+            return Some(place);
         }
     }
     None
+}
+
+/// The same where the other configuration lacks the key.
+fn referrer_of_key_if_gone<'a>(
+    index: &'a RefIndex,
+    models: &Models,
+    next: &Config,
+    table: &str,
+    key: &str,
+) -> Option<&'a Place>
+    requires { index.now.models ≡ models.now }
+    ensures { IfSome result
+        (λ p. HasLost models.now index.now.config next.now table.now (entry_at p.now)) }
+{
+    if has_entry(next, table, key) {
+        return None;
+    }
+    referrer_of_key(index, models, next, table, key)
 }
 
 /// An entry that wants a part of a key which a table of the index has, and which another configuration lacks.
@@ -58,32 +100,21 @@ fn referrer_of_gone_key<'a>(
     models: &Models,
     next: &Config,
     name: &str,
-) -> Option<&'a Place> {
-    let table = index.config().table(name)?;
+) -> Option<&'a Place>
+    requires { index.now.models ≡ models.now }
+    ensures { IfSome result
+        (λ p. HasLost models.now index.now.config next.now name.now (entry_at p.now)) }
+{
+    let Some(table) = index.config().table(name) else {
+        return None;
+    };
     for i in 0..table.len() {
         let key = table.name_at(i);
-        if !next.has_entry(name, key) {
-            let found = referrer_of_key(index, models, next, name, key);
-            if found.is_some() {
-                return found;
-            }
+        if let Some(place) = referrer_of_key_if_gone(index, models, next, name, key) {
+            return Some(place);
         }
     }
     None
-}
-
-/// The same of one key, where the other configuration lacks it.
-fn referrer_of_key_if_gone<'a>(
-    index: &'a RefIndex,
-    models: &Models,
-    next: &Config,
-    table: &str,
-    key: &str,
-) -> Option<&'a Place> {
-    if next.has_entry(table, key) {
-        return None;
-    }
-    referrer_of_key(index, models, next, table, key)
 }
 
 /// An entry of the configuration after a move which wanted, by the index, what a key of the move's table was
@@ -94,7 +125,9 @@ pub(crate) fn first_loser<'a>(
     next: &Config,
     mv: &Move,
 ) -> Option<&'a Place>
-    ensures { IfSome result (λ _. length (place mv.now) ≤ 2) }
+    requires { index.now.models ≡ models.now }
+    ensures { IfSome result
+        (λ p. IsLoser models.now index.now.config next.now mv.now (entry_at p.now)) }
 {
     let place = mv.place();
     match place.len() {

@@ -1,9 +1,9 @@
 //! The entries of a configuration gone through in order, and those without a verdict checked.
-ghost use Rattle.std.specs.Prelude.{◌≡◌, ◌↔◌, ◌<◌, ◌≤◌, ℕ, List, [], ◌∷◌, length, IfOk, IsTrue, Some, is_some, slice_get};
+ghost use Rattle.std.specs.Prelude.{◌≡◌, ◌↔◌, ◌<◌, ◌≤◌, ℕ, List, [], ◌∷◌, length, IfOk, IsTrue, Some, is_some, slice_get, OnOk};
 ghost use Rattle.conf_doc.specs.declared.configuration.Table.{Table};
 ghost use Rattle.conf_check.specs.Validity.{IsValid, IsValidAt};
 ghost use Rattle.recheck.specs.Entries.{entries_in, entries_of, entries_with_model};
-ghost use Rattle.recheck.specs.Rechecks.{AreWalked, IsTableValid};
+ghost use Rattle.recheck.specs.Rechecks.{AreLooked, AreWalked, IsTableValid};
 ghost use Rattle.recheck.specs.Verdicts.{AreSound};
 ghost use Rattle.ref_index.specs.Agreements.{entry_of};
 
@@ -49,6 +49,9 @@ fn check_at(
     ensures walked { let before = walk.old.verdicts.items in let after = walk.new.verdicts.items in
         IfOk result (AreWalked ((table.now, key.now) ∷ []) before walk.old.behind
         after walk.new.behind checked.old checked.new) }
+    ensures looked { OnOk result
+        (AreLooked models.now config.now ((table.now, key.now) ∷ [])
+        walk.old.verdicts.items walk.new.verdicts.items) }
 {
     if walk.passes(table, key) {
         return Ok(true);
@@ -78,6 +81,10 @@ fn check_keys(
         (p : List ℕ × Table) → slice_get config.now table ≡ Some p →
         IfOk result (AreWalked (entries_in p) before walk.old.behind
         after walk.new.behind checked.old checked.new) }
+    ensures looked { (p : List ℕ × Table) → slice_get config.now table ≡ Some p →
+        OnOk result
+        (AreLooked models.now config.now (entries_in p)
+        walk.old.verdicts.items walk.new.verdicts.items) }
 {
     let name = config.name_at(table);
     let entries = config.part_at(table);
@@ -106,6 +113,10 @@ fn check_table(
         (p : List ℕ × Table) → slice_get config.now table ≡ Some p →
         IfOk result (AreWalked (entries_with_model models.now p) before walk.old.behind
         after walk.new.behind checked.old checked.new) }
+    ensures looked { (p : List ℕ × Table) → slice_get config.now table ≡ Some p →
+        OnOk result
+        (AreLooked models.now config.now (entries_with_model models.now p)
+        walk.old.verdicts.items walk.new.verdicts.items) }
 {
     if models.modelled(config.name_at(table)) {
         check_keys(walk, checked, models, config, table)
@@ -128,6 +139,9 @@ pub(crate) fn check_rest(
     ensures walked { let before = walk.old.verdicts.items in let after = walk.new.verdicts.items in
         IfOk result (AreWalked (entries_of models.now config.now) before walk.old.behind
         after walk.new.behind checked.old checked.new) }
+    ensures looked { OnOk result
+        (AreLooked models.now config.now (entries_of models.now config.now)
+        walk.old.verdicts.items walk.new.verdicts.items) }
 {
     let mut valid = true;
     for table in 0..config.len() {

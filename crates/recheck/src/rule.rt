@@ -1,11 +1,10 @@
 //! The rule that each step leads to a valid configuration, with what it keeps between calls.
-ghost use Rattle.std.specs.Prelude.{◌≡◌, ◌↔◌, ◌≤◌, ◌+◌, ℕ, if◌then◌else◌, IfOk, IfSome, IsTrue, Some, is_some, length, min};
+ghost use Rattle.std.specs.Prelude.{◌≡◌, ◌↔◌, ◌≤◌, ◌+◌, ℕ, if◌then◌else◌, IfOk, IfSome, IsTrue, Some, is_some, min};
 ghost use Rattle.conf_check.specs.Validity.{IsValid};
 ghost use Rattle.move_core.specs.Contexts.{rulebook};
-ghost use Rattle.move_core.specs.Moves.{place};
 ghost use Rattle.move_core.specs.Rules.{Passes};
-ghost use Rattle.recheck.specs.Counts.{AreCounted, AreLeft, IsCount, IsOneCounted, IsOneLooked, IsRaised, number_of};
-ghost use Rattle.recheck.specs.Entries.{greatest, raised};
+ghost use Rattle.recheck.specs.Counts.{AreCounted, AreLeft, AreStillKept, IsCount, IsOneCounted, IsRaised, IsTold, number_of};
+ghost use Rattle.recheck.specs.Entries.{greatest};
 ghost use Rattle.recheck.specs.SoleEntries.{IsSole};
 ghost use Rattle.ref_index.specs.Agreements.{entry_of};
 
@@ -88,6 +87,8 @@ fn recheck_rest(
     ensures rises { checked.old ≤ checked.new }
     ensures counts { IfOk result (λ r. IsRaised checked.old checked.new
         (λ count. AreCounted models.now kept config.now mv.now r.1 count r.0)) }
+    ensures still { IfOk result
+        (λ r. AreStillKept models.now kept config.now r.1.verdicts.items) }
 {
     let Kept {
         index,
@@ -133,6 +134,8 @@ fn recheck_entry(
     ensures rises { checked.old ≤ checked.new }
     ensures counts { IfOk result (λ r. IsRaised checked.old checked.new
         (λ count. IsOneCounted kept config.now table.now key.now r.1 count r.0)) }
+    ensures still { IfOk result
+        (λ r. AreStillKept models.now (Some kept) config.now r.1.verdicts.items) }
 {
     *checked = checked.saturating_add(count_of(config, table, key));
     if !kept.allows(models, config, table, key) {
@@ -157,6 +160,8 @@ fn recheck_kept(
     ensures rises { checked.old ≤ checked.new }
     ensures counts { IfOk result (λ r. IsRaised checked.old checked.new
         (λ count. AreCounted models.now (Some kept) config.now mv.now r.1 count r.0)) }
+    ensures still { IfOk result
+        (λ r. AreStillKept models.now (Some kept) config.now r.1.verdicts.items) }
 {
     match kept.sole_entry(models, config, mv) {
         Some((table, key)) => recheck_entry(alloc, checked, kept, models, config, table, key),
@@ -179,6 +184,8 @@ fn recheck(
     ensures rises { checked.old ≤ checked.new }
     ensures counts { IfOk result (λ r. IsRaised checked.old checked.new
         (λ count. AreCounted models.now kept config.now mv.now r.1 count r.0)) }
+    ensures still { IfOk result
+        (λ r. AreStillKept models.now kept config.now r.1.verdicts.items) }
 {
     match kept {
         Some(kept) => recheck_kept(alloc, checked, kept, models, config, mv),
@@ -186,20 +193,12 @@ fn recheck(
     }
 }
 
-/// Whether an entry that a move took what it wants from tells that the configuration after it is invalid. The
-/// entry is counted. Where none tells it, the configuration may be invalid all the same.
-fn is_told_invalid(
-    checked: &mut u64,
-    kept: &Option<Kept>,
-    models: &Models,
-    next: &Config,
-    mv: &Move,
-) -> bool
+/// Whether an entry that a move took what it wants from tells that the configuration after it is invalid. Where
+/// none tells it, the configuration may be invalid all the same.
+fn is_told_invalid(kept: &Option<Kept>, models: &Models, next: &Config, mv: &Move) -> bool
+    requires { IfSome kept.now (λ k. k.index.models ≡ models.now) }
     ensures invalid { IsTrue result → ¬ IsValid models.now next.now }
-    ensures rises { checked.old ≤ checked.new }
-    ensures counts { IsRaised checked.old checked.new (IsOneLooked mv.now) }
-    ensures told { IsTrue result → (length (place mv.now) ≤ 2)
-        × (checked.new ≡ raised checked.old 1) }
+    ensures told { IsTrue result → IsTold models.now kept.now next.now mv.now }
 {
     let Some(kept) = kept else {
         return false;
@@ -207,7 +206,6 @@ fn is_told_invalid(
     let Some(place) = first_loser(&kept.index, models, next, mv) else {
         return false;
     };
-    *checked = checked.saturating_add(1);
     !is_valid_at(models, next, place.table.as_str(), place.key.as_str())
 }
 
@@ -224,8 +222,8 @@ impl RecheckRule {
         }
     }
 
-    /// How many entries it has checked for violations since it was made, an entry counted each time. It stays
-    /// at the greatest number.
+    /// How many entries it has checked for violations since it was made, each once a call. It stays at the
+    /// greatest number.
     pub fn checked(&self) -> u64
         ensures { result ≡ self.now.checked }
     {
@@ -259,15 +257,21 @@ impl MoveRule for RecheckRule {
         ensures kind { ⟦<RecheckRule as MoveRule>⟧.rule_kind self.new
             ≡ ⟦<RecheckRule as MoveRule>⟧.rule_kind self.old }
         ensures checked { self.old.checked ≤ self.new.checked }
+        ensures most { self.new.checked ≤ self.old.checked + number_of next.now }
         ensures counts { IsRaised self.old.checked self.new.checked
             (IsCount ctx.now.models self.old.kept self.new.kept next.now mv.now result) }
+        ensures still { IfSome self.new.kept
+            (λ k. AreStillKept ctx.now.models self.old.kept next.now k.verdicts.items) }
     {
-        if is_told_invalid(&mut self.checked, &self.kept, &ctx.models, next, mv) {
+        if is_told_invalid(&self.kept, &ctx.models, next, mv) {
+            self.checked = self.checked.saturating_add(1);
             return false;
         }
         let kept = self.kept.take();
-        match recheck(self.alloc, &mut self.checked, kept, &ctx.models, next, mv) {
+        let mut checked = self.checked;
+        match recheck(self.alloc, &mut checked, kept, &ctx.models, next, mv) {
             Ok((valid, kept)) => {
+                self.checked = checked;
                 self.kept = Some(kept);
                 valid
             }

@@ -1,7 +1,8 @@
 //! Verdicts in the order of the entries that they are on, gone through beside the entries.
 ghost use Rattle.std.specs.Prelude.{◌≡◌, ◌≤◌, ◌+◌, if◌then◌else◌, length, OnOk};
 ghost use Rattle.std.specs.Bool.{OnFalse, OnTrue};
-ghost use Rattle.recheck.specs.Rechecks.{HasVerdict, IsNext, IsNotedAt, IsNoted};
+ghost use Rattle.recheck.specs.Rechecks.{IsNext, IsNotedAt, IsNoted};
+ghost use Rattle.recheck.specs.Verdicts.{HasVerdict};
 
 use crate::verdicts::{MOST_VERDICTS, Verdict, is_on};
 use host_core::{Memory, Txt};

@@ -1,8 +1,8 @@
 use Rattle.std.proofs.Common.{inl, inr, sym, ◌∙◌}
-use Rattle.recheck.specs.Turned.{IsOn}
+use Rattle.recheck.specs.Changes.{IsOnGone}
 use Rattle.recheck.specs.Verdicts.{is_elsewhere}
 use Rattle.recheck.proofs.VerdictDrops.{among_filter, among_itself, none_on}
-use Rattle.recheck.proofs.RemainingVerdicts.{on_by}
+use Rattle.recheck.proofs.RemainingVerdicts.{not_so, on_by}
 use Rattle.recheck.proofs.ParallelWalks.{left_filter, left_itself}
 use Rattle.recheck.proofs.alone.drop_if_gone.Goals as goal
 
@@ -24,5 +24,6 @@ returns-clause-there c = inr (none_on c.args.table.now c.args.key.now c.args.ver
 
 pub returns-clause-left : goal.returns-clause-left
 returns-clause-left c =
-    left_filter (is_elsewhere c.args.table.now c.args.key.now) (IsOn c.args.table.now c.args.key.now) (on_by c.args.table.now c.args.key.now)
+    left_filter (is_elsewhere c.args.table.now c.args.key.now) (IsOnGone c.args.next.now c.args.table.now c.args.key.now)
+    (λ v away. (on_by c.args.table.now c.args.key.now v away, not_so _ _ c.if-has_entry.false (λ yes. c.has_entry.ensures ∙ yes)))
     c.args.verdicts.now.items c.drop_at.new.verdicts.items c.drop_at.ensures.rest

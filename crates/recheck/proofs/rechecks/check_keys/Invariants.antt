@@ -1,6 +1,6 @@
 use Rattle.std.proofs.Common.{◌↔◌, ◌≤◌, IsTrue, take}
 use Rattle.recheck.specs.Entries.{entries_in}
-use Rattle.recheck.specs.Rechecks.{AreWalked, AreKeysValid}
+use Rattle.recheck.specs.Rechecks.{AreLooked, AreWalked, AreKeysValid}
 use Rattle.recheck.specs.Verdicts.{AreSound}
 use Rattle.recheck.proofs.rechecks.check_keys.Given as goal
 
@@ -11,4 +11,5 @@ invariant-loop-i l = record {
   rises : l.fn.checked ≤ l.checked;
   walked : AreWalked (take l.i (entries_in (l.name, l.entries))) l.fn.walk.verdicts.items l.fn.walk.behind l.walk.verdicts.items l.walk.behind
       l.fn.checked l.checked l.valid;
+  looked : AreLooked l.models l.config (take l.i (entries_in (l.name, l.entries))) l.fn.walk.verdicts.items l.walk.verdicts.items;
 }

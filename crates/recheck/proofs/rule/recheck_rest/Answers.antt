@@ -5,6 +5,7 @@ use Rattle.recheck.specs.Entries.{AreWithin, entries_of}
 use Rattle.recheck.specs.Verdicts.{AreSound}
 use Rattle.recheck.specs.declared.verdicts.Verdict.{Verdict}
 use Rattle.recheck.proofs.EntryCounts.{counted_after, ordered_after}
+use Rattle.recheck.proofs.LookedEntries.{still_kept}
 use Rattle.recheck.proofs.rule.recheck_rest.Goals as goal
 
 pub check_rest-requires : goal.check_rest-requires
@@ -40,4 +41,11 @@ returns-clause-counts c =
     counted_after c.args.models.now c.args.config.now k.verdicts.items c.new-walk.result.verdicts.items c.check_rest.new.walk.verdicts.items
     c.new-walk.result.behind c.check_rest.new.walk.behind c.args.checked.now c.check_rest.new.checked c.in_ok-valid.valid
     (subst R c.in_ok-index.ensures.index k.ordered) c.new-walk.ensures.verdicts c.new-walk.ensures.behind c.in_ok-valid.ensures.walked
-    c.args.kept _ c.in_ok-index.ensures.left c.into_verdicts-verdicts.ensures.verdicts refl c.args.mv.now
+    c.args.kept _ c.in_ok-index.ensures.left c.into_verdicts-verdicts.ensures.verdicts refl c.in_ok-valid.ensures.looked c.args.mv.now
+
+pub returns-clause-still : goal.returns-clause-still
+returns-clause-still c =
+    let k = c.in_ok-index.field-0 in
+    still_kept c.args.models.now c.args.kept c.args.config.now k.verdicts.items c.new-walk.result.verdicts.items c.check_rest.new.walk.verdicts.items
+    c.into_verdicts-verdicts.result.items c.in_ok-index.ensures.left c.new-walk.ensures.verdicts c.in_ok-valid.ensures.looked.stay
+    c.into_verdicts-verdicts.ensures.verdicts

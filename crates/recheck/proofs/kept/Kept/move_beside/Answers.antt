@@ -3,10 +3,10 @@ use Rattle.conf_doc.specs.WellFormed.{IsConfig}
 use Rattle.conf_check.specs.Validity.{IsValid}
 use Rattle.ref_index.specs.Referrers.{Indexed}
 use Rattle.yang_model.specs.ModelSets.{ModelSet}
+use Rattle.recheck.specs.Changes.{IsOnGone}
 use Rattle.recheck.specs.Entries.{AreWithin, entries_of}
-use Rattle.recheck.specs.Turned.{IsOn}
 use Rattle.recheck.specs.Verdicts.{AreSound}
-use Rattle.recheck.proofs.SoleEntries.{still_sound}
+use Rattle.recheck.proofs.SoleEntries.{gone_turned, still_sound}
 use Rattle.recheck.proofs.VerdictOrder.{ordered_on}
 use Rattle.recheck.proofs.kept.Kept.move_beside.Goals as goal
 
@@ -24,7 +24,7 @@ invariant_of-result c =
     let sound : AreSound models next new =
     still_sound models config next table key old new c.requires.agree c.requires.valid before c.drop_if_gone.ensures.among c.drop_if_gone.ensures.there in
     let within : AreWithin new (entries_of models next) =
-    ordered_on models (IsOn table key) config next old new (subst (λ x. IsConfig x) c.config.ensures c.len.ensures.formed) c.len-2.ensures.formed
+    ordered_on models (IsOnGone next table key) config next old new (subst (λ x. IsConfig x) c.config.ensures c.len.ensures.formed) c.len-2.ensures.formed
     c.drop_if_gone.ensures.left ordered sound in
     let P : Indexed → Type 0 = λ ix. AreSound ix.models ix.config new in
     let Q : Indexed → Type 0 = λ ix. AreWithin new (entries_of ix.models ix.config) in
@@ -35,3 +35,10 @@ invariant_of-result c =
       few = omega (arith, c.args.self.few, c.drop_if_gone.ensures.among.shorter);
       whole = λ _. subst V (sym c.in_ok-move_by.ensures.ok) (subst (λ (m : ModelSet). IsValid m next) (sym c.requires.models) c.requires.valid);
     }
+
+pub returns-clause-left : goal.returns-clause-left
+returns-clause-left c =
+    let old = c.args.self.verdicts.items in
+    let config = c.args.self.index.config in
+    gone_turned c.args.models.now config c.args.next.now c.args.table.now c.args.key.now old c.drop_if_gone.new.verdicts.items
+    (subst (λ m. AreSound m config old) c.requires.models c.args.self.sound) c.drop_if_gone.ensures.left
