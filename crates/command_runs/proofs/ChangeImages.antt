@@ -19,10 +19,10 @@ use Rattle.gcu_words.specs.Tasks.{Task}
 use Rattle.gcu_requests.specs.Request as request
 use Rattle.gcu_requests.specs.Request.{Request, Work, ctx_of}
 use Rattle.gcu_requests.specs.WorkAsked.{change_asked}
-use Rattle.gcu_engine.specs.Answers.{IsDoneOutput, Says}
-use Rattle.gcu_engine.specs.Changing.{IsChangeFor, IsLast, acknowledged as acknowledged_in, begun}
-use Rattle.gcu_engine.specs.Crashes.{IsOutputFront, IsWorkFront, LeftChanged, LeftEarly, LeftOfChange}
-use Rattle.gcu_engine.proofs.IntentRemovals.{begun_output}
+use Rattle.command_answers.specs.Answers.{IsDoneOutput, Says}
+use Rattle.command_answers.specs.Changing.{IsChangeFor, IsLast, acknowledged as acknowledged_in, begun}
+use Rattle.command_answers.specs.Crashes.{IsOutputFront, IsWorkFront, LeftChanged, LeftEarly, LeftOfChange}
+use Rattle.writing_commands.proofs.IntentRemovals.{begun_output}
 use Rattle.command_runs.specs.Works.{AreAcknowledged, IsWork}
 use Rattle.command_runs.proofs.Acknowledgements.{acknowledged_by, cut_acknowledged, printed_acks, quiet_front}
 use Rattle.command_runs.proofs.CommitTexts.{KeepsWorlds}

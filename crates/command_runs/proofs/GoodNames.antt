@@ -16,7 +16,7 @@ use Rattle.conf_doc.specs.declared.configuration.Config.{Config}
 use Rattle.checkpoints.specs.Migrations.{NewFile, migration, new_file, new_files, old_point}
 use Rattle.checkpoints.specs.Names.{is_good_name, is_name_character, is_point_file, point_name}
 use Rattle.checkpoints.specs.Points.{Held, held, point, points}
-use Rattle.gcu_engine.proofs.Lines.{IsOneLine}
+use Rattle.writing_commands.proofs.Lines.{IsOneLine}
 use Rattle.command_runs.proofs.CompactTexts.{heads, tails}
 
 -- ---- characters

@@ -14,7 +14,7 @@ use Rattle.gcu_output.specs.declared.outcomes.Outcome.TheVariants.{Done, Memory,
 use Rattle.gcu_requests.specs.Asked.{migrate_asked}
 use Rattle.gcu_requests.specs.Request as request
 use Rattle.gcu_requests.specs.Request.{Request}
-use Rattle.gcu_engine.specs.Answers.{IsDoneOutput, IsUntouched, LeavesDone, LeavesStopped, Prints, Says}
+use Rattle.command_answers.specs.Answers.{IsDoneOutput, IsUntouched, LeavesDone, LeavesStopped, Prints, Says}
 use Rattle.command_runs.proofs.Acknowledgements as acked
 use Rattle.command_runs.proofs.Acknowledgements.{Quiet}
 use Rattle.command_runs.proofs.CompactTexts.{heads}

@@ -22,9 +22,9 @@ use Rattle.gcu_words.specs.Tasks.{Task}
 use Rattle.gcu_requests.specs.Asked.{form_asked, migrate_asked}
 use Rattle.gcu_requests.specs.Request as request
 use Rattle.gcu_requests.specs.Request.{Request}
-use Rattle.gcu_engine.specs.Answers.{Leaves}
-use Rattle.gcu_engine.specs.Crashes.{LeftByForm, LeftOf, LeftOfMigration, LeftWriting}
-use Rattle.gcu_engine.proofs.IntentRemovals.{either_stored}
+use Rattle.command_answers.specs.Answers.{Leaves}
+use Rattle.command_answers.specs.Crashes.{LeftByForm, LeftOf, LeftOfMigration, LeftWriting}
+use Rattle.writing_commands.proofs.IntentRemovals.{either_stored}
 use Rattle.command_runs.specs.Histories.{AllLead, AllStandFor, IsNext, LeadOn, Leads, StandFor, last_or_next}
 use Rattle.command_runs.specs.Noted.{found}
 use Rattle.command_runs.specs.Runs.{AreRun, IsPromised, IsRun, handed_on}

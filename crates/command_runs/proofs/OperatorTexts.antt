@@ -11,8 +11,8 @@ use Rattle.move_core.specs.declared.moves.Move.{Move}
 use Rattle.operators.specs.Replies.{commits_line, counted, reply_line, said}
 use Rattle.sessions.specs.declared.replies.Reply.{Reply}
 use Rattle.sessions.specs.declared.replies.Reply.TheVariants.{Began, Exists, Unknown, Refused, Moved, Idle, Applied, Retargeted, Ended}
-use Rattle.gcu_engine.proofs.CompactLines.{compact_is_one_line}
-use Rattle.gcu_engine.proofs.Lines.{IsOneLine, decimal_is_one_line, first_lines, one_line-append}
+use Rattle.writing_commands.proofs.CompactLines.{compact_is_one_line}
+use Rattle.writing_commands.proofs.Lines.{IsOneLine, decimal_is_one_line, first_lines, one_line-append}
 use Rattle.command_runs.specs.Works.{FitTheirPlaces, HaveNames, Told, committed, moves_told, told_lines, told_text}
 use Rattle.command_runs.proofs.Acknowledgements as acked
 use Rattle.command_runs.proofs.CompactTexts.{compacts_split}

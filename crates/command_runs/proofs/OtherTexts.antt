@@ -6,7 +6,7 @@ use Rattle.move_core.specs.Operations.{plan_lines, plan_text}
 use Rattle.move_core.specs.declared.moves.Move.{Move}
 use Rattle.operators.specs.Replies.{commits_line, said}
 use Rattle.sessions.specs.declared.replies.Reply.{Reply}
-use Rattle.gcu_engine.proofs.Lines.{IsOneLine, first_lines}
+use Rattle.writing_commands.proofs.Lines.{IsOneLine, first_lines}
 use Rattle.command_runs.specs.Works.{Told, told_lines}
 use Rattle.command_runs.proofs.Acknowledgements.{not_empty}
 use Rattle.command_runs.proofs.CompactTexts.{heads, tails}

@@ -8,8 +8,8 @@ use Rattle.conf_doc.specs.Texts.{compact}
 use Rattle.patch_core.specs.Writing.{operation_document}
 use Rattle.move_core.specs.Operations.{count_line, number_text, op, plan_line, plan_lines, plan_text}
 use Rattle.move_core.specs.declared.moves.Move.{Move}
-use Rattle.gcu_engine.proofs.CompactLines.{compact_is_one_line}
-use Rattle.gcu_engine.proofs.Lines.{IsOneLine, decimal_is_one_line, first_lines, one_line-append}
+use Rattle.writing_commands.proofs.CompactLines.{compact_is_one_line}
+use Rattle.writing_commands.proofs.Lines.{IsOneLine, decimal_is_one_line, first_lines, one_line-append}
 use Rattle.command_runs.specs.Works.{FitTheirPlaces}
 use Rattle.command_runs.proofs.CompactTexts.{compacts_split}
 use Rattle.command_runs.proofs.MoveOperations.{ReadsTokens, move_is_told}

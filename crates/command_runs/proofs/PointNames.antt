@@ -18,10 +18,10 @@ use Rattle.checkpoints.specs.Numbers.{numbered_points, with_its_number}
 use Rattle.checkpoints.specs.Points.{Held, points}
 use Rattle.gcu_output.specs.Lines.{last_line, space}
 use Rattle.gcu_output.specs.declared.outcomes.Outcome.TheVariants.{Done}
-use Rattle.gcu_engine.specs.PointLines.{named_number, number_or_broken, point_lines}
+use Rattle.command_answers.specs.PointLines.{named_number, number_or_broken, point_lines}
 use Rattle.move_core.specs.Operations.{plan_lines, plan_text}
 use Rattle.move_core.specs.declared.moves.Move.{Move}
-use Rattle.gcu_engine.proofs.Lines.{IsOneLine, decimal_is_one_line, first_lines, one_line-append}
+use Rattle.writing_commands.proofs.Lines.{IsOneLine, decimal_is_one_line, first_lines, one_line-append}
 use Rattle.operators.specs.Replies.{said}
 use Rattle.command_runs.specs.Works.{HaveNames, Told, moves_told, told_text}
 use Rattle.command_runs.proofs.Acknowledgements.{not_empty}

@@ -37,10 +37,10 @@ use Rattle.gcu_words.proofs.NamedLines.{script_named}
 use Rattle.gcu_words.specs.Scripts.{AreNamed, script}
 use Rattle.gcu_words.specs.declared.script_lines.ScriptLine.{ScriptLine}
 use Rattle.host_core.specs.Answers.{map_ok}
-use Rattle.gcu_engine.specs.Answers.{IsDoneOutput, IsUntouched, LeavesDone, LeavesStopped, Prints, Says}
-use Rattle.gcu_engine.specs.Plannings.{IsPlanFor}
-use Rattle.gcu_engine.specs.Summary.{counted, summary, yes_line}
-use Rattle.gcu_engine.specs.Works.{IsWorkOf}
+use Rattle.command_answers.specs.Answers.{IsDoneOutput, IsUntouched, LeavesDone, LeavesStopped, Prints, Says}
+use Rattle.command_answers.specs.Plannings.{IsPlanFor}
+use Rattle.command_answers.specs.Summary.{counted, summary, yes_line}
+use Rattle.command_answers.specs.Works.{IsWorkOf}
 use Rattle.command_runs.specs.Works.{FitTheirPlaces, IsWork}
 use Rattle.command_runs.proofs.Acknowledgements as acked
 use Rattle.command_runs.proofs.Acknowledgements.{Quiet}

@@ -8,7 +8,7 @@ use Rattle.host_core.specs.declared.faults.Faults.{Faults}
 use Rattle.gcu_output.specs.Lines.{number}
 use Rattle.gcu_output.specs.declared.outcomes.Outcome.{Outcome}
 use Rattle.gcu_output.specs.declared.outcomes.Outcome.TheVariants.{DiskFault, InputFault, PrintFault, ServiceFault}
-use Rattle.gcu_engine.specs.Answers.{HasCause}
+use Rattle.command_answers.specs.Answers.{HasCause}
 use Rattle.command_runs.specs.Noted.{rise}
 use Rattle.command_runs.specs.Runs.{HasReason, IsFault, IsFull}
 use Rattle.command_runs.specs.declared.stops.Ran.{Ran}

@@ -14,8 +14,8 @@ use Rattle.gcu_output.specs.declared.outcomes.Outcome.{Outcome}
 use Rattle.gcu_output.specs.declared.outcomes.Outcome.TheVariants.{Usage}
 use Rattle.gcu_words.specs.ScopeForm.{IsNoCommand, IsUnscoped}
 use Rattle.gcu_requests.specs.Asked.{asked}
-use Rattle.gcu_engine.specs.Answers.{Answers, Complete, HasCause, TellsUsage}
-use Rattle.gcu_engine.specs.Crashes.{LeftMeanwhile}
+use Rattle.command_answers.specs.Answers.{Answers, Complete, HasCause, TellsUsage}
+use Rattle.command_answers.specs.Crashes.{LeftMeanwhile}
 use Rattle.gcu_engine.specs.Headline.{IsHeadline}
 use Rattle.gcu_engine.specs.Scoped.{RunsScoped}
 use Rattle.command_runs.specs.Noted.{found, rise}

@@ -26,21 +26,21 @@ use Rattle.gcu_requests.specs.Asked.{asked, form_asked, migrate_asked}
 use Rattle.gcu_requests.specs.Request as request
 use Rattle.gcu_requests.specs.Request.{Request, Work, ctx_of, operated, planned, start_of}
 use Rattle.gcu_requests.specs.WorkAsked.{change_asked}
-use Rattle.gcu_engine.specs.Answers.{Answers, IsDoneOutput, IsRefusal, IsUntouched, Leaves, LeavesDone, Prints, Says}
-use Rattle.gcu_engine.specs.Changing.{IsChangeFor, IsChanged, IsLastLine, acknowledged, begun}
-use Rattle.gcu_engine.specs.Commands.{LeftUnwritten}
-use Rattle.gcu_engine.specs.Crashes.{LeftByForm, LeftChanged, LeftEarly, LeftMeanwhile, LeftOf, LeftOfChange, LeftOfMigration, LeftWriting}
-use Rattle.gcu_engine.specs.Doing.{LeftToEarly}
+use Rattle.command_answers.specs.Answers.{Answers, IsDoneOutput, IsRefusal, IsUntouched, Leaves, LeavesDone, Prints, Says}
+use Rattle.command_answers.specs.Changing.{IsChangeFor, IsChanged, IsLastLine, acknowledged, begun}
+use Rattle.command_answers.specs.Commands.{LeftUnwritten}
+use Rattle.command_answers.specs.Crashes.{LeftByForm, LeftChanged, LeftEarly, LeftMeanwhile, LeftOf, LeftOfChange, LeftOfMigration, LeftWriting}
+use Rattle.command_answers.specs.Commands.{LeftToEarly}
 use Rattle.gcu_engine.specs.Folder.{Stores}
 use Rattle.gcu_engine.specs.Headline.{HasNoOrder, IsUnacknowledged, IsHeadline, IsLastOrNext, IsQuiet, PrintsTask, StoresPoint, StoresTarget}
-use Rattle.gcu_engine.specs.Plannings.{IsUnsolved}
+use Rattle.command_answers.specs.Plannings.{IsUnsolved}
 use Rattle.gcu_engine.proofs.AcknowledgementCounts.{acked_is}
-use Rattle.gcu_engine.proofs.ChangeEnds.{is_last_line}
-use Rattle.gcu_engine.proofs.Changes.{some_is}
+use Rattle.writing_commands.proofs.ChangeEnds.{is_last_line}
+use Rattle.writing_commands.proofs.Changes.{some_is}
 use Rattle.gcu_engine.proofs.Folders.{same_stands, stores_is}
 use Rattle.gcu_engine.proofs.FormPromises.{IsOneChange, LacksOrder, PointsAfter, StandsAfter, change_of_words, order_by_words, other_by_words, points_by_words, task_in, task_of_words}
-use Rattle.gcu_engine.proofs.IntentRemovals.{begun_output, either_points, either_stored}
-use Rattle.gcu_engine.proofs.LastLines.{last_line_of, refusal_line, service_last_line}
+use Rattle.writing_commands.proofs.IntentRemovals.{begun_output, either_points, either_stored}
+use Rattle.writing_commands.proofs.LastLines.{last_line_of, refusal_line, service_last_line}
 use Rattle.gcu_engine.proofs.PlanPrints.{change_prints, no_request, plan_prints, same_change, unknown_line, unknown_prints, untouched_output}
 use Rattle.gcu_engine.proofs.Requests.{IsRequestOf, change_given, requested}
 use Rattle.gcu_engine.proofs.RightPlans.{IsWorkAsked, right_work, way_last}

@@ -23,15 +23,15 @@ use Rattle.gcu_words.specs.Tasks.{Task}
 use Rattle.gcu_requests.specs.Request as request
 use Rattle.gcu_requests.specs.Request.{Work, start_of}
 use Rattle.gcu_requests.specs.WorkAsked.{change_asked}
-use Rattle.gcu_engine.specs.Changing.{IsBegun, IsChangeFor, acknowledged, begun}
-use Rattle.gcu_engine.specs.Crashes.{LeftByForm, LeftChanged, LeftMeanwhile, LeftOfChange}
+use Rattle.command_answers.specs.Changing.{IsBegun, IsChangeFor, acknowledged, begun}
+use Rattle.command_answers.specs.Crashes.{LeftByForm, LeftChanged, LeftMeanwhile, LeftOfChange}
 use Rattle.gcu_engine.specs.Headline.{IsNoneWhole}
 use Rattle.gcu_engine.specs.Intending as intending
 use Rattle.gcu_engine.specs.Intending.{HasIntent, HoldsText, IsIntended, IsKept, IsOver}
 use Rattle.gcu_engine.proofs.AcknowledgementCounts.{acked_is}
-use Rattle.gcu_engine.proofs.ChangeEnds.{is_last_line}
-use Rattle.gcu_engine.proofs.IntentRemovals.{begun_output}
-use Rattle.gcu_engine.proofs.Closing.{at_first}
+use Rattle.writing_commands.proofs.ChangeEnds.{is_last_line}
+use Rattle.writing_commands.proofs.IntentRemovals.{begun_output}
+use Rattle.writing_commands.proofs.Closing.{at_first}
 use Rattle.gcu_engine.proofs.Headlines.{early_before, settled_files}
 use Rattle.gcu_engine.proofs.PlanPrints.{same_change}
 use Rattle.gcu_engine.proofs.Requests.{change_given}

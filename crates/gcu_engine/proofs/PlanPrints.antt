@@ -16,12 +16,12 @@ use Rattle.gcu_requests.specs.Asked.{form_asked}
 use Rattle.gcu_requests.specs.Request as request
 use Rattle.gcu_requests.specs.Request.{Request, Work}
 use Rattle.gcu_requests.specs.WorkAsked.{change_asked, dry_run_asked}
-use Rattle.gcu_engine.specs.Answers.{IsDoneOutput, IsUntouched, LeavesDone, LeavesStopped, Prints, Says}
-use Rattle.gcu_engine.specs.Changing.{IsBegun, IsChangeFor, IsLastLine, begun}
+use Rattle.command_answers.specs.Answers.{IsDoneOutput, IsUntouched, LeavesDone, LeavesStopped, Prints, Says}
+use Rattle.command_answers.specs.Changing.{IsBegun, IsChangeFor, IsLastLine, begun}
 use Rattle.gcu_engine.specs.Headline.{IsTaskOutput, PrintsTask}
-use Rattle.gcu_engine.proofs.Changes.{some_is}
-use Rattle.gcu_engine.proofs.IntentRemovals.{begun_output}
-use Rattle.gcu_engine.proofs.LastLines.{HasLastLine, last_line_of}
+use Rattle.writing_commands.proofs.Changes.{some_is}
+use Rattle.writing_commands.proofs.IntentRemovals.{begun_output}
+use Rattle.writing_commands.proofs.LastLines.{HasLastLine, last_line_of}
 use Rattle.gcu_engine.proofs.Requests.{change_given, plan_given}
 use Rattle.gcu_engine.proofs.RightPlans.{IsWorkAsked, right_work}
 

@@ -28,7 +28,7 @@ use Rattle.gcu_requests.specs.Request as request
 use Rattle.gcu_requests.specs.Request.{Planning, Request, Work}
 use Rattle.gcu_requests.specs.WorkAsked.{change_asked, dry_run_asked}
 use Rattle.gcu_engine.specs.Contents.{IsContextIn}
-use Rattle.gcu_engine.proofs.Naming.{named_is}
+use Rattle.writing_commands.proofs.Naming.{named_is}
 use Rattle.gcu_engine.proofs.Contents.{context_in}
 use Rattle.gcu_engine.proofs.RightPlans.{IsWorkAsked, planning_is, stored_from, work_is}
 

@@ -19,8 +19,8 @@ use Rattle.gcu_requests.specs.PlanAsked.{goal_asked, planning_asked, start_asked
 use Rattle.gcu_requests.specs.Request as request
 use Rattle.gcu_requests.specs.Request.{Planning, Request, planned}
 use Rattle.gcu_requests.specs.WorkAsked.{change_asked}
-use Rattle.gcu_engine.specs.Answers.{Complete, Finishes}
-use Rattle.gcu_engine.specs.Plannings.{HasNone}
+use Rattle.command_answers.specs.Answers.{Complete, Finishes}
+use Rattle.command_answers.specs.Plannings.{HasNone}
 use Rattle.gcu_engine.specs.Resuming.{IsResumed, IsStoppedIn, Resumes}
 use Rattle.gcu_engine.proofs.Folders.{config_of_held}
 use Rattle.gcu_engine.proofs.RightPlans.{way_valid}

@@ -30,8 +30,8 @@ use Rattle.sessions.specs.declared.replies.Reply.{Reply}
 use Rattle.sessions.proofs.CommitWays.{each_is_valid}
 use Rattle.gcu_engine.specs.Contents.{IsContextIn, IsMade}
 use Rattle.gcu_engine.specs.Headline.{IsRightWork, IsTextOf}
-use Rattle.gcu_engine.specs.Plannings.{IsPlanFor}
-use Rattle.gcu_engine.specs.Works.{IsWorkOf}
+use Rattle.command_answers.specs.Plannings.{IsPlanFor}
+use Rattle.command_answers.specs.Works.{IsWorkOf}
 use Rattle.gcu_engine.proofs.CommitGoals.{AreHeld, lines_are, lines_held, names_told, run_commits}
 use Rattle.gcu_engine.proofs.Contents.{context_in, target_made}
 use Rattle.gcu_engine.proofs.Folders.{stores_is}

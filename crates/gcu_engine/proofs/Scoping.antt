@@ -10,24 +10,13 @@ use Rattle.gcu_output.specs.Lines.{last_line}
 use Rattle.gcu_output.specs.declared.outcomes.Outcome.{Outcome}
 use Rattle.gcu_output.specs.declared.outcomes.Outcome.TheVariants.{DiskFault}
 use Rattle.gcu_requests.specs.Asked.{asked}
-use Rattle.gcu_engine.specs.Answers.{Answers, Complete, Says}
-use Rattle.gcu_engine.specs.Crashes.{LeftMeanwhile}
+use Rattle.command_answers.specs.Answers.{Answers, Complete, Says}
+use Rattle.command_answers.specs.Crashes.{LeftMeanwhile}
 use Rattle.gcu_engine.specs.Headline.{IsHeadline}
 use Rattle.gcu_engine.specs.Intending.{KeepsIntent}
 use Rattle.gcu_engine.specs.Resuming.{IsStoppedIn, Resumes}
-use Rattle.gcu_engine.specs.Scoped.{RunsInScope, seen_told, settling}
-
--- ---- what is pending
-
--- once it is settled nothing is pending
-pub settled_now : (o q : Option State) → q ≡ option_map (with_pending settled) o → IfSome q (λ s. s.pending ≡ settled)
-settled_now None q is = subst (λ (p : Option State). IfSome p (λ s. s.pending ≡ settled)) (sym is) tt
-settled_now (Some s) q is = subst (λ (p : Option State). IfSome p (λ s. s.pending ≡ settled)) (sym is) refl
-
--- where it can't be settled that is said
-pub settling_says : (o : Option State) → IfSome o (λ s. Says (settling s) s s (DiskFault 0) (last_line (DiskFault 0)))
-settling_says None = tt
-settling_says (Some s) = (refl, inl (refl, inl refl), refl)
+use Rattle.scope_commands.specs.SeveralScopes.{settling}
+use Rattle.gcu_engine.specs.Scoped.{RunsInScope, seen_told}
 
 -- ---- the files of others
 

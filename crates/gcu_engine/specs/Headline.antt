@@ -35,8 +35,8 @@ use Rattle.gcu_words.specs.Tasks.{Task, reach, run_script}
 use Rattle.operators.specs.Replies.{commits_line, reply_line}
 use Rattle.sessions.specs.declared.replies.Reply.{Reply}
 use Rattle.sessions.specs.declared.replies.Reply.TheVariants.{Applied, Began, Ended, Retargeted}
-use Rattle.gcu_engine.specs.Answers.{IsRefusal}
-use Rattle.gcu_engine.specs.Changing.{IsLastLine, IsRefusalLine}
+use Rattle.command_answers.specs.Answers.{IsRefusal}
+use Rattle.command_answers.specs.Changing.{IsLastLine, IsRefusalLine}
 use Rattle.gcu_engine.specs.Contents.{IsContextIn, IsMade}
 use Rattle.gcu_engine.specs.Folder.{HoldsPatch, StandForSame, Stores}
 

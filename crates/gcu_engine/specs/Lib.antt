@@ -1,31 +1,12 @@
 -- what public clauses cite
-pub mod Answers
-pub mod Changing
-pub mod Commands
 pub mod Contents
-pub mod Crashes
 pub mod Folder
 pub mod Headline
 pub mod Intending
 pub mod JsonValues
-pub mod Migrating
 pub mod Patching
-pub mod Plannings
-pub mod PointLines
 pub mod Resuming
 pub mod RulesValues
-pub mod ScopeCrashes
-pub mod ScopeEndings
-pub mod ScopeTexts
-pub mod ScopeWorks
 pub mod Scoped
-pub mod Summary
-pub mod Works
+
 -- what only private clauses cite
-pub mod Doing
-pub mod FaultLines
-pub mod MigrationEnds
-pub mod PlanCommands
-pub mod ReadyScopes
-pub mod Rehearsing
-pub mod SolvedScopes

@@ -1,44 +1,28 @@
 -- A command over the files of one scope: the same command without the option, of the folder as the scope
 -- shows it, once what was pending is settled. And a change of several scopes.
-use Rattle.std.specs.Prelude.{◌≡◌, ◌≤◌, ◌⊎◌, ℕ, Bool, true, false, List, Option, Some, IfSome, option_map}
-use Rattle.host_core.specs.Counts.{Counts, DiskMayRise, NoneFell, NoneRose, Rose}
+use Rattle.std.specs.Prelude.{◌≡◌, ◌⊎◌, ℕ, List, Option, Some, IfSome, option_map}
+use Rattle.host_core.specs.Counts.{Counts, DiskMayRise, NoneFell, NoneRose}
 use Rattle.host_core.specs.Crashes.{Elapses, Left, LeavesOnly, MayLeaveNow}
 use Rattle.host_core.specs.State.{State, settled, with_pending}
 use Rattle.scopes.specs.Views.{AreOthersSame, IsSeen, seen}
 use Rattle.scopes.specs.declared.scope.Scope.{Scope}
-use Rattle.scope_changes.specs.Works.{KeepsPointsOfScopes}
 use Rattle.gcu_output.specs.declared.outcomes.Outcome.{Outcome}
-use Rattle.gcu_inputs.specs.Asking.{Asking, a_file}
 use Rattle.gcu_words.specs.ScopeForm.{IsScoped}
 use Rattle.gcu_words.specs.ScopesForm.{ScopesForm, scopes_form}
 use Rattle.gcu_requests.specs.Asked.{asked}
-use Rattle.gcu_requests.specs.Request.{Request}
-use Rattle.gcu_engine.specs.Answers.{Answers, Complete}
-use Rattle.gcu_engine.specs.Commands.{AnswersTo, CompleteTo, LeftTo}
-use Rattle.gcu_engine.specs.Crashes.{LeftMeanwhile}
+use Rattle.command_answers.specs.Answers.{Answers, Complete}
+use Rattle.command_answers.specs.Crashes.{LeftMeanwhile}
 use Rattle.gcu_engine.specs.Headline.{IsHeadline}
 use Rattle.gcu_engine.specs.Intending.{KeepsIntent}
 use Rattle.gcu_engine.specs.Resuming.{IsStoppedIn, Resumes}
-use Rattle.gcu_engine.specs.ScopeCrashes.{LeftOfScopes}
-use Rattle.gcu_engine.specs.ScopeEndings.{AnswersScopes}
-use Rattle.gcu_engine.specs.ScopeTexts.{plan_scopes_asked}
+use Rattle.scope_commands.specs.SeveralScopes.{AppliesScopes, IsUnsettled}
 
 -- the state that a scope shows, of a host that may not tell its own
 abbrev pub seen_told : Scope → Option State → Option State
 seen_told scope told = option_map (seen scope) told
 
--- the disk is asked to settle what is pending, and that gives nothing
-abbrev pub settling : State → Asking Request
-settling s = record { Reads = λ source. a_file ≡ source; Gives = λ r. ⊥ }
-
 module _ {H : Type 0} (told : H → Option State) (counts : H → Counts) (moment : H → ℕ)
     (left_since : H → ℕ → Left → Type 0) where
-  -- what is pending can't be settled: that is told, and nothing is done
-  pub record IsUnsettled (old new : H) (result : Outcome) : Type 0 where
-    pub rose : Rose (counts old).disk (counts new).disk
-    pub answers : AnswersTo settling (told old) (told new) (counts old) (counts new) result
-    pub crash : LeavesOnly moment left_since old new (LeftTo settling (told old))
-
   -- what a scope shows of what a crash might have left
   abbrev pub seen_since : Scope → H → ℕ → Left → Type 0
   seen_since scope h t left = IsSeen scope (left_since h t) left
@@ -77,7 +61,8 @@ module _ {H : Type 0} (told : H → Option State) (counts : H → Counts) (momen
   -- it can't be settled, or the command is done over the files of the scope
   abbrev pub DoesInScope : Scope → List (List ℕ) → H → H → Outcome → Type 0
   DoesInScope scope words old new result =
-      IsUnsettled old new result ⊎ RunsSettled scope words old new result
+      IsUnsettled told counts moment left_since old new result
+      ⊎ RunsSettled scope words old new result
 
   -- the words name a scope, and so it is done
   abbrev pub RunsInOne : List (List ℕ) → H → H → Outcome → Type 0
@@ -87,59 +72,11 @@ module _ {H : Type 0} (told : H → Option State) (counts : H → Counts) (momen
 
   -- ---- several scopes
 
-  -- From a host on with nothing pending: the answer is the first refusal, or the plans of all scopes in order.
-  -- The folder stays as it is, and a crash at any moment leaves it so, with a front of what is printed.
-  pub record PrintsPlans (change : ScopesForm) (old new : H) (result : Outcome) : Type 0 where
-    pub answers : AnswersTo (plan_scopes_asked change.path change.budget)
-        (told old) (told new) (counts old) (counts new) result
-    pub later : moment old ≤ moment new
-    pub crash : (left : Left) → left_since new (moment old) left
-        → LeftTo (plan_scopes_asked change.path change.budget) (told old) left
-    pub complete : CompleteTo (plan_scopes_asked change.path change.budget)
-        (told old) (counts old) (counts new) result
-    pub none_fell : NoneFell (counts old) (counts new)
-
-  -- From a host on with nothing pending: the answer is the first refusal, and the folder stays as it is; or the
-  -- plans of all scopes are printed and then done, scope after scope in order. A crash at any moment leaves the
-  -- scopes before one done, that one as its own change leaves it, and those after it as they were.
-  pub record DoesPlans (change : ScopesForm) (old new : H) (result : Outcome) : Type 0 where
-    pub answers : AnswersScopes change.path change.budget
-        (told old) (told new) (counts old) (counts new) result
-    pub later : moment old ≤ moment new
-    pub crash : (left : Left) → left_since new (moment old) left
-        → LeftOfScopes change.path change.budget (told old) left
-    pub complete : CompleteTo (plan_scopes_asked change.path change.budget)
-        (told old) (counts old) (counts new) result
-    pub none_fell : NoneFell (counts old) (counts new)
-
-  -- the plans are only printed, or done
-  abbrev pub PrintsOrDoes : Bool → ScopesForm → H → H → Outcome → Type 0
-  PrintsOrDoes true = PrintsPlans
-  PrintsOrDoes false = DoesPlans
-
-  -- What is pending is settled first. Each scope keeps its checkpoints, also after a crash at any moment from
-  -- there on.
-  pub record AppliesSettled (change : ScopesForm) (old new : H) (result : Outcome) : Type 0 where
-    pub between : H
-    pub settles : told between ≡ option_map (with_pending settled) (told old)
-    pub time : Elapses moment left_since old between (MayLeaveNow (told between))
-    pub counted : DiskMayRise (counts old) (counts between)
-    pub does : PrintsOrDoes change.dry_run change between new result
-    pub points : IfSome (told old) (λ s. IfSome (told new) (λ t.
-        KeepsPointsOfScopes s.files t.files))
-    pub points_left : IfSome (told old) (λ s. (left : Left) → left_since new (moment between) left
-        → KeepsPointsOfScopes s.files left.files)
-
-  -- it can't be settled, or the change of several scopes is done
-  abbrev pub AppliesScopes : ScopesForm → H → H → Outcome → Type 0
-  AppliesScopes change old new result =
-      IsUnsettled old new result ⊎ AppliesSettled change old new result
-
   -- the words are such a change, and so it is done
   abbrev pub RunsOverAll : List (List ℕ) → H → H → Outcome → Type 0
   RunsOverAll words old new result =
       (change : ScopesForm) × (scopes_form words ≡ Some change)
-      × AppliesScopes change old new result
+      × AppliesScopes told counts moment left_since change old new result
 
   -- the words are about one scope or several, and so it is done
   abbrev pub RunsScoped : List (List ℕ) → H → H → Outcome → Type 0

@@ -6,20 +6,20 @@ ghost use Rattle.host_core.specs.Names.{longest_scoped_name};
 ghost use Rattle.gcu_output.specs.declared.outcomes.Outcome.TheVariants.{Usage as usage};
 ghost use Rattle.gcu_words.specs.ScopeForm.{IsNoCommand, IsUnscoped};
 ghost use Rattle.gcu_requests.specs.Asked.{asked};
-ghost use Rattle.gcu_engine.specs.Answers.{Answers, Complete, HasCause, TellsUsage};
-ghost use Rattle.gcu_engine.specs.Crashes.{LeftMeanwhile};
+ghost use Rattle.command_answers.specs.Answers.{Answers, Complete, HasCause, TellsUsage};
+ghost use Rattle.command_answers.specs.Crashes.{LeftMeanwhile};
 ghost use Rattle.gcu_engine.specs.Headline.{IsHeadline};
 ghost use Rattle.gcu_engine.specs.Intending.{KeepsIntent};
 ghost use Rattle.gcu_engine.specs.Resuming.{IsStoppedIn, Resumes};
 ghost use Rattle.gcu_engine.specs.Scoped.{RunsScoped};
 
 use crate::Outcome;
-use crate::apply_scopes::apply_scopes;
 use crate::run_form::run_form;
 use crate::scoped::run_scoped;
 use gcu_words::{read_form, read_scope_form, read_scopes_form};
 use host_core::{Host, Txt};
 use move_core::{Boxes, Kit};
+use scope_commands::apply_scopes;
 use std::alloc::Global;
 
 /// Does the command that the words are, and prints its answer. `preview PATCH` prints the stored

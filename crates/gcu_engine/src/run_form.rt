@@ -9,30 +9,21 @@ ghost use Rattle.gcu_output.specs.declared.outcomes.Outcome.TheVariants.{Usage a
 ghost use Rattle.gcu_words.specs.Form.{form};
 ghost use Rattle.gcu_words.specs.FormView.{form_view};
 ghost use Rattle.gcu_requests.specs.Asked.{asked};
-ghost use Rattle.gcu_engine.specs.Answers.{Answers, Complete, HasCause, TellsUsage};
-ghost use Rattle.gcu_engine.specs.Crashes.{LeftMeanwhile};
+ghost use Rattle.command_answers.specs.Answers.{Answers, Complete, HasCause, TellsUsage};
+ghost use Rattle.command_answers.specs.Crashes.{LeftMeanwhile};
 ghost use Rattle.gcu_engine.specs.Headline.{IsHeadline};
 ghost use Rattle.gcu_engine.specs.Intending.{KeepsIntent};
 ghost use Rattle.gcu_engine.specs.Resuming.{IsStoppedIn, Resumes};
 
 use crate::Outcome;
-use crate::abandon::abandon;
-use crate::change::change;
-use crate::check::check;
-use crate::check_plan::check_plan;
-use crate::delete_checkpoint::delete_checkpoint;
-use crate::demo::demo;
-use crate::dry_run::dry_run;
-use crate::list_checkpoints::list_checkpoints;
-use crate::migrate_checkpoints::migrate_checkpoints;
-use crate::save_checkpoint::save_checkpoint;
-use crate::status::status;
 use gcu_output::{say, show};
 use gcu_requests::{asked_has_one_answer, preview};
 use gcu_words::Form;
 use host_core::Host;
 use move_core::{Boxes, Kit, listed_moves_have_models};
+use reading_commands::{check, check_plan, demo, dry_run, list_checkpoints, status};
 use std::alloc::Global;
+use writing_commands::{abandon, change, delete_checkpoint, migrate_checkpoints, save_checkpoint};
 
 /// Does a command, and prints its answer. Its clauses are those of `run`, for all words that are this command:
 /// the folder is that of the host, be it the whole one or what a scope shows of it.

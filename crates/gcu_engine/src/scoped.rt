@@ -6,7 +6,7 @@ ghost use Rattle.host_core.specs.State.{settled};
 ghost use Rattle.gcu_output.specs.declared.outcomes.Outcome.TheVariants.{Usage as usage};
 ghost use Rattle.gcu_words.specs.Form.{form};
 ghost use Rattle.gcu_words.specs.FormView.{form_view};
-ghost use Rattle.gcu_engine.specs.Answers.{HasCause};
+ghost use Rattle.command_answers.specs.Answers.{HasCause};
 ghost use Rattle.gcu_engine.specs.Scoped.{DoesInScope, RunsInScope};
 
 use crate::Outcome;

@@ -7,12 +7,12 @@ use Rattle.gcu_output.specs.declared.outcomes.Outcome.TheVariants.{Usage, Done}
 use Rattle.gcu_words.specs.Form.{abandon, check, form, list_checkpoints, migrate_checkpoints, status}
 use Rattle.gcu_words.specs.FormView.{form_view, task_view}
 use Rattle.gcu_words.specs.declared.form.Form.{Form}
-use Rattle.gcu_engine.specs.Answers.{TellsUsage}
-use Rattle.gcu_engine.proofs.Causes.{reads_fell}
-use Rattle.gcu_engine.proofs.Completing.{complete_by}
+use Rattle.command_answers.specs.Answers.{TellsUsage}
+use Rattle.command_answers.proofs.Causes.{reads_fell}
+use Rattle.command_answers.proofs.Completing.{complete_by}
 use Rattle.gcu_engine.proofs.Headlines.{change_headline, early_headline, headline}
-use Rattle.gcu_engine.proofs.Elapsing.{changes_by, command_leaves, command_leaves_behind, leaves_by, migrates_by}
-use Rattle.gcu_engine.proofs.Answering.{answers_by, said_answers, done_completes, said_completes, no_form_says, preview_says, preview_refuses, refused_cause}
+use Rattle.command_answers.proofs.Elapsing.{changes_by, command_leaves, command_leaves_behind, leaves_by, migrates_by}
+use Rattle.command_answers.proofs.Answering.{answers_by, said_answers, done_completes, said_completes, no_form_says, preview_says, preview_refuses, refused_cause}
 use Rattle.gcu_engine.proofs.Intending.{keeps_intent}
 use Rattle.gcu_engine.proofs.Resuming.{never_resumes, resumes}
 use Rattle.gcu_engine.proofs.run_form.run_form.Goals as goal

@@ -3,12 +3,12 @@ use Rattle.host_core.specs.Counts.{Counts, Rose}
 use Rattle.host_core.specs.Crashes.{Elapses, MayLeaveNow}
 use Rattle.gcu_output.specs.Lines.{last_line}
 use Rattle.gcu_output.specs.declared.outcomes.Outcome.TheVariants.{DiskFault}
-use Rattle.gcu_engine.specs.Scoped.{settling}
-use Rattle.gcu_engine.proofs.Answering.{said_to}
-use Rattle.gcu_engine.proofs.Causes.{disk_fell, said_cause}
-use Rattle.gcu_engine.proofs.Changes.{cause_from}
-use Rattle.gcu_engine.proofs.Elapsing.{asking_leaves_behind}
-use Rattle.gcu_engine.proofs.Scoping.{settled_now, settling_says}
+use Rattle.scope_commands.specs.SeveralScopes.{settling}
+use Rattle.command_answers.proofs.Answering.{said_to}
+use Rattle.command_answers.proofs.Causes.{disk_fell, said_cause}
+use Rattle.writing_commands.proofs.Changes.{cause_from}
+use Rattle.command_answers.proofs.Elapsing.{asking_leaves_behind}
+use Rattle.scope_commands.proofs.Settling.{settled_now, settling_says}
 use Rattle.gcu_engine.proofs.scoped.run_scoped.Goals as goal
 
 -- ---- nothing is pending

@@ -1,6 +1,6 @@
 use Rattle.std.proofs.Common.{sym, ◌∙◌}
 use Rattle.host_core.specs.Counts.{NoneFell}
-use Rattle.gcu_engine.specs.Answers.{HasCause}
+use Rattle.command_answers.specs.Answers.{HasCause}
 use Rattle.gcu_engine.proofs.Scoping.{at_ends, runs_viewed}
 use Rattle.gcu_engine.proofs.scoped.run_settled.Goals as goal
 

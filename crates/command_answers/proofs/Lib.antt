@@ -1,0 +1,5 @@
+pub mod Answering
+pub mod Causes
+pub mod Completing
+pub mod Elapsing
+pub mod PlanSaying

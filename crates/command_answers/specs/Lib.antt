@@ -1,0 +1,11 @@
+pub mod Answers
+pub mod Changing
+pub mod Commands
+pub mod Crashes
+pub mod Migrating
+pub mod PlanCommands
+pub mod Plannings
+pub mod PointLines
+pub mod ScopeTexts
+pub mod Summary
+pub mod Works

@@ -1,7 +1,0 @@
-use Rattle.std.proofs.Common.{◌≡◌}
-use Rattle.gcu_engine.specs.FaultLines.{disk_lines}
-use Rattle.gcu_engine.proofs.fault_lines.disk_lines.Given as goal
-
--- the lines so far
-abbrev pub invariant-loop-step : goal.invariant-loop-step
-invariant-loop-step l = l.lines ≡ disk_lines l.step

@@ -1,0 +1,9 @@
+pub mod ScopeIntents
+pub mod ScopeOrder
+pub mod ScopeReadiness
+pub mod ScopesDoing
+pub mod ScopesEnding
+pub mod ScopesFaults
+pub mod ScopesPoints
+pub mod ScopesSolving
+pub mod Settling

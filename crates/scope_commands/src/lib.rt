@@ -1,0 +1,8 @@
+//! `gcu apply-scopes`: the plans of several scopes, printed or done.
+#![tactic(auto)]
+
+mod applying;
+mod change_scopes;
+mod plan_scopes;
+
+pub use applying::apply_scopes;

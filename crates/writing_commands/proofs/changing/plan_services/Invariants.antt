@@ -1,0 +1,7 @@
+use Rattle.std.proofs.Common.{◌≡◌, map, take}
+use Rattle.move_core.specs.Services.{services_of}
+use Rattle.writing_commands.proofs.changing.plan_services.Given as goal
+
+-- the services of the first k moves
+abbrev pub invariant-loop-k : goal.invariant-loop-k
+invariant-loop-k l = l.all ≡ map (services_of l.settings) (take l.k l.plan)
