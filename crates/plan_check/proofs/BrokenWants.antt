@@ -1,5 +1,5 @@
 -- A want at a place that a move leaves unsatisfied, among those that are handed out.
-use Rattle.std.proofs.Common.{◌≡◌, ℕ, List, Contains, Option, sym, subst}
+use Rattle.std.proofs.Common.{ℕ, List, Option, sym, subst}
 use Rattle.std.proofs.lemmas.List.Elements.{All-contains}
 use Rattle.conf_check.specs.Acceptance.{IsSatisfied}
 use Rattle.conf_check.specs.Wants.{Want, want_of}

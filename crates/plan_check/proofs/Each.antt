@@ -1,5 +1,5 @@
 -- Each item of a list, by index, by membership and by what `all` answers.
-use Rattle.std.proofs.Common.{◌≡◌, ◌<◌, ℕ, List, Bool, true, false, length, Contains, All, IsTrue, ◌↔◌, refl, arith}
+use Rattle.std.proofs.Common.{◌≡◌, ◌<◌, ℕ, List, Bool, true, false, length, Contains, All, IsTrue, ◌↔◌}
 use Rattle.std.specs.Bool.{MatchBool}
 use Rattle.std.specs.List.{AllWithin, HoldsAt}
 use Rattle.std.proofs.lemmas.Iterator.Search.{true_from_All}

@@ -1,5 +1,5 @@
 -- What follows a move, by the cases that are decided.
-use Rattle.std.proofs.Common.{◌≡◌, ◌≢◌, ◌↔◌, ◌⊎◌, IsTrue, Bool, true, false, not, true≢false, ℕ, List, Option, Some, None, IsSome, IsSomeAnd, inl, inr, refl, sym, ap, ◌∙◌, subst}
+use Rattle.std.proofs.Common.{◌≡◌, ◌≢◌, ◌↔◌, ◌⊎◌, IsTrue, Bool, true, false, not, true≢false, ℕ, Option, Some, None, IsSome, IsSomeAnd, inl, inr, refl, sym, ap, ◌∙◌, subst}
 use Rattle.std.specs.Option.{option_map_or}
 use Rattle.conf_check.specs.Acceptance.{IsSatisfied}
 use Rattle.conf_doc.specs.Changes.{part_at, HasPlace}
@@ -9,7 +9,7 @@ use Rattle.move_core.specs.Contexts.{rulebook}
 use Rattle.move_core.specs.Extensions.{IsDelete, IsExtension, IsReferrer, IsRequired, IsUpper, as_in_goal, upper_place}
 use Rattle.move_core.specs.Moves.{Place, place, step}
 use Rattle.move_core.specs.declared.moves.Move.{Move}
-use Rattle.move_core.specs.declared.moves.Move.TheVariants.{Add, Remove, Replace, AddItem, RemoveItem}
+use Rattle.move_core.specs.declared.moves.Move.TheVariants.{Remove, Replace}
 use Rattle.plan_check.specs.Beginnings.{Precedes}
 use Rattle.plan_check.specs.Broken.{IsReferrerAt}
 use Rattle.plan_check.specs.declared.here.Here.{Here}

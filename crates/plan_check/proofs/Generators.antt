@@ -1,5 +1,5 @@
 -- What is generated, by the cases that are decided.
-use Rattle.std.proofs.Common.{◌≡◌, ◌⊎◌, ℕ, List, ◌∷◌, [], inl, inr, refl, sym, subst, ◌∙◌}
+use Rattle.std.proofs.Common.{◌≡◌, ◌⊎◌, ℕ, List, ◌∷◌, [], inl, inr, refl, subst}
 use Rattle.conf_doc.specs.declared.configuration.Entry.{Entry}
 use Rattle.move_core.specs.Contexts.{rulebook}
 use Rattle.move_core.specs.Generated.{AddsEntry, IsFieldMove, IsGenerated, IsItemMove, IsKeyRemove, IsSeed, IsTableMove, IsWhole, SaysOfEntry}

@@ -1,5 +1,5 @@
 -- Where the lists of two configurations differ.
-use Rattle.std.proofs.Common.{◌≡◌, ◌↔◌, IsTrue, Bool, ℕ, List, Option, Some, None, sym, subst, ◌∙◌}
+use Rattle.std.proofs.Common.{◌≡◌, ◌↔◌, IsTrue, Bool, ℕ, List, Some, None, sym, subst, ◌∙◌}
 use Rattle.conf_doc.specs.declared.configuration.Config.{Config}
 use Rattle.move_core.specs.Generated.{IsFirstDifference, IsItemAdded, IsItemMove, IsItemRemoved, ListsDiffer}
 use Rattle.move_core.specs.Moves.{Place, list_at}

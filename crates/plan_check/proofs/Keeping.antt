@@ -1,9 +1,6 @@
 -- From what single settings ask to the rules of create-only fields and of required values.
-use Rattle.std.proofs.Common.{◌≡◌, ◌⊎◌, inl, inr, ℕ, List, [], ◌∷◌, All, Contains, IsTrue, ◌↔◌, Some, slice_get, refl, subst, sym}
-use Rattle.std.specs.Option.{option_to_list}
-use Rattle.conf_doc.specs.Changes.{HasPlace}
+use Rattle.std.proofs.Common.{inl, inr, All, ◌↔◌, refl, subst, sym}
 use Rattle.conf_doc.specs.declared.configuration.Config.{Config}
-use Rattle.move_core.specs.Extensions.{ChangesFor}
 use Rattle.move_core.specs.Moves.{Agree}
 use Rattle.move_core.specs.Rules.{KeepsCreateOnly, KeepsRequired}
 use Rattle.move_core.specs.declared.settings.CreateOnly.{CreateOnly}

@@ -1,20 +1,20 @@
 -- What a listed move is, at its own place.
-use Rattle.std.proofs.Common.{◌≡◌, ◌⊎◌, ℕ, zero, suc, ◌<◌, List, [], ◌∷◌, length, Bool, true, false, slice_get, Contains, Option, Some, None, is_some, option_and_then, IsSome, IsSomeAnd, if◌then◌else◌, inl, inr, refl, sym, ap, ◌∙◌, subst, arith}
+use Rattle.std.proofs.Common.{◌≡◌, ◌⊎◌, ℕ, zero, suc, ◌<◌, List, [], ◌∷◌, length, Bool, true, false, slice_get, Option, Some, None, is_some, option_and_then, IsSome, IsSomeAnd, if◌then◌else◌, inl, inr, refl, sym, subst}
 use Rattle.std.specs.Option.{option_map_or}
 use Rattle.std.proofs.lemmas.Option.{slice_get_within}
 use Rattle.conf_doc.specs.Changes.{part_at, HasPlace}
 use Rattle.conf_doc.specs.declared.configuration.Config.{Config}
 use Rattle.conf_doc.specs.declared.parts.Part.{Part}
 use Rattle.move_core.specs.Contexts.{rulebook}
-use Rattle.move_core.specs.Extensions.{IsDelete, IsExtension, IsReferrer, IsRequired, IsUpper, as_in_goal, put_value, removal, required_part, rule_entry, rule_field, upper_place}
+use Rattle.move_core.specs.Extensions.{IsDelete, IsExtension, IsReferrer, IsRequired, IsUpper, as_in_goal, removal, required_part, rule_field, upper_place}
 use Rattle.move_core.specs.Generated.{IsFieldMove, IsItemMove, IsKeyRemove, IsTableMove}
-use Rattle.move_core.specs.Listed.{Extends, IsListed, LeadsTo}
+use Rattle.move_core.specs.Listed.{LeadsTo}
 use Rattle.move_core.specs.Moves.{IsDefined, Place, list_at, list_in, place}
 use Rattle.move_core.specs.declared.moves.Generated.{Generated}
 use Rattle.move_core.specs.declared.moves.Move.{Move}
 use Rattle.move_core.specs.declared.moves.Move.TheVariants.{Add, Remove, Replace, AddItem, RemoveItem}
-use Rattle.plan_check.specs.Beginnings.{Begins, IsListedAt, Precedes}
-use Rattle.plan_check.specs.Candidates.{AddsItemAt, GivesSome, IsGoalsAt, IsOfOne, IsPlainAt, IsPut, RemovesItemAt}
+use Rattle.plan_check.specs.Beginnings.{Begins, IsListedAt}
+use Rattle.plan_check.specs.Candidates.{GivesSome, IsPlainAt, IsPut}
 use Rattle.plan_check.specs.NewEntries.{AddsNew}
 use Rattle.plan_check.specs.declared.here.Here.{Here}
 use Rattle.plan_check.proofs.Following.{some_and}

@@ -1,14 +1,12 @@
 -- What is taken at keys and in tables, where a move may precede the sought one.
-use Rattle.std.proofs.Common.{◌≡◌, ◌⊎◌, ℕ, List, [], ◌∷◌, slice_get, Contains, Some, IsTrue, inl, inr, refl, sym, ap, ◌∙◌, subst, Bool}
+use Rattle.std.proofs.Common.{◌≡◌, ℕ, List, [], ◌∷◌, Some, inl, inr, refl, sym, ap, subst}
 use Rattle.move_core.specs.Moves.{Place, place}
 use Rattle.move_core.specs.Services.{table_of}
 use Rattle.move_core.specs.Extensions.{required_part}
 use Rattle.move_core.specs.declared.moves.Move.{Move}
-use Rattle.move_core.specs.declared.moves.Move.TheVariants.{Add, Remove, Replace, AddItem, RemoveItem}
 use Rattle.conf_doc.specs.declared.configuration.Config.{Config}
 use Rattle.conf_doc.specs.declared.parts.Part.{Part}
-use Rattle.plan_check.specs.Backwards.{Leads}
-use Rattle.plan_check.specs.Candidates.{GivesSome, IsFieldOf, IsInEntry, IsOfOne, IsPlainAt, IsPut}
+use Rattle.plan_check.specs.Candidates.{IsFieldOf, IsInEntry, IsPlainAt, IsPut}
 use Rattle.plan_check.specs.Nearby.{IsIn, IsInKeys, IsInTable}
 use Rattle.plan_check.specs.declared.here.Here.{Here}
 use Rattle.plan_check.specs.declared.preceding.Sought.{Sought}

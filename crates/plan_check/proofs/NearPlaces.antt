@@ -1,8 +1,8 @@
 -- Where what precedes a move may stand, and that it is reached there.
-use Rattle.std.proofs.Common.{◌≡◌, ◌≢◌, ◌⊎◌, ℕ, ◌<◌, List, [], ◌∷◌, ◌++◌, length, map, slice_get, Contains, Option, Some, None, option_map, option_and_then, IfSome, IsSome, if◌then◌else◌, inl, inr, refl, sym, ap, ◌∙◌, subst, arith, Bool, true, false, is_some}
-use Rattle.std.specs.Option.{option_map_or, option_to_list}
+use Rattle.std.proofs.Common.{◌≡◌, ◌≢◌, ◌⊎◌, ℕ, ◌<◌, List, [], ◌∷◌, length, map, slice_get, Contains, Option, Some, None, option_map, option_and_then, IsSome, if◌then◌else◌, inl, inr, refl, sym, ap, ◌∙◌, subst, arith, Bool, true, false, is_some}
+use Rattle.std.specs.Option.{option_map_or}
 use Rattle.conf_check.specs.Acceptance.{IsSatisfied, keys_of}
-use Rattle.conf_check.specs.Wants.{Want, want_of}
+use Rattle.conf_check.specs.Wants.{Want}
 use Rattle.conf_doc.specs.Changes.{entry_at, part_at, HasPlace}
 use Rattle.conf_doc.specs.Pairs.{find}
 use Rattle.conf_doc.specs.declared.configuration.Config.{Config}
@@ -12,23 +12,20 @@ use Rattle.conf_doc.specs.declared.parts.Part.{Part}
 use Rattle.conf_doc.specs.declared.parts.Part.TheVariants as part
 use Rattle.key_split.specs.Key.{key_parts}
 use Rattle.move_core.specs.Contexts.{HasWant, rulebook}
-use Rattle.move_core.specs.Extensions.{IsDelete, IsExtension, IsReferrer, IsRequired, IsUpper, put_value, removal, required_part, rule_field, upper, upper_place}
+use Rattle.move_core.specs.Extensions.{IsDelete, IsExtension, IsReferrer, IsRequired, removal, required_part, rule_field, upper, upper_place}
 use Rattle.move_core.specs.Moves.{Place, place, step}
 use Rattle.move_core.specs.Services.{table_of}
 use Rattle.move_core.specs.declared.moves.Move.{Move}
 use Rattle.move_core.specs.declared.moves.Move.TheVariants.{Add, Remove, Replace, AddItem, RemoveItem}
-use Rattle.move_core.specs.declared.settings.Required.{Required}
 use Rattle.move_core.specs.declared.settings.Requiring.{Requiring}
 use Rattle.yang_model.specs.ModelSets.{ModelSet}
 use Rattle.plan_check.specs.Backwards.{Leads}
-use Rattle.plan_check.specs.Candidates.{GivesSome, IsFieldOf, IsInEntry, IsOfOne, IsPlainAt, IsPut}
-use Rattle.plan_check.specs.Nearby.{AreWanted, HasRequiring, HasWanted, IsIn, IsInKeys, IsInTable, IsInTables, IsNear, IsRequiredIn, IsRequiringIn, IsWantedIn}
+use Rattle.plan_check.specs.Candidates.{IsFieldOf, IsInEntry, IsPlainAt}
+use Rattle.plan_check.specs.Nearby.{AreWanted, HasRequiring, HasWanted, IsIn, IsInKeys, IsInTable, IsInTables, IsNear, IsRequiringIn, IsWantedIn}
 use Rattle.plan_check.specs.Keeping.{requiring_place}
-use Rattle.plan_check.specs.WantsAt.{IsAmong}
-use Rattle.plan_check.specs.declared.here.Here.{Here}
 use Rattle.plan_check.specs.declared.preceding.Sought.{Sought}
 use Rattle.plan_check.proofs.AtKeys.{by_key, by_table, found_key, key_found, second_name}
-use Rattle.plan_check.proofs.Following.{some_and, upper_then}
+use Rattle.plan_check.proofs.Following.{upper_then}
 use Rattle.plan_check.proofs.ListedShapes.{PutsRequired}
 use Rattle.plan_check.proofs.RequiringPlaces.{changed_key, changed_table}
 use Rattle.plan_check.proofs.SatisfiedWants.{want_satisfied}

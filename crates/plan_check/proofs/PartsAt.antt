@@ -1,7 +1,7 @@
 -- What stands at the place of an entry and of a field, against look-ups by names.
 use Rattle.std.proofs.Common.{◌≡◌, ◌⊎◌, inl, inr, ℕ, List, [], ◌∷◌, Bool, Option, Some, None, option_map, option_and_then, IsSome, IsTrue, ◌↔◌, refl, sym, ap, ◌∙◌, subst}
 use Rattle.std.specs.Option.{option_to_list}
-use Rattle.conf_doc.specs.Changes.{HasPlace, entry_at, part_at, value_at}
+use Rattle.conf_doc.specs.Changes.{HasPlace, entry_at, value_at}
 use Rattle.conf_doc.specs.Pairs.{find}
 use Rattle.conf_doc.specs.declared.configuration.Config.{Config}
 use Rattle.conf_doc.specs.declared.configuration.Entry.{Entry}

@@ -1,5 +1,5 @@
 -- Places by their names.
-use Rattle.std.proofs.Common.{◌≡◌, ◌↔◌, IsTrue, Bool, ℕ, List, [], ◌∷◌, length, slice_get, Some, refl, sym, ap, ◌∙◌, subst, arith}
+use Rattle.std.proofs.Common.{◌≡◌, ◌↔◌, IsTrue, Bool, ℕ, List, [], ◌∷◌, length, slice_get, Some, sym, ap, ◌∙◌, arith}
 use Rattle.move_core.specs.Extensions.{upper}
 use Rattle.move_core.specs.Moves.{Place}
 

@@ -1,9 +1,7 @@
 -- The moves in the tables of cur and of goal are all that may precede.
-use Rattle.std.proofs.Common.{◌≡◌, ◌⊎◌, ℕ, List, map, Contains, inl, inr, refl, sym, subst}
-use Rattle.conf_doc.specs.declared.configuration.Config.{Config}
-use Rattle.conf_doc.specs.WellFormed.{IsConfig}
+use Rattle.std.proofs.Common.{List, map, Contains, inl, inr, refl, subst}
 use Rattle.move_core.specs.Contexts.{rulebook}
-use Rattle.move_core.specs.Listed.{IsGeneratedMove, IsListed}
+use Rattle.move_core.specs.Listed.{IsGeneratedMove}
 use Rattle.move_core.specs.Moves.{IsDefined, place}
 use Rattle.move_core.specs.declared.moves.Generated.{Generated}
 use Rattle.move_core.specs.declared.moves.Move.{Move}
@@ -11,10 +9,8 @@ use Rattle.plan_check.specs.Backwards.{ArePreceding, HasBeginning, Leads}
 use Rattle.plan_check.specs.Beginnings.{Begins, IsListedAt, Precedes}
 use Rattle.plan_check.specs.Candidates.{IsPlainAt, Takes}
 use Rattle.plan_check.specs.Nearby.{IsInTables}
-use Rattle.plan_check.specs.NewEntries.{AddsNew}
-use Rattle.plan_check.specs.declared.here.Here.{Here}
 use Rattle.plan_check.specs.declared.preceding.Sought.{Sought}
-use Rattle.plan_check.proofs.ListedShapes.{IsShaped, PutsRequired, reached, shape_of}
+use Rattle.plan_check.proofs.ListedShapes.{reached, shape_of}
 use Rattle.plan_check.proofs.NearPlaces.{in_cur, in_goal, required_in}
 use Rattle.plan_check.proofs.WholeEntries.{IsWholeAdd, whole_add}
 

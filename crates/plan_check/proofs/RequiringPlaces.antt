@@ -1,11 +1,10 @@
 -- Where a move changes what requires a value.
-use Rattle.std.proofs.Common.{◌≡◌, ◌≢◌, ◌⊎◌, ℕ, List, [], ◌∷◌, ◌↔◌, IsTrue, Bool, true, false, not, ◌&&◌, true≢false, map, slice_get, Contains, Option, Some, None, is_some, option_and_then, IsSome, if◌then◌else◌, length, inl, inr, refl, sym, ap, ◌∙◌, subst, arith}
+use Rattle.std.proofs.Common.{◌≡◌, ◌≢◌, ◌⊎◌, ℕ, List, [], ◌∷◌, ◌↔◌, IsTrue, Bool, true, false, not, ◌&&◌, true≢false, map, slice_get, Contains, Option, Some, None, is_some, option_and_then, IsSome, if◌then◌else◌, length, inl, inr, refl, sym, ap, ◌∙◌, subst}
 use Rattle.std.specs.Option.{option_map_or, option_to_list}
 use Rattle.conf_check.specs.Acceptance.{keys_of}
 use Rattle.conf_doc.specs.Changes.{entry_at, part_at, HasPlace}
 use Rattle.conf_doc.specs.Pairs.{find}
 use Rattle.conf_doc.specs.declared.configuration.Config.{Config}
-use Rattle.conf_doc.specs.declared.configuration.Entry.{Entry}
 use Rattle.conf_doc.specs.declared.configuration.Table.{Table}
 use Rattle.move_core.specs.Contexts.{rulebook}
 use Rattle.conf_doc.specs.declared.parts.Part.{Part}
@@ -17,7 +16,7 @@ use Rattle.move_core.specs.declared.moves.Move.TheVariants.{Add, Replace}
 use Rattle.move_core.specs.declared.settings.Required.{Required}
 use Rattle.move_core.specs.declared.settings.Requiring.{Requiring}
 use Rattle.plan_check.specs.Keeping.{requiring_place}
-use Rattle.plan_check.specs.Requirements.{Differs, DiffersAmong, DiffersAt, IsRequiredBy, LacksValue}
+use Rattle.plan_check.specs.Requirements.{Differs, DiffersAmong, DiffersAt, IsRequiredBy}
 use Rattle.plan_check.specs.declared.here.Here.{Here}
 use Rattle.plan_check.specs.declared.required.Change.{Change}
 use Rattle.plan_check.proofs.AtKeys.{by_key, by_table, found_key, same_entry, same_field, second_name}

@@ -16,7 +16,7 @@ use Rattle.move_core.specs.Contexts.{HasWant, field_names, item_at, names_of}
 use Rattle.move_core.specs.Moves.{Place}
 use Rattle.yang_model.specs.ModelSets.{ModelSet}
 use Rattle.plan_check.specs.Touching.{names_at}
-use Rattle.plan_check.specs.WantsAt.{AreWantsAt, IsAmong, IsThat}
+use Rattle.plan_check.specs.WantsAt.{AreWantsAt, IsAmong}
 
 same_Some : {A : Type 0} (x y : A) → Some x ≡ Some y → x ≡ y
 same_Some x y e = cc

@@ -1,16 +1,14 @@
 -- What follows the add of a part of goal's entry follows a move that puts the whole of it.
-use Rattle.std.proofs.Common.{◌≡◌, ◌≢◌, ◌⊎◌, ℕ, List, [], ◌∷◌, Bool, true, false, cond, slice_get, Contains, Option, Some, None, option_map, option_and_then, is_some, IsSome, if◌then◌else◌, inl, inr, refl, sym, ap, ◌∙◌, subst}
-use Rattle.std.specs.Option.{option_map_or, option_to_list}
+use Rattle.std.proofs.Common.{◌≡◌, ◌≢◌, ◌⊎◌, ℕ, List, [], ◌∷◌, true, false, cond, Option, Some, None, option_map, option_and_then, is_some, IsSome, if◌then◌else◌, inl, inr, refl, sym, ap, ◌∙◌, subst}
+use Rattle.std.specs.Option.{option_to_list}
 use Rattle.std.specs.Ordering.{eq_by_cmp}
 use Rattle.host_core.specs.Names.{name_cmp}
-use Rattle.conf_check.specs.Acceptance.{IsSatisfied, keys_of}
-use Rattle.conf_doc.specs.Changes.{entry_at, part_at, HasPlace}
+use Rattle.conf_doc.specs.Changes.{entry_at, part_at}
 use Rattle.conf_doc.specs.Pairs.{find, put}
 use Rattle.conf_doc.specs.declared.configuration.Config.{Config}
 use Rattle.conf_doc.specs.declared.configuration.Entry.{Entry}
 use Rattle.conf_doc.specs.declared.configuration.Table.{Table}
 use Rattle.conf_doc.specs.declared.configuration.Value.{Value}
-use Rattle.conf_doc.specs.declared.parts.Part.{Part}
 use Rattle.conf_doc.specs.declared.parts.Part.TheVariants as part
 use Rattle.move_core.specs.Contexts.{rulebook}
 use Rattle.move_core.specs.Extensions.{IsDelete, IsExtension, IsReferrer, IsRequired, IsUpper}
@@ -21,10 +19,9 @@ use Rattle.move_core.specs.declared.moves.Move.TheVariants.{Add}
 use Rattle.move_core.specs.declared.settings.Requiring.{Requiring}
 use Rattle.plan_check.specs.Beginnings.{Begins, Precedes}
 use Rattle.plan_check.specs.Candidates.{IsPlainAt}
-use Rattle.plan_check.specs.NewEntries.{AddsNew}
 use Rattle.plan_check.specs.Keeping.{requiring_place}
 use Rattle.plan_check.specs.declared.here.Here.{Here}
-use Rattle.plan_check.proofs.AtKeys.{by_key, by_table, same_entry, same_value, stands, there}
+use Rattle.plan_check.proofs.AtKeys.{by_key, by_table, stands, there}
 use Rattle.plan_check.proofs.Following.{of_required, of_upper}
 use Rattle.plan_check.proofs.Generators.{of_new, of_table}
 use Rattle.plan_check.proofs.ListedShapes.{adds_goals}

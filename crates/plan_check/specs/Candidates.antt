@@ -4,7 +4,7 @@ use Rattle.conf_doc.specs.Changes.{part_at, HasPlace}
 use Rattle.conf_doc.specs.declared.configuration.Config.{Config}
 use Rattle.conf_doc.specs.declared.parts.Part.{Part}
 use Rattle.move_core.specs.Extensions.{required_part}
-use Rattle.move_core.specs.Moves.{Place, list_at, place}
+use Rattle.move_core.specs.Moves.{Place, list_at}
 use Rattle.move_core.specs.declared.moves.Move.{Move}
 use Rattle.move_core.specs.declared.moves.Move.TheVariants.{Add, Remove, Replace, AddItem, RemoveItem}
 use Rattle.move_core.specs.declared.settings.Required.{Required}

@@ -1,5 +1,5 @@
 -- What single settings ask of a step.
-use Rattle.std.specs.Prelude.{◌≡◌, ◌≢◌, ℕ, List, [], ◌∷◌, Some, slice_get}
+use Rattle.std.specs.Prelude.{◌≡◌, ℕ, List, [], ◌∷◌, Some, slice_get}
 use Rattle.std.specs.Option.{option_to_list}
 use Rattle.conf_doc.specs.Changes.{HasPlace}
 use Rattle.conf_doc.specs.declared.configuration.Config.{Config}

@@ -1,5 +1,5 @@
 -- Places that require a value, and the moves that give it.
-use Rattle.std.specs.Prelude.{◌≡◌, ℕ, List, ◌∷◌, Some, slice_get, Contains}
+use Rattle.std.specs.Prelude.{◌≡◌, ℕ, List, Some, slice_get, Contains}
 use Rattle.conf_doc.specs.Changes.{HasPlace}
 use Rattle.conf_doc.specs.declared.configuration.Config.{Config}
 use Rattle.key_split.specs.Key.{key_parts}

@@ -1,5 +1,5 @@
 -- The wants that stand in what a move changes.
-use Rattle.std.specs.Prelude.{◌≡◌, ℕ, Bool, true, false, List, ◌∷◌, Option, Some, option_map}
+use Rattle.std.specs.Prelude.{◌≡◌, ℕ, Bool, true, false, ◌∷◌, Option, Some, option_map}
 use Rattle.std.specs.Option.{option_to_list}
 use Rattle.conf_check.specs.Acceptance.{IsSatisfied}
 use Rattle.conf_check.specs.Wants.{Want}

@@ -1,8 +1,7 @@
 use Rattle.std.proofs.Common.{◌≡◌, ◌⊎◌}
-use Rattle.std.proofs.lemmas.Result.{on_ok_weaker}
 use Rattle.move_core.specs.declared.moves.Move.{Move}
 use Rattle.move_core.specs.declared.moves.Move.TheVariants.{Remove}
-use Rattle.plan_check.specs.Candidates.{AddsItemAt, IsGoalsAt, RemovesItemAt, Takes}
+use Rattle.plan_check.specs.Candidates.{AddsItemAt, IsGoalsAt, RemovesItemAt}
 use Rattle.plan_check.proofs.Taking.{takes_both, takes_one}
 use Rattle.plan_check.proofs.candidates.add_at.Goals as goal
 

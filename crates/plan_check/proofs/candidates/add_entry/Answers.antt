@@ -1,6 +1,6 @@
-use Rattle.std.proofs.Common.{◌≡◌, ◌⊎◌, ◌∷◌, [], subst}
+use Rattle.std.proofs.Common.{◌⊎◌, ◌∷◌, [], subst}
 use Rattle.std.proofs.lemmas.Result.{on_ok_weaker}
-use Rattle.plan_check.specs.Candidates.{GivesSome, IsFieldOf, IsInEntry, IsPlainAt, Takes}
+use Rattle.plan_check.specs.Candidates.{GivesSome, IsFieldOf, IsPlainAt, Takes}
 use Rattle.plan_check.proofs.Taking.{takes_both}
 use Rattle.plan_check.proofs.candidates.add_entry.Goals as goal
 

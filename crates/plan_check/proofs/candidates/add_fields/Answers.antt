@@ -1,4 +1,4 @@
-use Rattle.std.proofs.Common.{[], ◌∷◌, map, length, subst, sym, arith}
+use Rattle.std.proofs.Common.{[], ◌∷◌, map, subst, arith}
 use Rattle.conf_doc.proofs.Lists.{length-map}
 use Rattle.plan_check.specs.Candidates.{IsPlainAt, Takes}
 use Rattle.plan_check.proofs.PairSearches.{named_name}

@@ -1,4 +1,4 @@
-use Rattle.std.proofs.Common.{◌≡◌, ℕ, List, [], ◌∷◌, map, Contains, Option, Some, None, option_map, option_and_then, IsSome, refl, sym, ap, ◌∙◌, subst}
+use Rattle.std.proofs.Common.{map, sym}
 use Rattle.std.proofs.lemmas.Result.{on_ok_weaker}
 use Rattle.plan_check.specs.Candidates.{IsFieldIn, IsFieldOf}
 use Rattle.plan_check.proofs.NearPlaces.{field_named, no_field}

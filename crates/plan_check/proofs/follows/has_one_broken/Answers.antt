@@ -1,4 +1,4 @@
-use Rattle.std.proofs.Common.{refl, arith}
+use Rattle.std.proofs.Common.{refl}
 use Rattle.plan_check.specs.Broken.{IsBrokenAt}
 use Rattle.plan_check.proofs.Loops.{none_all, none_more, not_so, there_at}
 use Rattle.plan_check.proofs.follows.has_one_broken.Goals as goal

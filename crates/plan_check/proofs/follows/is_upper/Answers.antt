@@ -1,5 +1,4 @@
-use Rattle.std.proofs.Common.{◌≡◌, Some, sym, subst, ap, ◌∙◌}
-use Rattle.move_core.specs.Extensions.{upper_place}
+use Rattle.std.proofs.Common.{Some, sym, ap, ◌∙◌}
 use Rattle.plan_check.proofs.Following.{upper_if, upper_then}
 use Rattle.plan_check.proofs.Loops.{not_so}
 use Rattle.plan_check.proofs.follows.is_upper.Goals as goal

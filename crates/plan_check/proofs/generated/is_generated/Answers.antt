@@ -1,4 +1,4 @@
-use Rattle.std.proofs.Common.{◌⊎◌, ◌↔◌, IsTrue, Bool, inl, inr, refl}
+use Rattle.std.proofs.Common.{◌↔◌, IsTrue, inl, inr, refl}
 use Rattle.std.proofs.lemmas.Result.{IfOk-weaker}
 use Rattle.plan_check.specs.Beginnings.{Begins}
 use Rattle.plan_check.specs.NewEntries.{AddsNew}

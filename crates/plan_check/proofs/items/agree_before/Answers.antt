@@ -1,4 +1,4 @@
-use Rattle.std.proofs.Common.{refl, arith}
+use Rattle.std.proofs.Common.{arith}
 use Rattle.plan_check.proofs.ListFronts.{agree_below, agree_more}
 use Rattle.plan_check.proofs.Loops.{not_so}
 use Rattle.plan_check.proofs.items.agree_before.Goals as goal

@@ -1,4 +1,3 @@
-use Rattle.plan_check.proofs.Loops.{not_so}
 use Rattle.plan_check.proofs.items.comes.Goals as goal
 
 pub returns-then-has_text : goal.returns-then-has_text

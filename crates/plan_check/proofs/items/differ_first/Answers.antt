@@ -1,4 +1,3 @@
-use Rattle.std.proofs.Common.{refl}
 use Rattle.plan_check.proofs.Loops.{not_so}
 use Rattle.plan_check.proofs.items.differ_first.Goals as goal
 

@@ -1,8 +1,6 @@
-use Rattle.std.proofs.Common.{◌≡◌, ◌⊎◌, ◌<◌, ◌≤◌, length, get_or, slice_get, Some, Contains, inl, inr, refl, sym, ap, ◌∙◌, subst, arith}
+use Rattle.std.proofs.Common.{◌≡◌, ◌<◌, ◌≤◌, length, get_or, Some, inl, inr, refl, sym, ap, ◌∙◌, subst, arith}
 use Rattle.std.proofs.lemmas.Option.{slice_get-get_or}
-use Rattle.move_core.specs.declared.moves.Move.{Move}
-use Rattle.plan_check.specs.Backwards.{HasBeginning, Joins, Leads, LeadsOf}
-use Rattle.plan_check.specs.Beginnings.{IsListedAt, Precedes}
+use Rattle.plan_check.specs.Backwards.{Joins, LeadsOf}
 use Rattle.plan_check.specs.declared.here.Here.{Here}
 use Rattle.plan_check.proofs.Loops.{not_so}
 use Rattle.plan_check.proofs.Rounds.{not_listed, reached_begins, reached_first, reached_more}

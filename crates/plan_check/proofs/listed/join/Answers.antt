@@ -1,5 +1,5 @@
-use Rattle.std.proofs.Common.{◌≡◌, [], ◌∷◌, ◌++◌, Contains, refl, sym, ap, ◌∙◌, subst}
-use Rattle.plan_check.specs.Backwards.{Leads, LeadsAs}
+use Rattle.std.proofs.Common.{[], ◌∷◌, ◌++◌, Contains, refl, sym, ap, ◌∙◌, subst}
+use Rattle.plan_check.specs.Backwards.{LeadsAs}
 use Rattle.plan_check.proofs.Loops.{not_so}
 use Rattle.plan_check.proofs.Rounds.{joins_none, joins_one}
 use Rattle.plan_check.proofs.listed.join.Goals as goal

@@ -1,4 +1,3 @@
-use Rattle.std.proofs.Common.{refl, sym, ap, ◌∙◌}
 use Rattle.std.proofs.lemmas.Result.{on_ok_weaker}
 use Rattle.plan_check.specs.Candidates.{IsInEntry}
 use Rattle.plan_check.specs.Nearby.{IsAtKey}

@@ -1,4 +1,4 @@
-use Rattle.std.proofs.Common.{◌≡◌, ℕ, List, [], map, length, Contains, Option, Some, None, IsTrue, sym, subst, ap, arith}
+use Rattle.std.proofs.Common.{ℕ, List, [], map, subst}
 use Rattle.std.specs.Option.{option_map_or}
 use Rattle.std.proofs.lemmas.Result.{on_ok_weaker}
 use Rattle.conf_doc.specs.declared.configuration.Entry.{Entry}

@@ -1,4 +1,4 @@
-use Rattle.std.proofs.Common.{◌⊎◌, [], ◌∷◌, inl, inr, subst, sym}
+use Rattle.std.proofs.Common.{◌⊎◌, [], ◌∷◌, subst}
 use Rattle.std.proofs.lemmas.Result.{on_ok_weaker}
 use Rattle.conf_check.specs.Acceptance.{keys_of}
 use Rattle.plan_check.specs.Candidates.{IsPlainAt, Takes}

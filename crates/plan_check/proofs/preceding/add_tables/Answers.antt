@@ -1,4 +1,4 @@
-use Rattle.std.proofs.Common.{map, length, arith}
+use Rattle.std.proofs.Common.{map, arith}
 use Rattle.conf_doc.proofs.Lists.{length-map}
 use Rattle.plan_check.specs.Nearby.{IsAtTable}
 use Rattle.plan_check.proofs.PairSearches.{named_name}

@@ -1,4 +1,4 @@
-use Rattle.std.proofs.Common.{◌≡◌, List, ℕ, length, slice_get, Some, refl, arith, subst, sym, ap, ◌∙◌}
+use Rattle.std.proofs.Common.{◌≡◌, List, length, slice_get, Some, refl, arith, subst, ap}
 use Rattle.std.specs.Option.{option_copied}
 use Rattle.move_core.specs.Moves.{place}
 use Rattle.move_core.specs.declared.settings.Required.{Required}

@@ -1,4 +1,4 @@
-use Rattle.std.proofs.Common.{refl, arith}
+use Rattle.std.proofs.Common.{refl}
 use Rattle.std.specs.Option.{option_copied}
 use Rattle.conf_check.specs.Wants.{want_of}
 use Rattle.plan_check.specs.Nearby.{IsWantedIn}

@@ -1,4 +1,4 @@
-use Rattle.std.proofs.Common.{inl, inr, refl, sym, subst}
+use Rattle.std.proofs.Common.{inl, inr, sym, subst}
 use Rattle.std.specs.Option.{option_copied}
 use Rattle.plan_check.specs.Nearby.{IsNear}
 use Rattle.plan_check.proofs.Loops.{not_so}

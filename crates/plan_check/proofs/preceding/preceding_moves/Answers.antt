@@ -1,6 +1,5 @@
-use Rattle.std.proofs.Common.{refl, sym, subst, IfOk}
+use Rattle.std.proofs.Common.{sym, subst}
 use Rattle.move_core.specs.Moves.{place}
-use Rattle.plan_check.specs.Nearby.{AreWanted}
 use Rattle.plan_check.specs.WantsAt.{AreWantsAt}
 use Rattle.plan_check.specs.declared.preceding.Sought.{Sought}
 use Rattle.plan_check.proofs.PrecedingMoves.{preceding}

@@ -1,4 +1,4 @@
-use Rattle.std.proofs.Common.{◌≡◌, List, length, slice_get, Some, refl, sym, ap, subst, arith}
+use Rattle.std.proofs.Common.{◌≡◌, List, length, slice_get, Some, refl, ap, subst, arith}
 use Rattle.move_core.specs.declared.settings.Requiring.{Requiring}
 use Rattle.plan_check.specs.Requirements.{Differs}
 use Rattle.plan_check.proofs.Loops.{at_index, none_all, none_more, not_so, there_at}

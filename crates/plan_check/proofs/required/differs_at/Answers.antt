@@ -1,4 +1,3 @@
-use Rattle.std.proofs.Common.{refl}
 use Rattle.plan_check.proofs.Loops.{negated, not_so}
 use Rattle.plan_check.proofs.required.differs_at.Goals as goal
 

@@ -1,5 +1,4 @@
-use Rattle.std.proofs.Common.{◌≡◌, ◌⊎◌, Some, slice_get, inl, inr, ap, sym, subst, ◌∙◌, refl, arith}
-use Rattle.move_core.specs.Moves.{place}
+use Rattle.std.proofs.Common.{◌≡◌, Some, slice_get, inl, inr, sym, subst, ◌∙◌, refl}
 use Rattle.plan_check.proofs.Loops.{not_so}
 use Rattle.plan_check.proofs.RequiringPlaces.{among, at_key, in_table}
 use Rattle.plan_check.proofs.required.is_changed.Goals as goal

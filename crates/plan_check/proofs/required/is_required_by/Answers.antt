@@ -1,7 +1,6 @@
-use Rattle.std.proofs.Common.{◌≡◌, Some, slice_get, length, ap, sym, subst, ◌∙◌, arith}
+use Rattle.std.proofs.Common.{◌≡◌, Some, slice_get, length, ap, subst, ◌∙◌}
 use Rattle.move_core.specs.Extensions.{ChangesFor, put_value, required_part, rule_field}
-use Rattle.move_core.specs.Moves.{place}
-use Rattle.plan_check.specs.Requirements.{IsRequiredBy, LacksValue}
+use Rattle.plan_check.specs.Requirements.{LacksValue}
 use Rattle.plan_check.proofs.Loops.{not_so}
 use Rattle.plan_check.proofs.RequiringPlaces.{put_key, put_length}
 use Rattle.plan_check.proofs.required.is_required_by.Goals as goal

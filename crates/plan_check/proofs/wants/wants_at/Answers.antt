@@ -1,11 +1,10 @@
-use Rattle.std.proofs.Common.{◌≡◌, ◌≢◌, ◌⊎◌, List, [], ◌∷◌, ◌++◌, inl, inr, sym, subst, arith}
+use Rattle.std.proofs.Common.{◌≡◌, List, inl, inr, sym, subst, arith}
 use Rattle.conf_check.specs.WantRuns.{GivesFirst}
 use Rattle.conf_check.specs.declared.want_iter.WantAt.{WantAt}
 use Rattle.conf_check.specs.declared.want_iter.WantIter.{WantIter}
 use Rattle.conf_doc.specs.declared.configuration.Config.{Config}
 use Rattle.move_core.specs.Moves.{Place}
 use Rattle.yang_model.specs.ModelSets.{ModelSet}
-use Rattle.plan_check.specs.Touching.{names_at}
 use Rattle.plan_check.specs.WantsAt.{GathersOne}
 use Rattle.plan_check.proofs.WantWalks.{Gathers, all_gathered, gathered, passed, short_none, walk_begins}
 use Rattle.plan_check.proofs.wants.wants_at.Goals as goal
