@@ -1,13 +1,14 @@
 -- Lists of what is found, one after another, each once.
 use borrow.Author.Count.{below_more}
 use Rattle.std.proofs.Common.{◌≡◌, ◌≢◌, ◌⊎◌, inl, inr, ℕ, zero, suc, ◌+◌, ◌<◌, ◌≤◌, List, [], ◌∷◌, ◌++◌, length, get_or, slice_get, Option, Some, None, ◌↔◌, refl, sym, ap, ◌∙◌, subst, arith}
-use Rattle.std.specs.List.{All, Contains}
+use Rattle.std.specs.List.{All, AllPairs, Contains}
 use Rattle.std.specs.Option.{option_to_list}
-use Rattle.std.proofs.lemmas.List.Elements.{Contains-append_left, Contains-push, Contains-push_cases, Contains-get_or}
+use Rattle.std.proofs.lemmas.List.Elements.{All-append, All-contains, Contains-append_cases, Contains-append_left, Contains-append_right, Contains-push, Contains-push_cases, Contains-get_or}
+use Rattle.std.proofs.lemmas.List.Kept.{AllPairs-cons}
 use Rattle.std.proofs.lemmas.List.Quantifiers.{all_pairs_push}
 use Rattle.conf_doc.proofs.Edits.{same_Some}
 use Rattle.move_core.specs.Appends.{Appends}
-use Rattle.move_extend.specs.Found.{Finds, GivenByOne}
+use Rattle.move_extend.specs.Found.{Finds, GivenByOne, HasNone}
 
 -- ---- one more
 
@@ -33,6 +34,32 @@ module _ {A : Type 0} where
     once = λ apart. all_pairs_push (λ a b. a ≢ b) xs x apart
         (λ k d below e. absent (subst (Contains xs) e (Contains-get_or xs k d below)));
   })
+
+  -- two lists put together, with nothing that is in both
+  pairs_append : (R : A → A → Type 0) (xs ys : List A) → AllPairs R xs → AllPairs R ys → ((x y : A) → Contains xs x → Contains ys y → R x y) → AllPairs R (xs ++ ys)
+  pairs_append R [] ys one two across = two
+  pairs_append R (x ∷ xs) ys one two across =
+      AllPairs-cons R x (xs ++ ys)
+      (All-append (R x) xs ys (λ k d below. one 0 (suc k) d (omega arith) (omega arith)) (λ k d below. across x _ (0, omega arith, refl) (Contains-get_or ys k d below)))
+      (pairs_append R xs ys (λ i j d less below. one (suc i) (suc j) d (omega arith) (omega arith)) two (λ y z has there. across y z (suc has.0, omega (arith, has.1), has.2) there))
+
+  -- what was found alone is put behind others, of which none is such
+  pub finds_behind : (P : A → Type 0) (xs ms ys : List A) → HasNone P xs → Finds P [] ms → ys ≡ xs ++ ms → Finds P xs ys
+  finds_behind P xs ms ys none finds is = subst (Finds P xs) (sym is) (record {
+    each = λ a h. either a (Contains-append_cases xs ms a h);
+    kept = λ a h. Contains-append_left xs ms a h;
+    all = λ a p. Contains-append_right xs ms a (finds.all a p);
+    once = λ apart. pairs_append (λ a b. a ≢ b) xs ms apart (finds.once (λ i j d less below. absurd (omega arith)))
+        (λ a b has there same. All-contains (λ c. ¬ P c) xs a none has (subst P (sym same) (given b (finds.each b there))));
+  })
+    where
+      given : (a : A) → Contains [] a ⊎ P a → P a
+      given a (inl h) = let none = h.1 in absurd (omega arith)
+      given a (inr p) = p
+
+      either : (a : A) → Contains xs a ⊎ Contains ms a → Contains xs a ⊎ P a
+      either a (inl h) = inl h
+      either a (inr h) = inr (given a (finds.each a h))
 
   -- the same is found
   pub finds_as : (P Q : A → Type 0) (xs ys : List A) → ((a : A) → P a ↔ Q a) → Finds P xs ys → Finds Q xs ys

@@ -2,6 +2,7 @@ pub mod TextSearches
 pub mod AtKeys
 pub mod ExtenderKinds
 pub mod EntryWants
+pub mod DistinctEntries
 pub mod DistinctLists
 pub mod GoneKeys
 pub mod UntouchedPlaces
@@ -12,6 +13,5 @@ pub mod NonemptyNames
 pub mod Names
 pub mod Removals
 pub mod Requireds
-pub mod Slots
 pub mod Texts
 pub mod SatisfiedWants

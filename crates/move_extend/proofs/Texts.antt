@@ -19,8 +19,9 @@ use Rattle.yang_model.specs.declared.shapes.KeyLeaf.{KeyLeaf}
 use Rattle.yang_model.specs.declared.shapes.Shape.{Shape}
 use Rattle.yang_types.specs.DataType.{DataType}
 use Rattle.yang_types.specs.DataTypes.{data_type}
-use Rattle.move_extend.specs.Mentions.{BreaksOnly, GivesOfEntry, HasFieldText, HasText, Mentions, texts_of_value}
+use Rattle.move_extend.specs.Mentions.{BreaksOnly, GivesOfEntry, HasFieldText, HasText, MayMention, texts_of_value}
 use Rattle.move_extend.specs.declared.changes.Change.{Change}
+use Rattle.move_extend.specs.declared.mentions.Gone.{Gone}
 use Rattle.move_core.specs.declared.moves.Move.{Move}
 use Rattle.move_extend.proofs.DistinctLists.{item_at}
 use Rattle.move_extend.proofs.NonemptyNames.{part_at}
@@ -141,10 +142,10 @@ shaped_entry c t u k x gives =
     subst (λ (p : List ℕ × Table). IsShapeOf c.models.now p.0 row.key shape) (sym tables) given.wanted.shaped in
     (shape, subst (λ (p : List ℕ × Entry). IsShapeOf c.models.now u p.0 shape) entries of_table)
 
--- an entry of which a broken want is has one of the texts
-pub mentioned : (c : Change) (t u k : List ℕ) (fields : Entry) (parts : List (List ℕ)) (x : Move) → IsConfig c.cur.now → entry_at c.cur.now u k ≡ Some fields → BreaksOnly c t parts
-    → GivesOfEntry c t u k x → Mentions parts k fields
-mentioned c t u k fields parts x well there only gives =
+-- an entry of which a broken want is has a text that the keys that are lost may have
+pub mentioned : (c : Change) (gone : Gone) (u k : List ℕ) (fields : Entry) (x : Move) → IsConfig c.cur.now → entry_at c.cur.now u k ≡ Some fields → BreaksOnly c gone
+    → GivesOfEntry c gone.table.now u k x → MayMention gone k fields
+mentioned c gone u k fields x well there only gives =
     let given = gives.given in
     let at = gives.at in
     let row : Row = given.wanted.row in
@@ -158,6 +159,6 @@ mentioned c t u k fields parts x well there only gives =
     let has : HasText row.key row.fields given.want.text = wanted_text c.models.now c.cur.now given.want given.wanted.shape row given.at.field given.at.item given.wanted.wanted in
     record {
       text = given.want.text;
-      part = only given.at given.want given.wanted given.broken;
+      may = only given.at given.want given.wanted given.broken;
       has = subst (λ fs. HasText k fs given.want.text) same (subst (λ (p : List ℕ × Entry). HasText p.0 p.1 given.want.text) entries has);
     }

@@ -1,5 +1,5 @@
 -- The texts of an entry, and whether one of them is a part of a key.
-use Rattle.std.specs.Prelude.{◌≡◌, ◌⊎◌, ℕ, List, [], ◌∷◌, Some, map, slice_get, Contains}
+use Rattle.std.specs.Prelude.{◌≡◌, ◌⊎◌, ℕ, List, [], ◌∷◌, Some, map, slice_get, Contains, IsTrue}
 use Rattle.conf_check.specs.Wants.{Want, IsWantAt, want_of}
 use Rattle.conf_check.specs.Rows.{IsEntryAt}
 use Rattle.conf_check.specs.declared.want_iter.WantAt.{WantAt}
@@ -45,11 +45,27 @@ pub record Mentions (parts : List (List ℕ)) (key : List ℕ) (fields : Entry) 
 abbrev pub texts_of : Gone → List (List ℕ)
 texts_of gone = map (λ p. p.now) gone.parts.now
 
+-- a key that the table loses may have the text as a part
+abbrev pub MayHave : Gone → List ℕ → Type 0
+MayHave gone s = IsTrue gone.is_whole ⊎ Contains (texts_of gone) s
+
+-- an entry has such a text
+pub record MayMention (gone : Gone) (key : List ℕ) (fields : Entry) : Type 0 where
+  pub text : List ℕ
+  pub may : MayHave gone text
+  pub has : HasText key fields text
+
 -- what is wanted of a table, and broken, is one of the texts
-abbrev pub BreaksOnly : Change → List ℕ → List (List ℕ) → Type 0
-BreaksOnly c t parts =
+abbrev pub BreaksPartsOnly : Change → List ℕ → List (List ℕ) → Type 0
+BreaksPartsOnly c t parts =
     (at : WantPlace) (w : Want) → IsWantAt c.models.now c.cur.now at w
     → IsBroken c.models.now c.next.now t w → Contains parts w.text
+
+-- what is wanted of a table that loses keys, and broken, is such a text
+abbrev pub BreaksOnly : Change → Gone → Type 0
+BreaksOnly c gone =
+    (at : WantPlace) (w : Want) → IsWantAt c.models.now c.cur.now at w
+    → IsBroken c.models.now c.next.now gone.table.now w → MayHave gone w.text
 
 -- it is the removal of what has that want, which is broken
 abbrev pub IsRemovalOf : Change → List ℕ → WantAt → Move → Type 0

@@ -1,8 +1,8 @@
 -- What is left without what it refers to.
-use Rattle.std.specs.Prelude.{◌≡◌, ◌⊎◌, ℕ, List, ◌∷◌, Some, option_map}
+use Rattle.std.specs.Prelude.{◌≡◌, ℕ, List, ◌∷◌, Some, option_map}
 use Rattle.std.specs.Option.{option_to_list}
 use Rattle.conf_check.specs.Acceptance.{IsSatisfied}
-use Rattle.conf_check.specs.Wants.{Want, IsWantAt, want_of}
+use Rattle.conf_check.specs.Wants.{Want, IsWantAt}
 use Rattle.conf_check.specs.declared.want_iter.WantAt.{WantAt}
 use Rattle.conf_check.specs.declared.want_iter.WantPlace.{WantPlace}
 use Rattle.conf_doc.specs.declared.configuration.Config.{Config}
@@ -11,7 +11,6 @@ use Rattle.move_core.specs.Contexts.{item_at, names_of}
 use Rattle.move_core.specs.Extensions.{removal}
 use Rattle.move_core.specs.Moves.{Place}
 use Rattle.move_core.specs.declared.moves.Move.{Move}
-use Rattle.move_extend.specs.Found.{AddsUnlessLast}
 
 -- a key of the table is wanted that isn't there
 abbrev pub IsBroken : ModelSet → Config → List ℕ → Want → Type 0
@@ -29,13 +28,6 @@ removal_at c p i = removal p (item_at c p i)
 -- that of what has a want that is handed out
 abbrev pub removal_of : Config → WantAt → Move
 removal_of c at = removal_at c (place_of at) at.item
-
--- the removal of what has such a want is put at the end, unless it is the last
-abbrev pub AddsRemoval :
-    ModelSet → Config → Config → List ℕ → WantAt → List Move → List Move → Type 0
-AddsRemoval models cur next t at old new =
-    (IsBroken models next t (want_of at.want) × AddsUnlessLast (removal_of cur at) old new)
-    ⊎ ((¬ IsBroken models next t (want_of at.want)) × (new ≡ old))
 
 -- what has some such want is removed
 pub record GivesRemovals (models : ModelSet) (cur next : Config) (t : List ℕ) (x : Move)

@@ -2,7 +2,7 @@
 ghost use Rattle.std.specs.Prelude.{◌≡◌, ◌↔◌, ◌++◌, IsTrue, OnErr, OnOk};
 ghost use Rattle.std.specs.List.{Contains};
 ghost use Rattle.std.specs.Option.{option_to_list};
-ghost use Rattle.move_extend.specs.Found.{AddsUnlessLast, Finds, IsLast};
+ghost use Rattle.move_extend.specs.Found.{Finds};
 
 use host_core::Memory;
 use move_core::{Move, Moves};
@@ -19,26 +19,6 @@ pub(crate) fn add_move(found: &mut Moves, mv: Move) -> Result<(), Memory>
     ensures { OnOk result (Finds (λ x. x ≡ mv) found.old found.new) }
 {
     if has_move(found.items(), &mv) {
-        return Ok(());
-    }
-    found.push(mv)
-}
-
-/// Whether the move is the last of them.
-fn is_last(moves: &[Move], mv: &Move) -> bool
-    ensures { IsTrue result ↔ IsLast moves.now mv.now }
-{
-    match moves.last() {
-        Some(last) => last.same(mv),
-        None => false,
-    }
-}
-
-/// Adds a move to those found, unless it is the last of them.
-pub(crate) fn add_unless_last(found: &mut Moves, mv: Move) -> Result<(), Memory>
-    ensures { OnOk result (AddsUnlessLast mv found.old found.new) }
-{
-    if is_last(found.items(), &mv) {
         return Ok(());
     }
     found.push(mv)

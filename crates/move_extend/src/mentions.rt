@@ -4,16 +4,17 @@ ghost use Rattle.std.specs.List.{Contains, list_any};
 ghost use Rattle.std.specs.Str.{bytes_eq};
 ghost use Rattle.key_split.specs.Key.{key_parts};
 ghost use Rattle.move_extend.specs.KeyLengths.{HasFewParts, is_at_an_end};
-ghost use Rattle.move_extend.specs.Mentions.{Mentions, texts_of_value};
+ghost use Rattle.move_extend.specs.Mentions.{MayHave, MayMention, Mentions, texts_of_value};
 
 use conf_doc::{Entry, Value};
 use host_core::{Memory, Names};
 use std::alloc::Global;
 
-/// A table, and the texts of which one is a part of each key that it loses.
+/// A table that loses keys: any of them, or only such as have one of some texts as a part.
 #[derive(Clone, Copy, Drop)]
 pub(crate) struct Gone<'a> {
     pub(crate) table: &'a str,
+    pub(crate) is_whole: bool,
     pub(crate) parts: &'a [&'a str],
 }
 
@@ -26,10 +27,20 @@ pub(crate) fn parts_of<'a>(alloc: Global, key: &'a str) -> Result<Vec<&'a str>, 
 }
 
 /// Whether a text is among some texts.
-pub(crate) fn is_among(texts: &[&str], text: &str) -> bool
+fn is_among(texts: &[&str], text: &str) -> bool
     ensures { result ≡ list_any (λ t. bytes_eq t.now text.now) texts.now }
 {
     texts.iter().any(|t| *t == text)
+}
+
+/// Whether a text may be a part of a key that a table loses.
+pub(crate) fn may_have(gone: &Gone<'_>, text: &str) -> bool
+    ensures { MayHave gone.now text.now → IsTrue result }
+{
+    if gone.is_whole {
+        return true;
+    }
+    is_among(gone.parts, text)
 }
 
 /// Whether a part of the key is among some texts.
@@ -100,7 +111,7 @@ fn has_item(texts: &[&str], items: &Names) -> bool
 
 /// Whether an entry has one of some texts: as a part of its key, as a field or as an item of one. Of a key that has at
 /// most two parts, where it belongs to a shape, only the ends are looked at.
-pub(crate) fn mentions_one(texts: &[&str], is_short: bool, key: &str, fields: &Entry) -> bool
+fn mentions_one(texts: &[&str], is_short: bool, key: &str, fields: &Entry) -> bool
     ensures { (IsTrue is_short → HasFewParts key.now)
         → Mentions (map (λ t. t.now) texts.now) key.now fields.now → IsTrue result }
 {
@@ -113,4 +124,15 @@ pub(crate) fn mentions_one(texts: &[&str], is_short: bool, key: &str, fields: &E
         }
     }
     false
+}
+
+/// Whether an entry may have a text that is a part of a key that a table loses.
+pub(crate) fn may_mention(gone: &Gone<'_>, is_short: bool, key: &str, fields: &Entry) -> bool
+    ensures { (IsTrue is_short → HasFewParts key.now)
+        → MayMention gone.now key.now fields.now → IsTrue result }
+{
+    if gone.is_whole {
+        return true;
+    }
+    mentions_one(gone.parts, is_short, key, fields)
 }

@@ -1,6 +1,5 @@
 //! The extender of referrers.
-ghost use Rattle.std.specs.Prelude.{◌≡◌, ◌↔◌, [], map, Some, IfOk, IsSome, IsTrue, OnOk};
-ghost use Rattle.std.specs.List.{Contains};
+ghost use Rattle.std.specs.Prelude.{◌≡◌, ◌↔◌, [], Some, IfOk, IsSome, IsTrue, OnOk};
 ghost use Rattle.conf_check.specs.Wants.{want_of};
 ghost use Rattle.conf_doc.specs.Changes.{entry_at};
 ghost use Rattle.conf_doc.specs.Pairs.{find};
@@ -10,18 +9,18 @@ ghost use Rattle.move_core.specs.Contexts.{rulebook};
 ghost use Rattle.move_core.specs.Extensions.{IsReferrer};
 ghost use Rattle.move_core.specs.Moves.{IsDefined, list_at};
 ghost use Rattle.key_split.specs.Key.{key_parts};
-ghost use Rattle.move_extend.specs.Found.{Finds};
+ghost use Rattle.move_extend.specs.Found.{Finds, HasNone};
 ghost use Rattle.move_extend.specs.KeyLengths.{AreKeysShort};
-ghost use Rattle.move_extend.specs.Mentions.{BreaksOnly, GivesOfChange, GivesOfEntry, GivesOfTable, IsRemovalOf, texts_of};
-ghost use Rattle.move_extend.specs.Referrers.{AddsRemoval, GivesRemovals, IsBroken, place_of, removal_of};
+ghost use Rattle.move_extend.specs.Mentions.{BreaksOnly, BreaksPartsOnly, GivesOfChange, GivesOfEntry, GivesOfTable, IsRemovalOf, MayHave};
+ghost use Rattle.move_extend.specs.Referrers.{IsBroken, place_of, removal_of};
 
 use crate::changes::Change;
-use crate::found::{add_move, add_unless_last, append_moves};
+use crate::found::{add_move, append_moves};
 use crate::kept_keys::{keeps_always, keeps_keys};
 use crate::key_lengths::has_short_keys;
-use crate::mentions::{Gone, is_among, mentions_one, parts_of};
+use crate::mentions::{Gone, may_have, may_mention, parts_of};
 use crate::referring::{is_referred, table_refers};
-use conf_check::{Want, WantAt, entry_wants, is_satisfied, wants};
+use conf_check::{Want, WantAt, entry_wants, is_satisfied};
 use conf_doc::{Config, Entry, Path, Table, Value};
 use host_core::Memory;
 use move_core::{Ctx, Move, MoveExt, Moves, step};
@@ -29,7 +28,7 @@ use std::alloc::Global;
 use yang_model::Models;
 
 /// Each place is removed that has a want which the move leaves unsatisfied. The wants of a configuration are
-/// looked at only where the move takes a key away, and of them those that want a key of its table.
+/// looked at only where the move takes a key away, and only in tables that may refer to its table.
 #[derive(Drop)]
 pub struct ReferrersExt {}
 
@@ -107,58 +106,16 @@ fn is_broken(models: &Models, next: &Config, table: &str, want: &Want) -> bool
     want.table == table && !is_satisfied(models, next, want)
 }
 
-/// Adds the removal of what has such a want. The wants of one key stand together, so only the last removal may
-/// be the same.
-fn add_removal(
-    alloc: Global,
-    models: &Models,
-    cur: &Config,
-    next: &Config,
-    table: &str,
-    at: &WantAt,
-    found: &mut Moves,
-) -> Result<(), Memory>
-    requires { IsPath (place_of at.now) }
-    ensures { let Adds = AddsRemoval models.now cur.now next.now table.now at.now in
-        OnOk result (Adds found.old found.new) }
-{
-    if is_broken(models, next, table, &at.want) {
-        let removal = removal_of(alloc, cur, at)?;
-        add_unless_last(found, removal)
-    } else {
-        Ok(())
-    }
-}
-
-/// The removals of the places of all such wants.
-fn broken_wants(
-    alloc: Global,
-    models: &Models,
-    cur: &Config,
-    next: &Config,
-    table: &str,
-) -> Result<Moves, Memory>
-    ensures { let Gives = GivesRemovals models.now cur.now next.now table.now in
-        IfOk result (Appends Gives []) }
-{
-    let _tables = cur.len();
-    let mut found = Moves::new(alloc);
-    for at in wants(models, cur) {
-        add_removal(alloc, models, cur, next, table, &at, &mut found)?;
-    }
-    Ok(found)
-}
-
-/// The same of a key that a move takes away, where such a want has one of the texts that are given with it. By its
-/// text most wants are told at once.
+/// The same of a table that loses keys, where such a want has a text that they may have. By its text most wants
+/// are told at once.
 fn is_lost(change: &Change<'_>, gone: &Gone<'_>, want: &Want) -> bool
     requires { let c = change.now in
         IsBroken c.models.now c.next.now gone.now.table.now (want_of want.now)
-        → Contains (texts_of gone.now) want.now.text.now }
+        → MayHave gone.now want.now.text.now }
     ensures { let c = change.now in IsTrue result
         ↔ IsBroken c.models.now c.next.now gone.now.table.now (want_of want.now) }
 {
-    if !is_among(gone.parts, want.text) {
+    if !may_have(gone, want.text) {
         return false;
     }
     is_broken(change.models, change.next, gone.table, want)
@@ -175,7 +132,7 @@ fn find_removal(
     requires path { IsPath (place_of at.now) }
     requires only { let c = change.now in
         IsBroken c.models.now c.next.now gone.now.table.now (want_of at.now.want)
-        → Contains (texts_of gone.now) at.now.want.text.now }
+        → MayHave gone.now at.now.want.text.now }
     ensures { OnOk result
         (Finds (IsRemovalOf change.now gone.now.table.now at.now) found.old found.new) }
 {
@@ -187,24 +144,43 @@ fn find_removal(
     }
 }
 
-/// Adds the removals of the places of such wants of an entry.
+/// The removals of the places of such wants of an entry.
+fn removals_in_entry(
+    alloc: Global,
+    change: &Change<'_>,
+    gone: &Gone<'_>,
+    table: &str,
+    key: &str,
+) -> Result<Moves, Memory>
+    requires { BreaksOnly change.now gone.now }
+    ensures { let Gives = GivesOfEntry change.now gone.now.table.now table.now key.now in
+        IfOk result (Finds Gives []) }
+{
+    let _tables = change.cur.len();
+    let mut found = Moves::new(alloc);
+    for at in entry_wants(change.models, change.cur, table, key) {
+        find_removal(alloc, change, gone, &at, &mut found)?;
+    }
+    Ok(found)
+}
+
+/// Adds them, where none of them is there.
 fn find_in_entry(
     alloc: Global,
     change: &Change<'_>,
     gone: &Gone<'_>,
     table: &str,
     key: &str,
-    found: &mut Moves,
+    found: &mut Vec<Move>,
 ) -> Result<(), Memory>
-    requires { BreaksOnly change.now gone.now.table.now (texts_of gone.now) }
+    requires only { BreaksOnly change.now gone.now }
+    requires fresh { let Gives = GivesOfEntry change.now gone.now.table.now table.now key.now in
+        HasNone Gives found.old.items }
     ensures { let Gives = GivesOfEntry change.now gone.now.table.now table.now key.now in
-        OnOk result (Finds Gives found.old found.new) }
+        OnOk result (Finds Gives found.old.items found.new.items) }
 {
-    let _tables = change.cur.len();
-    for at in entry_wants(change.models, change.cur, table, key) {
-        find_removal(alloc, change, gone, &at, found)?;
-    }
-    Ok(())
+    let removals = removals_in_entry(alloc, change, gone, table, key)?;
+    append_moves(found, removals)
 }
 
 /// The same, where the entry has one of the texts that alone can be wanted in vain.
@@ -216,16 +192,18 @@ fn find_in_mentioning(
     is_short: bool,
     key: &str,
     fields: &Entry,
-    found: &mut Moves,
+    found: &mut Vec<Move>,
 ) -> Result<(), Memory>
     requires entry { entry_at change.now.cur.now table.now key.now ≡ Some fields.now }
-    requires only { BreaksOnly change.now gone.now.table.now (texts_of gone.now) }
+    requires only { BreaksOnly change.now gone.now }
     requires short { IsTrue is_short → AreKeysShort change.now.models.now table.now }
+    requires fresh { let Gives = GivesOfEntry change.now gone.now.table.now table.now key.now in
+        HasNone Gives found.old.items }
     ensures { let Gives = GivesOfEntry change.now gone.now.table.now table.now key.now in
-        OnOk result (Finds Gives found.old found.new) }
+        OnOk result (Finds Gives found.old.items found.new.items) }
 {
     let _tables = change.cur.len();
-    if mentions_one(gone.parts, is_short, key, fields) {
+    if may_mention(gone, is_short, key, fields) {
         find_in_entry(alloc, change, gone, table, key, found)
     } else {
         Ok(())
@@ -239,12 +217,14 @@ fn find_in_table(
     gone: &Gone<'_>,
     table: &str,
     entries: &Table,
-    found: &mut Moves,
+    found: &mut Vec<Move>,
 ) -> Result<(), Memory>
     requires table { find table.now change.now.cur.now ≡ Some entries.now }
-    requires only { BreaksOnly change.now gone.now.table.now (texts_of gone.now) }
+    requires only { BreaksOnly change.now gone.now }
+    requires fresh { let t = gone.now.table.now in
+        HasNone (GivesOfTable change.now t (table.now, entries.now)) found.old.items }
     ensures { let Gives = GivesOfTable change.now gone.now.table.now (table.now, entries.now) in
-        OnOk result (Finds Gives found.old found.new) }
+        OnOk result (Finds Gives found.old.items found.new.items) }
 {
     if !table_refers(change.models, table, gone.table) {
         return Ok(());
@@ -261,11 +241,11 @@ fn find_in_table(
 /// The removals of the places of all wants of a configuration that are broken, where the texts are known
 /// that these can have.
 fn find_in_config(alloc: Global, change: &Change<'_>, gone: &Gone<'_>) -> Result<Moves, Memory>
-    requires { BreaksOnly change.now gone.now.table.now (texts_of gone.now) }
+    requires { BreaksOnly change.now gone.now }
     ensures { IfOk result (Appends (GivesOfChange change.now gone.now.table.now) []) }
 {
     let cur = change.cur;
-    let mut found = Moves::new(alloc);
+    let mut found = Vec::new(alloc);
     for i in 0..cur.len() {
         find_in_table(
             alloc,
@@ -276,7 +256,7 @@ fn find_in_config(alloc: Global, change: &Change<'_>, gone: &Gone<'_>) -> Result
             &mut found,
         )?;
     }
-    Ok(found)
+    Ok(Moves::from_vec(found))
 }
 
 /// The removals of the referrers to a key that a move takes away. Only entries are looked at that have a
@@ -287,13 +267,27 @@ fn removals_of_key(
     table: &str,
     key: &str,
 ) -> Result<Moves, Memory>
-    requires { BreaksOnly change.now table.now (key_parts key.now) }
+    requires { BreaksPartsOnly change.now table.now (key_parts key.now) }
     ensures { IfOk result (Appends (GivesOfChange change.now table.now) []) }
 {
     let parts = parts_of(alloc, key)?;
     let gone = Gone {
         table,
+        is_whole: false,
         parts: &parts,
+    };
+    find_in_config(alloc, change, &gone)
+}
+
+/// The removals of the referrers to keys of a table, of which a move takes some or all away. Entries of tables are
+/// looked at that may refer to it.
+fn removals_of_keys(alloc: Global, change: &Change<'_>, table: &str) -> Result<Moves, Memory>
+    ensures { IfOk result (Appends (GivesOfChange change.now table.now) []) }
+{
+    let gone = Gone {
+        table,
+        is_whole: true,
+        parts: &[],
     };
     find_in_config(alloc, change, &gone)
 }
@@ -316,15 +310,15 @@ fn removals_of(alloc: Global, ctx: &Ctx, cur: &Config, mv: &Move) -> Result<Move
     if keeps_keys(cur, &next, mv) {
         return Ok(Moves::new(alloc));
     }
+    let change = Change {
+        models,
+        cur,
+        next: &next,
+    };
     let place = mv.place();
     if place.len() > 1 {
-        let change = Change {
-            models,
-            cur,
-            next: &next,
-        };
         removals_of_key(alloc, &change, table, place.name_at(1))
     } else {
-        broken_wants(alloc, models, cur, &next, table)
+        removals_of_keys(alloc, &change, table)
     }
 }

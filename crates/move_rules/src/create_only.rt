@@ -44,13 +44,14 @@ impl MoveRule for CreateOnlyRule {
     }
 }
 
-/// Whether a field of an entry that is in both is absent in both or equal in both.
+/// Whether a field of an entry that is in both is absent in both or equal in both. Most moves leave it as it was, so
+/// that is looked at first.
 fn keeps_field(cur: &Config, next: &Config, table: &str, key: &str, field: &str) -> bool
     ensures { IsTrue result ↔ KeepsField cur.now next.now table.now key.now field.now }
 {
-    !cur.has_entry(table, key)
+    cur.agrees_at_field(next, table, key, field)
+        || !cur.has_entry(table, key)
         || !next.has_entry(table, key)
-        || cur.agrees_at_field(next, table, key, field)
 }
 
 /// Whether the field of a rule is so, where the rule is for the table.

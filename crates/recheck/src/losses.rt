@@ -13,18 +13,66 @@ use move_core::Move;
 use ref_index::{Place, RefIndex};
 use yang_model::Models;
 
-/// The first of some places whose entry another configuration has.
-fn first_there<'a>(places: &'a [Place], next: &Config) -> Option<&'a Place>
+/// Whether another configuration has the entry of a place.
+fn is_there(place: &Place, next: &Config) -> bool
+    ensures { IsTrue result
+        → IsTrue (is_some (entry_of place.now.table place.now.key next.now)) }
+{
+    let table = place.table.as_str();
+    let key = place.key.as_str();
+    has_entry(next, table, key)
+}
+
+/// Whether a place is in a key, of an entry that another configuration has.
+fn is_key_there(place: &Place, next: &Config) -> bool
+    ensures { IsTrue result
+        → IsTrue (is_some (entry_of place.now.table place.now.key next.now)) }
+{
+    if place.field.is_some() {
+        return false;
+    }
+    is_there(place, next)
+}
+
+/// The first of some places in a key whose entry another configuration has.
+fn first_key_there<'a>(places: &'a [Place], next: &Config) -> Option<&'a Place>
     ensures one { IfSome result (λ p. Contains places.now p.now) }
     ensures there { IfSome result
         (λ p. IsTrue (is_some (entry_of p.now.table p.now.key next.now))) }
 {
     for place in places {
-        if has_entry(next, place.table.as_str(), place.key.as_str()) {
+        if is_key_there(place, next) {
             return Some(place);
         }
     }
     None
+}
+
+/// The first of some places, in a key or a field, whose entry another configuration has.
+fn first_of_all<'a>(places: &'a [Place], next: &Config) -> Option<&'a Place>
+    ensures one { IfSome result (λ p. Contains places.now p.now) }
+    ensures there { IfSome result
+        (λ p. IsTrue (is_some (entry_of p.now.table p.now.key next.now))) }
+{
+    for place in places {
+        if is_there(place, next) {
+            return Some(place);
+        }
+    }
+    None
+}
+
+/// The first of some places whose entry another configuration has: one in a key where there is one. A key is judged
+/// before the fields, of which one may be a long list.
+fn first_there<'a>(places: &'a [Place], next: &Config) -> Option<&'a Place>
+    ensures one { IfSome result (λ p. Contains places.now p.now) }
+    ensures there { IfSome result
+        (λ p. IsTrue (is_some (entry_of p.now.table p.now.key next.now))) }
+{
+    match first_key_there(places, next) {
+        Some(place) => Some(place),
+        None => first_of_all(places, next),
+    }
 }
 
 /// An entry that wants a part of a key of a shape.

@@ -5,4 +5,4 @@ use Rattle.move_extend.proofs.DistinctLists.{GivenBefore}
 use Rattle.move_extend.proofs.referrers.find_in_config.Given as goal
 
 abbrev pub invariant-loop-i : goal.invariant-loop-i
-invariant-loop-i l = Finds (GivenBefore (GivesOfTable l.change l.gone.table.now) l.change.cur.now l.i) [] l.found
+invariant-loop-i l = Finds (GivenBefore (GivesOfTable l.change l.gone.table.now) l.change.cur.now l.i) [] l.found.items

@@ -58,7 +58,7 @@ returns c =
     let next = c.in_ok-next.next in
     let Gives = GivesRemovals c.args.ctx.now.models c.args.cur.now next t in
     let Is = IsReferrer (rulebook c.args.ctx.now) c.args.cur.now c.args.mv.now in
-    IfOk-weaker c.broken_wants.result (Appends Gives []) (Appends Is [])
+    IfOk-weaker c.removals_of_keys.result (Appends Gives []) (Appends Is [])
     (λ found gives. appends_as Gives Is [] found
     (λ x. referrers c.args.ctx.now c.args.cur.now next c.args.mv.now x t c.in_ok-next.ensures.step c.table-table.ensures) gives)
-    c.broken_wants.ensures
+    c.removals_of_keys.ensures

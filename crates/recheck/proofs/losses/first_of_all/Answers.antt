@@ -1,0 +1,8 @@
+use Rattle.std.proofs.Common.{sym}
+use Rattle.recheck.proofs.losses.first_of_all.Goals as goal
+
+pub returns-then-is_there-clause-one : goal.returns-then-is_there-clause-one
+returns-then-is_there-clause-one c = (c.loop-place.place-index, c.loop-place-test.true, sym c.place-item.is)
+
+pub returns-then-is_there-clause-there : goal.returns-then-is_there-clause-there
+returns-then-is_there-clause-there c = c.is_there.ensures c.if-is_there.true
