@@ -1,18 +1,19 @@
 -- What follows a move, by the cases that are decided.
-use Rattle.std.proofs.Common.{◌≡◌, ◌≢◌, ◌↔◌, ◌⊎◌, IsTrue, Bool, true, false, not, true≢false, ℕ, Option, Some, None, IsSome, IsSomeAnd, inl, inr, refl, sym, ap, ◌∙◌, subst}
+use Rattle.std.proofs.Common.{◌≡◌, ◌≢◌, ◌↔◌, ◌⊎◌, IsTrue, Bool, true, false, not, true≢false, ℕ, ◌<◌, List, [], ◌∷◌, length, Option, Some, None, is_some, IsSome, IsSomeAnd, if◌then◌else◌, inl, inr, refl, sym, ap, ◌∙◌, subst, arith}
 use Rattle.std.specs.Option.{option_map_or}
 use Rattle.conf_check.specs.Acceptance.{IsSatisfied}
 use Rattle.conf_doc.specs.Changes.{part_at, HasPlace}
 use Rattle.conf_doc.specs.declared.configuration.Config.{Config}
 use Rattle.conf_doc.specs.declared.parts.Part.{Part}
 use Rattle.move_core.specs.Contexts.{rulebook}
-use Rattle.move_core.specs.Extensions.{IsDelete, IsExtension, IsReferrer, IsRequired, IsUpper, as_in_goal, upper_place}
-use Rattle.move_core.specs.Moves.{Place, place, step}
+use Rattle.move_core.specs.Extensions.{IsDelete, IsExtension, IsReferrer, IsRequired, IsUpper, as_in_goal, removal, required_part, rule_field, upper_place}
+use Rattle.move_core.specs.Moves.{Place, index, place, step}
 use Rattle.move_core.specs.declared.moves.Move.{Move}
-use Rattle.move_core.specs.declared.moves.Move.TheVariants.{Remove, Replace}
+use Rattle.move_core.specs.declared.moves.Move.TheVariants.{Add, Remove, Replace}
 use Rattle.plan_check.specs.Beginnings.{Precedes}
 use Rattle.plan_check.specs.Broken.{IsReferrerAt}
 use Rattle.plan_check.specs.declared.here.Here.{Here}
+use Rattle.plan_check.proofs.WantWalks.{long_names}
 
 -- ---- the place above
 
@@ -78,6 +79,20 @@ other_as goal p m no_replace no_remove e = by (part_at goal p) e
     by None is = no_remove is
     by (Some x) is = no_replace x is
 
+-- ---- places
+
+pub removal_place : (p : Place) (item : Option ℕ) → place (removal p item) ≡ p
+removal_place p None = refl
+removal_place p (Some i) = refl
+
+pub removal_index : (p : Place) (item : Option ℕ) → index (removal p item) ≡ item
+removal_index p None = refl
+removal_index p (Some i) = refl
+
+pub put_place : (p : Place) (v : Part) (b : Bool) → place (if b then Replace p v else Add p v) ≡ p
+put_place p v true = refl
+put_place p v false = refl
+
 -- ---- the four cases
 
 -- one of them
@@ -85,6 +100,9 @@ abbrev pub IsSomeFollowing : Here → Config → Move → Move → Type 0
 IsSomeFollowing h next m x =
     (IsUpper h.goal.now m x ⊎ IsDelete m x)
     ⊎ (IsRequired (rulebook h.ctx.now) h.cur.now m x ⊎ IsReferrerAt h next x)
+
+too_long : (t k : List ℕ) (rest : Place) → length (t ∷ k ∷ rest) < 2 → ⊥
+too_long t k rest lt = omega arith
 
 module _ (h : Here) (m x : Move) where
   pub of_upper : IsUpper h.goal.now m x → Precedes h m x
@@ -130,3 +148,17 @@ module _ (h : Here) (m x : Move) where
 
     pub case_of : Precedes h m x → IsSomeFollowing h next m x
     case_of is = by_kind is.0 is.1
+
+  -- nothing refers from a table, and nothing is required of it
+  pub no_table : length (place x) < 2 → (next : Config)
+      → IsRequired (rulebook h.ctx.now) h.cur.now m x ⊎ IsReferrerAt h next x → ⊥
+  no_table short next (inl is) =
+      let r = is.rule in
+      let at : place x ≡ rule_field r is.key =
+      ap place is.move
+      ∙ put_place (rule_field r is.key) (required_part r) (is_some (part_at h.cur.now (rule_field r is.key))) in
+      too_long r.table is.key (r.field ∷ []) (subst (λ p. length p < 2) at short)
+  no_table short next (inr is) =
+      let names = long_names h.cur.now is.breaks.there.at is.at is.breaks.there.names in
+      let at : place x ≡ is.at = ap place is.move ∙ removal_place is.at is.item in
+      too_long names.0 names.1 names.2 (subst (λ p. length p < 2) (at ∙ names.3) short)

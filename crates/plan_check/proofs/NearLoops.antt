@@ -7,7 +7,7 @@ use Rattle.move_core.specs.declared.moves.Move.{Move}
 use Rattle.conf_doc.specs.declared.configuration.Config.{Config}
 use Rattle.conf_doc.specs.declared.parts.Part.{Part}
 use Rattle.plan_check.specs.Candidates.{IsFieldOf, IsInEntry, IsPlainAt, IsPut}
-use Rattle.plan_check.specs.Nearby.{IsIn, IsInKeys, IsInTable}
+use Rattle.plan_check.specs.Nearby.{IsIn, IsInTable}
 use Rattle.plan_check.specs.declared.here.Here.{Here}
 use Rattle.plan_check.specs.declared.preceding.Sought.{Sought}
 
@@ -27,18 +27,12 @@ module _ (h : Here) where
   field_at c t k m is = subst (λ p. IsIn p t (Some k)) (sym (plain_at (t ∷ k ∷ is.field ∷ []) m is.is)) (refl, refl)
 
   -- one in an entry is at that key
-  pub entry_at : (t k : List ℕ) (m : Move) → IsInEntry h t k m → IsIn (place m) t (Some k)
-  entry_at t k m (inl (inl is)) = subst (λ p. IsIn p t (Some k)) (sym (plain_at (t ∷ k ∷ []) m is)) (refl, refl)
-  entry_at t k m (inl (inr is)) = field_at h.cur.now t k m is
-  entry_at t k m (inr (inl is)) = field_at h.goal.now t k m is
-  entry_at t k m (inr (inr is)) = subst (λ p. IsIn p t (Some k)) (sym (put_at (t ∷ k ∷ is.item.field ∷ []) (required_part is.item) m is.is.1)) (refl, refl)
+  pub entry_at : (c : Config) (t k : List ℕ) (m : Move) → IsInEntry h c t k m → IsIn (place m) t (Some k)
+  entry_at c t k m (inl is) = field_at c t k m is
+  entry_at c t k m (inr (inl is)) = subst (λ p. IsIn p t (Some k)) (sym (plain_at (t ∷ k ∷ []) m is)) (refl, refl)
+  entry_at c t k m (inr (inr is)) = subst (λ p. IsIn p t (Some k)) (sym (put_at (t ∷ k ∷ is.item.field ∷ []) (required_part is.item) m is.is.1)) (refl, refl)
 
-module _ (s : Sought) where
-  keys_at : (t : List ℕ) (keys : List (List ℕ)) (m : Move) → IsInKeys s t keys m → table_of (place m) ≡ t
-  keys_at t keys m is = (entry_at s.here.now t is.item m is.is.0).0
-
-  -- one in a table is in it
-  pub table_at : (t : List ℕ) (m : Move) → IsInTable s t m → table_of (place m) ≡ t
-  table_at t m (inl is) = ap table_of (plain_at s.here.now (t ∷ []) m is)
-  table_at t m (inr (inl is)) = keys_at t _ m is
-  table_at t m (inr (inr is)) = keys_at t _ m is
+-- one in a table is in it
+pub table_at : (s : Sought) (c : Config) (t : List ℕ) (m : Move) → IsInTable s c t m → table_of (place m) ≡ t
+table_at s c t m (inl is) = (entry_at s.here.now c t is.item m is.is.0).0
+table_at s c t m (inr is) = ap table_of (plain_at s.here.now (t ∷ []) m is)

@@ -1,32 +1,30 @@
 -- Where what precedes a move may stand, and that it is reached there.
-use Rattle.std.proofs.Common.{◌≡◌, ◌≢◌, ◌⊎◌, ℕ, ◌<◌, List, [], ◌∷◌, length, map, slice_get, Contains, Option, Some, None, option_map, option_and_then, IsSome, if◌then◌else◌, inl, inr, refl, sym, ap, ◌∙◌, subst, arith, Bool, true, false, is_some}
+use Rattle.std.proofs.Common.{◌≡◌, ◌≢◌, ◌⊎◌, ℕ, ◌<◌, List, [], ◌∷◌, length, map, slice_get, Contains, Option, Some, None, option_map, option_and_then, IsSome, inl, inr, refl, sym, ap, ◌∙◌, subst, arith, is_some}
 use Rattle.std.specs.Option.{option_map_or}
-use Rattle.conf_check.specs.Acceptance.{IsSatisfied, keys_of}
+use Rattle.conf_check.specs.Acceptance.{IsSatisfied}
 use Rattle.conf_check.specs.Wants.{Want}
 use Rattle.conf_doc.specs.Changes.{entry_at, part_at, HasPlace}
 use Rattle.conf_doc.specs.Pairs.{find}
 use Rattle.conf_doc.specs.declared.configuration.Config.{Config}
 use Rattle.conf_doc.specs.declared.configuration.Entry.{Entry}
 use Rattle.conf_doc.specs.declared.configuration.Table.{Table}
-use Rattle.conf_doc.specs.declared.parts.Part.{Part}
 use Rattle.conf_doc.specs.declared.parts.Part.TheVariants as part
 use Rattle.key_split.specs.Key.{key_parts}
 use Rattle.move_core.specs.Contexts.{HasWant, rulebook}
-use Rattle.move_core.specs.Extensions.{IsDelete, IsExtension, IsReferrer, IsRequired, removal, required_part, rule_field, upper, upper_place}
-use Rattle.move_core.specs.Moves.{Place, place, step}
+use Rattle.move_core.specs.Extensions.{IsDelete, IsExtension, IsReferrer, IsRequired, required_part, rule_field, upper, upper_place}
+use Rattle.move_core.specs.Moves.{Place, index, place, step}
 use Rattle.move_core.specs.Services.{table_of}
 use Rattle.move_core.specs.declared.moves.Move.{Move}
 use Rattle.move_core.specs.declared.moves.Move.TheVariants.{Add, Remove, Replace, AddItem, RemoveItem}
 use Rattle.move_core.specs.declared.settings.Requiring.{Requiring}
 use Rattle.yang_model.specs.ModelSets.{ModelSet}
 use Rattle.plan_check.specs.Backwards.{Leads}
-use Rattle.plan_check.specs.Candidates.{IsFieldOf, IsInEntry, IsPlainAt}
-use Rattle.plan_check.specs.Nearby.{AreWanted, HasRequiring, HasWanted, IsIn, IsInKeys, IsInTable, IsInTables, IsNear, IsRequiringIn, IsWantedIn}
+use Rattle.plan_check.specs.Candidates.{GivesSome, IsInEntry, IsPlainAt}
+use Rattle.plan_check.specs.Nearby.{AreWanted, HasRequiring, HasWanted, IsIn, IsInTables, IsNear, IsRequiringIn, IsWantedIn}
 use Rattle.plan_check.specs.Keeping.{requiring_place}
 use Rattle.plan_check.specs.declared.preceding.Sought.{Sought}
 use Rattle.plan_check.proofs.AtKeys.{by_key, by_table, found_key, key_found, second_name}
-use Rattle.plan_check.proofs.Following.{upper_then}
-use Rattle.plan_check.proofs.ListedShapes.{PutsRequired}
+use Rattle.plan_check.proofs.Following.{put_place, removal_index, removal_place, upper_then}
 use Rattle.plan_check.proofs.RequiringPlaces.{changed_key, changed_table}
 use Rattle.plan_check.proofs.SatisfiedWants.{want_satisfied}
 
@@ -103,14 +101,6 @@ module _ (models : ModelSet) (cur : Config) (m : Move) (w : Want) (before : IsSa
 
 -- ---- what precedes the sought move
 
-removal_place : (p : Place) (item : Option ℕ) → place (removal p item) ≡ p
-removal_place p None = refl
-removal_place p (Some i) = refl
-
-put_place : (p : Place) (v : Part) (b : Bool) → place (if b then Replace p v else Add p v) ≡ p
-put_place p v true = refl
-put_place p v false = refl
-
 module _ (s : Sought) (wanted : AreWanted s) (m : Move) (t : List ℕ) (key : Option (List ℕ)) (within : IsIn (place m) t key) where
   abbrev Near : Type 0
   Near = IsNear (place s.mv.now) t key ⊎ (HasWanted s t key ⊎ HasRequiring s t key)
@@ -123,7 +113,11 @@ module _ (s : Sought) (wanted : AreWanted s) (m : Move) (t : List ℕ) (key : Op
       record {
         at = one.at;
         there = one.there;
-        is = subst (λ w. IsWantedIn w t key) (sym one.is.want) (broken_in s.here.now.ctx.now.models s.here.now.cur.now m is.want before is.broken t key within);
+        is = (
+          subst (λ w. IsWantedIn w t key) (sym one.is.want)
+              (broken_in s.here.now.ctx.now.models s.here.now.cur.now m is.want before is.broken t key within),
+          one.is.index ∙ sym (ap index is.move ∙ removal_index is.at is.item),
+        );
       }
 
   of_required : IsRequired (rulebook s.here.now.ctx.now) s.here.now.cur.now m s.mv.now → HasRequiring s t key
@@ -212,30 +206,21 @@ no_field c t k f at has =
     let here = subst IsSome (field_of k f (find t c) ∙ ap (option_and_then (λ entry. option_map part.Value (find f entry))) at) has in
     absurd cc
 
-module _ (s : Sought) (m : Move) (leads : Leads s.here.now m s.mv.now) where
-  -- in the tables of a configuration
-  module _ (c : Config) (fields : (t k : List ℕ) → IsFieldOf s.here.now c t k m → IsInEntry s.here.now t k m) (keys : (t : List ℕ) → IsInKeys s t (keys_of t c) m → IsInTable s t m) where
-    in_entry : (t k : List ℕ) → HasPlace c (t ∷ k ∷ []) → IsInEntry s.here.now t k m → IsInTables s (map (λ e. e.0) c) m
-    in_entry t k has is =
-        let e = entry_in k (find t c) has in
-        record { item = t; there = in_config c t e.0; is = (keys t (record { item = k; there = e.1; is = (is, leads) }), leads) }
+-- what leads to the sought move is in the tables of a configuration that has its place
+module _ (s : Sought) (m : Move) (leads : Leads s.here.now m s.mv.now) (c : Config) where
+  in_entry : (t k : List ℕ) → HasPlace c (t ∷ k ∷ []) → IsInEntry s.here.now c t k m → IsInTables s c (map (λ e. e.0) c) m
+  in_entry t k has is =
+      let e = entry_in k (find t c) has in
+      record { item = t; there = in_config c t e.0; is = (inl (record { item = k; there = e.1; is = (is, leads) }), leads) }
 
-    plain_in : (p : Place) → HasPlace c p → IsPlainAt s.here.now p m → IsInTables s (map (λ e. e.0) c) m
-    plain_in [] has is = absurd cc
-    plain_in (t ∷ []) has is = record { item = t; there = in_config c t (table_some (find t c) has); is = (inl is, leads) }
-    plain_in (t ∷ k ∷ []) has is = in_entry t k has (inl (inl is))
-    plain_in (t ∷ k ∷ f ∷ []) has is = in_entry t k (field_in k f (find t c) has) (fields t k (record { field = f; there = has; is = is }))
-    plain_in (t ∷ k ∷ f ∷ n ∷ ns) has is = absurd cc
+  pub plain_in : (p : Place) → HasPlace c p → IsPlainAt s.here.now p m → IsInTables s c (map (λ e. e.0) c) m
+  plain_in [] has is = absurd cc
+  plain_in (t ∷ []) has is = record { item = t; there = in_config c t (table_some (find t c) has); is = (inr is, leads) }
+  plain_in (t ∷ k ∷ []) has is = in_entry t k has (inr (inl is))
+  plain_in (t ∷ k ∷ f ∷ []) has is = in_entry t k (field_in k f (find t c) has) (inl (record { field = f; there = has; is = is }))
+  plain_in (t ∷ k ∷ f ∷ n ∷ ns) has is = absurd cc
 
-  -- what stands at a place of cur
-  pub in_cur : (p : Place) → HasPlace s.here.now.cur.now p → IsPlainAt s.here.now p m → IsInTables s (map (λ e. e.0) s.here.now.cur.now) m
-  in_cur = plain_in s.here.now.cur.now (λ t k is. inl (inr is)) (λ t is. inr (inl is))
-
-  -- of goal
-  pub in_goal : (p : Place) → HasPlace s.here.now.goal.now p → IsPlainAt s.here.now p m → IsInTables s (map (λ e. e.0) s.here.now.goal.now) m
-  in_goal = plain_in s.here.now.goal.now (λ t k is. inr (inl is)) (λ t is. inr (inr is))
-
-  -- of a rule's field
-  pub required_in : PutsRequired s.here.now m → IsInTables s (map (λ e. e.0) s.here.now.cur.now) m
-  required_in puts =
-      in_entry s.here.now.cur.now (λ t k is. inl (inr is)) (λ t is. inr (inl is)) puts.table puts.key puts.entry (inr (inr puts.gives))
+  -- so is a rule's field at a key that it has
+  pub required_in : (t k : List ℕ) → HasPlace c (t ∷ k ∷ []) → GivesSome t k s.here.now.ctx.now.settings.required m
+      → IsInTables s c (map (λ e. e.0) c) m
+  required_in t k has gives = in_entry t k has (inr (inr gives))

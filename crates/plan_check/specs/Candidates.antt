@@ -67,8 +67,8 @@ GivesRequired t k r m = (r.table ≡ t) × IsPut (t ∷ k ∷ r.field ∷ []) (r
 abbrev pub GivesSome : List ℕ → List ℕ → List Required → Move → Type 0
 GivesSome t k = IsOfOne (GivesRequired t k)
 
--- one of these at an entry, or at a field of it
-abbrev pub IsInEntry : Here → List ℕ → List ℕ → Move → Type 0
-IsInEntry h t k m =
-    (IsPlainAt h (t ∷ k ∷ []) m ⊎ IsFieldOf h h.cur.now t k m)
-    ⊎ (IsFieldOf h h.goal.now t k m ⊎ GivesSome t k h.ctx.now.settings.required m)
+-- one of these at an entry, at a field that the configuration has in it, or at a rule's field
+abbrev pub IsInEntry : Here → Config → List ℕ → List ℕ → Move → Type 0
+IsInEntry h c t k m =
+    IsFieldOf h c t k m
+    ⊎ (IsPlainAt h (t ∷ k ∷ []) m ⊎ GivesSome t k h.ctx.now.settings.required m)

@@ -3,9 +3,11 @@ use Rattle.std.specs.Prelude.{◌≡◌, ◌⊎◌, ◌<◌, ℕ, List, [], ◌�
 use Rattle.conf_check.specs.Acceptance.{keys_of}
 use Rattle.conf_check.specs.Wants.{Want, want_of}
 use Rattle.conf_check.specs.declared.want_iter.WantAt.{WantAt}
+use Rattle.conf_doc.specs.declared.configuration.Config.{Config}
 use Rattle.key_split.specs.Key.{key_parts}
+use Rattle.move_core.specs.Contexts.{item_at}
 use Rattle.move_core.specs.Extensions.{rule_field}
-use Rattle.move_core.specs.Moves.{Place, place}
+use Rattle.move_core.specs.Moves.{Place, index, place}
 use Rattle.move_core.specs.Services.{table_of}
 use Rattle.move_core.specs.declared.moves.Move.{Move}
 use Rattle.move_core.specs.declared.settings.Required.{Required}
@@ -44,11 +46,17 @@ pub record IsRequiredIn (r : Required) (p : Place) (t : List ℕ) (key : Option 
   pub there : Contains r.requiring requiring
   pub in_it : IsRequiringIn requiring named t key
 
--- a want at the sought move's place is for the table and the key
+-- a want of what the sought move names, its item or no item, is for the table and the key
+abbrev pub IsWantedFor : Sought → WantAt → List ℕ → Option (List ℕ) → Type 0
+IsWantedFor s a t key =
+    IsWantedIn (want_of a.want) t key
+    × (item_at s.here.now.cur.now (place s.mv.now) a.item ≡ index s.mv.now)
+
+-- some want at its place is so
 pub record HasWanted (s : Sought) (t : List ℕ) (key : Option (List ℕ)) : Type 0 where
   pub at : WantAt
   pub there : Contains s.wants.now at
-  pub is : IsWantedIn (want_of at.want) t key
+  pub is : IsWantedFor s at t key
 
 -- a rule requires the value of the sought move's place there
 pub record HasRequiring (s : Sought) (t : List ℕ) (key : Option (List ℕ)) : Type 0 where
@@ -61,25 +69,22 @@ abbrev pub AreWanted : Sought → Type 0
 AreWanted s =
     AreWantsAt s.here.now.ctx.now.models s.here.now.cur.now (place s.mv.now) s.wants.now
 
--- a move at the key, which leads to the sought one
-abbrev pub IsAtKey : Sought → List ℕ → List ℕ → Move → Type 0
-IsAtKey s t k m = IsInEntry s.here.now t k m × Leads s.here.now m s.mv.now
+-- a move at the key or at a field that the configuration has there, which leads to the sought one
+abbrev pub IsAtKey : Sought → Config → List ℕ → List ℕ → Move → Type 0
+IsAtKey s c t k m = IsInEntry s.here.now c t k m × Leads s.here.now m s.mv.now
 
 -- at one of those keys
-abbrev pub IsInKeys : Sought → List ℕ → List (List ℕ) → Move → Type 0
-IsInKeys s t = IsOfOne (IsAtKey s t)
+abbrev pub IsInKeys : Sought → Config → List ℕ → List (List ℕ) → Move → Type 0
+IsInKeys s c t = IsOfOne (IsAtKey s c t)
 
--- at the table itself, or at a key of it
-abbrev pub IsInTable : Sought → List ℕ → Move → Type 0
-IsInTable s t m =
-    IsPlainAt s.here.now (t ∷ []) m
-    ⊎ (IsInKeys s t (keys_of t s.here.now.cur.now) m
-    ⊎ IsInKeys s t (keys_of t s.here.now.goal.now) m)
+-- at a key of the table in the configuration, or at the table itself
+abbrev pub IsInTable : Sought → Config → List ℕ → Move → Type 0
+IsInTable s c t m = IsInKeys s c t (keys_of t c) m ⊎ IsPlainAt s.here.now (t ∷ []) m
 
 -- so, and it leads to the sought one
-abbrev pub IsAtTable : Sought → List ℕ → Move → Type 0
-IsAtTable s t m = IsInTable s t m × Leads s.here.now m s.mv.now
+abbrev pub IsAtTable : Sought → Config → List ℕ → Move → Type 0
+IsAtTable s c t m = IsInTable s c t m × Leads s.here.now m s.mv.now
 
 -- in one of those tables
-abbrev pub IsInTables : Sought → List (List ℕ) → Move → Type 0
-IsInTables s = IsOfOne (IsAtTable s)
+abbrev pub IsInTables : Sought → Config → List (List ℕ) → Move → Type 0
+IsInTables s c = IsOfOne (IsAtTable s c)

@@ -177,10 +177,11 @@ fn add_all_required(
     Ok(())
 }
 
-/// Puts those of an entry and of its fields.
+/// Puts those of an entry and of the fields that a configuration has in it.
 pub(crate) fn add_entry(
     alloc: Global,
     here: &Here,
+    config: &Config,
     table: &str,
     key: &str,
     found: &mut Vec<Move>,
@@ -188,12 +189,11 @@ pub(crate) fn add_entry(
     requires named { IsNamed here.now.ctx.now }
     requires table { 0 < length table.now }
     requires key { 0 < length key.now }
-    ensures { let Is = IsInEntry here.now table.now key.now in
+    ensures { let Is = IsInEntry here.now config.now table.now key.now in
         OnOk result (Takes Is found.old.items found.new.items) }
 {
+    add_fields_of(alloc, here, config, table, key, found)?;
     add_at(alloc, here, Path::new(alloc, &[table, key])?, found)?;
-    add_fields_of(alloc, here, here.cur, table, key, found)?;
-    add_fields_of(alloc, here, here.goal, table, key, found)?;
     let rules = here.ctx.settings.required.items();
     add_all_required(alloc, rules, table, key, found)
 }

@@ -1,19 +1,20 @@
 //! Whether a move follows another one.
 ghost use Rattle.std.specs.Prelude.{◌≡◌, ◌↔◌, Some, IfOk, IsTrue};
-ghost use Rattle.move_core.specs.Contexts.{IsResult, item_at};
 ghost use Rattle.move_core.specs.Extensions.{IsDelete, IsUpper, as_in_goal, upper, upper_place};
-ghost use Rattle.move_core.specs.Moves.{place};
+ghost use Rattle.move_core.specs.Moves.{IsDefined, place};
 ghost use Rattle.plan_check.specs.Beginnings.{Precedes};
 ghost use Rattle.plan_check.specs.Broken.{HasBroken, HasOneBroken, IsBrokenAt, IsReferrerAt};
+ghost use Rattle.plan_check.specs.Nearby.{AreWanted};
 
 use crate::here::Here;
-use crate::places::{has_part, has_place, is_entry_at, is_table_at, list_at};
+use crate::places::{has_part, has_place, is_entry_at, is_table_at, item_at};
+use crate::preceding::Sought;
 use crate::required::is_required;
-use crate::wants::{want_at, wants_at};
+use crate::wants::want_at;
 use conf_check::{WantAt, is_satisfied};
 use conf_doc::{Config, Path};
 use host_core::Memory;
-use move_core::Move;
+use move_core::{Move, step};
 use std::alloc::Global;
 
 /// Whether a place is one name longer than another.
@@ -55,10 +56,10 @@ fn is_as_in_goal(goal: &Config, mv: &Move) -> bool
 fn is_upper(goal: &Config, mv: &Move, more: &Move) -> bool
     ensures { IsTrue result ↔ IsUpper goal.now mv.now more.now }
 {
-    if !is_as_in_goal(goal, more) {
+    if !is_above(mv, more.place()) {
         return false;
     }
-    is_above(mv, more.place())
+    is_as_in_goal(goal, more)
 }
 
 /// Whether the second removes what the first replaces.
@@ -68,16 +69,6 @@ fn is_delete(mv: &Move, more: &Move) -> bool
     match (mv, more) {
         (Move::Replace(place, _), Move::Remove(other)) => place.same(other),
         _ => false,
-    }
-}
-
-/// The index of a text, where it is an item of a list that stands at the place.
-fn item_at(config: &Config, place: &Path, i: usize) -> Option<usize>
-    ensures { result ≡ item_at config.now place.now i }
-{
-    match list_at(config, place) {
-        Some(_) => Some(i),
-        None => None,
     }
 }
 
@@ -106,51 +97,50 @@ fn has_one_broken(
     false
 }
 
-/// Whether some want at a place is so.
-fn has_broken(
-    alloc: Global,
-    here: &Here,
-    next: &Config,
-    place: &Path,
-    item: Option<usize>,
-) -> Result<bool, Memory>
-    ensures { IfOk result (λ b. IsTrue b ↔ HasBroken here.now next.now place.now item) }
+/// Whether some want at the sought move's place is so.
+fn has_broken(sought: &Sought, next: &Config, item: Option<usize>) -> bool
+    requires { AreWanted sought.now }
+    ensures { let s = sought.now in
+        IsTrue result ↔ HasBroken s.here.now next.now (place s.mv.now) item }
 {
-    let wants = wants_at(alloc, &here.ctx.models, here.cur, place)?;
-    Ok(has_one_broken(here, next, place, item, &wants))
+    has_one_broken(sought.here, next, sought.mv.place(), item, sought.wants)
 }
 
-/// Whether what has such a want is removed.
-fn is_referrer(alloc: Global, here: &Here, next: &Config, more: &Move) -> Result<bool, Memory>
-    ensures { IfOk result (λ b. IsTrue b ↔ IsReferrerAt here.now next.now more.now) }
+/// Whether the sought move removes what has such a want.
+fn is_referrer(sought: &Sought, next: &Config) -> bool
+    requires { AreWanted sought.now }
+    ensures { let s = sought.now in
+        IsTrue result ↔ IsReferrerAt s.here.now next.now s.mv.now }
 {
-    match more {
-        Move::Remove(place) => has_broken(alloc, here, next, place, None),
-        Move::RemoveItem(place, i) => has_broken(alloc, here, next, place, Some(*i)),
-        _ => Ok(false),
+    match sought.mv {
+        Move::Remove(_) => has_broken(sought, next, None),
+        Move::RemoveItem(_, i) => has_broken(sought, next, Some(*i)),
+        _ => false,
     }
 }
 
-/// Whether the second move follows the first, which leads to next: it makes the place above as in goal, removes
-/// what is replaced or what refers to what goes, or gives a required value.
-pub(crate) fn follows(
-    alloc: Global,
-    here: &Here,
-    mv: &Move,
-    next: &Config,
-    more: &Move,
-) -> Result<bool, Memory>
-    requires { IsResult here.now.cur.now mv.now next.now }
-    ensures { IfOk result (λ b. IsTrue b ↔ Precedes here.now mv.now more.now) }
+/// Whether the sought move follows another one: it makes the place above as in goal, removes what is replaced or
+/// what refers to what goes, or gives a required value. Nothing refers from a table itself, or is required of it.
+pub(crate) fn follows(alloc: Global, sought: &Sought, mv: &Move) -> Result<bool, Memory>
+    requires defined { IsDefined sought.now.here.now.cur.now mv.now }
+    requires wants { AreWanted sought.now }
+    ensures { let s = sought.now in
+        IfOk result (λ b. IsTrue b ↔ Precedes s.here.now mv.now s.mv.now) }
 {
+    let here = sought.here;
+    let more = sought.mv;
     if is_upper(here.goal, mv, more) {
         return Ok(true);
     }
     if is_delete(mv, more) {
         return Ok(true);
     }
-    if is_required(here, mv, next, more) {
+    if more.place().len() < 2 {
+        return Ok(false);
+    }
+    let next = step(alloc, here.cur, mv)?;
+    if is_required(here, mv, &next, more) {
         return Ok(true);
     }
-    is_referrer(alloc, here, next, more)
+    Ok(is_referrer(sought, &next))
 }

@@ -1,19 +1,21 @@
 //! Whether a move is listed: it is generated, or follows one that is. Those that lead to it are looked for
 //! backwards, round by round.
-ghost use Rattle.std.specs.Prelude.{◌≡◌, ◌↔◌, [], ◌∷◌, IfOk, IsTrue, OnOk};
+ghost use Rattle.std.specs.Prelude.{◌≡◌, ◌↔◌, [], ◌∷◌, IfOk, IsTrue};
 ghost use Rattle.std.specs.List.{Contains};
 ghost use Rattle.move_core.specs.Contexts.{IsNamed, rulebook};
 ghost use Rattle.move_core.specs.Listed.{IsListed};
-ghost use Rattle.plan_check.specs.Backwards.{Joins, Leads, LeadsAs, LeadsOf};
+ghost use Rattle.plan_check.specs.Backwards.{JoinsOrBegins, Leads, LeadsAs, LeadsOf, RoundOrBegins};
+ghost use Rattle.plan_check.specs.Nearby.{AreWanted};
 
 use crate::follows::follows;
 use crate::generated::is_generated;
 use crate::here::Here;
-use crate::preceding::preceding_moves;
+use crate::preceding::{Sought, preceding_moves};
 use crate::steps::is_defined;
+use crate::wants::wants_at;
 use conf_doc::Config;
 use host_core::Memory;
-use move_core::{Ctx, Move, listed_moves_are_defined, step};
+use move_core::{Ctx, Move};
 use std::alloc::Global;
 
 /// Whether a move is one of some moves.
@@ -23,55 +25,80 @@ fn has_move(moves: &[Move], mv: &Move) -> bool
     moves.iter().any(|other| other.same(mv))
 }
 
-/// Whether a move is defined, and another one follows it.
-fn leads_to(alloc: Global, here: &Here, mv: &Move, more: &Move) -> Result<bool, Memory>
-    ensures { IfOk result (λ b. IsTrue b ↔ Leads here.now mv.now more.now) }
+/// Whether a move is defined, and the sought one follows it.
+fn leads_to(alloc: Global, sought: &Sought, mv: &Move) -> Result<bool, Memory>
+    requires { AreWanted sought.now }
+    ensures { let s = sought.now in
+        IfOk result (λ b. IsTrue b ↔ Leads s.here.now mv.now s.mv.now) }
 {
-    if !is_defined(here.cur, mv) {
+    if !is_defined(sought.here.cur, mv) {
         return Ok(false);
     }
-    let next = step(alloc, here.cur, mv)?;
-    follows(alloc, here, mv, &next, more)
+    follows(alloc, sought, mv)
 }
 
-/// Puts a move at the end that another one follows, unless it is there.
-fn join(
-    alloc: Global,
-    here: &Here,
-    mv: &Move,
-    more: &Move,
-    found: &mut Vec<Move>,
-) -> Result<(), Memory>
-    ensures { let Is = LeadsAs here.now mv.now more.now in
-        OnOk result (Joins Is found.old.items found.new.items) }
+/// Whether the sought move follows one that is generated. One that it follows and that isn't is put at the end,
+/// unless it is there.
+fn join(alloc: Global, sought: &Sought, mv: &Move, found: &mut Vec<Move>) -> Result<bool, Memory>
+    requires { AreWanted sought.now }
+    ensures { let s = sought.now in let Is = LeadsAs s.here.now mv.now s.mv.now in
+        IfOk result (JoinsOrBegins s.here.now s.mv.now Is found.old.items found.new.items) }
 {
     if has_move(found, mv) {
-        return Ok(());
+        return Ok(false);
     }
-    let leads = leads_to(alloc, here, mv, more)?;
+    let leads = leads_to(alloc, sought, mv)?;
     if !leads {
-        return Ok(());
+        return Ok(false);
+    }
+    let generated = is_generated(alloc, sought.here, mv)?;
+    if generated {
+        return Ok(true);
     }
     let copy = mv.copy(alloc)?;
     found.push(copy)?;
-    Ok(())
+    Ok(false)
 }
 
-/// Puts those of some moves at the end that another one follows, each once.
+/// The same of some moves.
 fn join_all(
     alloc: Global,
-    here: &Here,
+    sought: &Sought,
     moves: &[Move],
-    more: &Move,
     found: &mut Vec<Move>,
-) -> Result<(), Memory>
-    ensures { let Is = LeadsOf here.now moves.now more.now in
-        OnOk result (Joins Is found.old.items found.new.items) }
+) -> Result<bool, Memory>
+    requires { AreWanted sought.now }
+    ensures { let s = sought.now in let Is = LeadsOf s.here.now moves.now s.mv.now in
+        IfOk result (JoinsOrBegins s.here.now s.mv.now Is found.old.items found.new.items) }
 {
     for mv in moves {
-        join(alloc, here, mv, more, found)?;
+        let begins = join(alloc, sought, mv, found)?;
+        if begins {
+            return Ok(true);
+        }
     }
-    Ok(())
+    Ok(false)
+}
+
+/// The same of all that may precede a move.
+fn join_preceding<'a>(
+    alloc: Global,
+    here: &'a Here<'a>,
+    mv: &'a Move,
+    found: &mut Vec<Move>,
+) -> Result<bool, Memory>
+    requires { IsNamed here.now.ctx.now }
+    ensures { let Is = RoundOrBegins here.now mv.now in
+        IfOk result (Is found.old.items found.new.items) }
+{
+    let wants = wants_at(alloc, &here.ctx.models, here.cur, mv.place())?;
+    let sought = Sought {
+        here,
+        mv,
+        wants: &wants,
+    };
+    let moves = preceding_moves(alloc, &sought)?;
+    join_all(alloc, &sought, &moves, found)
 }
 
 /// A move alone.
@@ -96,20 +123,20 @@ pub(crate) fn is_listed(
     ensures { let Is = IsListed (rulebook ctx.now) cur.now goal.now mv.now in
         IfOk result (λ b. IsTrue b ↔ Is) }
 {
-    listed_moves_are_defined();
-    let _tables = cur.len();
     let here = Here { ctx, cur, goal };
+    let generated = is_generated(alloc, &here, mv)?;
+    if generated {
+        return Ok(true);
+    }
     let mut found = begin(alloc, mv)?;
     let mut next = 0;
     while next < found.len() {
         let alone = begin(alloc, &found[next])?;
         let more = &alone[0];
-        let generated = is_generated(alloc, &here, more)?;
-        if generated {
+        let begins = join_preceding(alloc, &here, more, &mut found)?;
+        if begins {
             return Ok(true);
         }
-        let moves = preceding_moves(alloc, &here, more)?;
-        join_all(alloc, &here, &moves, more, &mut found)?;
         next += 1;
     }
     Ok(false)

@@ -1,6 +1,7 @@
 //! What a configuration has at a place.
 ghost use Rattle.std.specs.Prelude.{◌≡◌, ◌↔◌, [], ◌∷◌, option_map, IsTrue, Some};
 ghost use Rattle.conf_doc.specs.Changes.{HasParent, HasPlace, part_at};
+ghost use Rattle.move_core.specs.Contexts.{item_at};
 ghost use Rattle.move_core.specs.Moves.{list_at};
 
 use conf_doc::{Config, Part, Path, Value};
@@ -40,6 +41,16 @@ pub(crate) fn list_at<'c>(config: &'c Config, place: &Path) -> Option<&'c Names>
     match config.value(place.name_at(0), place.name_at(1), place.name_at(2)) {
         Some(Value::List(items)) => Some(items),
         _ => None,
+    }
+}
+
+/// The index of a text, where it is an item of a list that stands at the place.
+pub(crate) fn item_at(config: &Config, place: &Path, i: usize) -> Option<usize>
+    ensures { result ≡ item_at config.now place.now i }
+{
+    match list_at(config, place) {
+        Some(_) => Some(i),
+        None => None,
     }
 }
 

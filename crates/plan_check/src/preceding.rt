@@ -1,18 +1,19 @@
 //! The moves that may precede a move: of the places in cur and in goal on which it may depend.
-ghost use Rattle.std.specs.Prelude.{◌↔◌, ◌<◌, length, map, option_copied, IfOk, IsTrue, OnOk};
+ghost use Rattle.std.specs.Prelude.{◌≡◌, ◌↔◌, ◌<◌, length, map, option_copied, IfOk, IsTrue, OnOk};
 ghost use Rattle.conf_check.specs.Acceptance.{keys_of};
-ghost use Rattle.move_core.specs.Contexts.{IsNamed};
+ghost use Rattle.move_core.specs.Contexts.{IsNamed, item_at};
 ghost use Rattle.conf_check.specs.Wants.{want_of};
-ghost use Rattle.move_core.specs.Moves.{place};
+ghost use Rattle.move_core.specs.Moves.{index, place};
 ghost use Rattle.move_core.specs.declared.moves.Move.{Move as AnyMove};
 ghost use Rattle.plan_check.specs.Backwards.{ArePreceding, Leads};
 ghost use Rattle.plan_check.specs.Candidates.{Takes};
-ghost use Rattle.plan_check.specs.Nearby.{AreWanted, HasRequiring, HasWanted, IsAtKey, IsAtTable, IsIn, IsInKeys, IsInTables, IsNear, IsRequiredIn, IsRequiringIn, IsWantedIn, MayHave};
+ghost use Rattle.plan_check.specs.Nearby.{AreWanted, HasRequiring, HasWanted, IsAtKey, IsAtTable, IsIn, IsInKeys, IsInTables, IsNear, IsRequiredIn, IsRequiringIn, IsWantedFor, IsWantedIn, MayHave};
 
 use crate::candidates::{add_at, add_entry};
 use crate::here::Here;
+use crate::places::item_at;
 use crate::required::{has_key_part, is_rule_field};
-use crate::wants::{want_at, wants_at};
+use crate::wants::want_at;
 use conf_check::WantAt;
 use conf_doc::{Config, Path, Table};
 use host_core::Memory;
@@ -59,6 +60,21 @@ fn is_wanted(at: &WantAt, table: &str, key: Option<&str>) -> bool
     at.want.table == table && may_have(key, at.want.part, at.want.text)
 }
 
+/// Whether a want is of what the sought move names: of its item, or of no item.
+fn is_own(sought: &Sought, at: &WantAt) -> bool
+    ensures { let s = sought.now in
+        IsTrue result ↔ (item_at s.here.now.cur.now (place s.mv.now) at.now.item ≡ index s.mv.now) }
+{
+    item_at(sought.here.cur, sought.mv.place(), at.item) == sought.mv.index()
+}
+
+/// Whether such a want is for a table, and for a key where one is given.
+fn is_wanted_for(sought: &Sought, at: &WantAt, table: &str, key: Option<&str>) -> bool
+    ensures { IsTrue result ↔ IsWantedFor sought.now at.now table.now (option_copied key.entry) }
+{
+    is_wanted(at, table, key) && is_own(sought, at)
+}
+
 /// Whether a place that requires a rule's value for an entry is in a table, and at a key where one is given.
 fn is_requiring(place: &Requiring, named: &str, table: &str, key: Option<&str>) -> bool
     ensures { IsTrue result
@@ -99,12 +115,12 @@ fn has_requiring(sought: &Sought, table: &str, key: Option<&str>) -> bool
     false
 }
 
-/// Whether some want at the sought move's place is for a table, and for a key where one is given.
+/// Whether some want of what the sought move names is for a table, and for a key where one is given.
 fn has_wanted(sought: &Sought, table: &str, key: Option<&str>) -> bool
     ensures { IsTrue result ↔ HasWanted sought.now table.now (option_copied key.entry) }
 {
     for i in 0..sought.wants.len() {
-        if is_wanted(want_at(sought.wants, i), table, key) {
+        if is_wanted_for(sought, want_at(sought.wants, i), table, key) {
             return true;
         }
     }
@@ -126,10 +142,11 @@ fn may_precede(sought: &Sought, table: &str, key: Option<&str>) -> bool
     has_requiring(sought, table, key)
 }
 
-/// Puts those at a key of a table.
+/// Puts those at a key of a table, and at the fields that a configuration has there.
 fn add_key(
     alloc: Global,
     sought: &Sought,
+    config: &Config,
     table: &str,
     key: &str,
     found: &mut Vec<Move>,
@@ -138,19 +155,20 @@ fn add_key(
     requires table { 0 < length table.now }
     requires key { 0 < length key.now }
     requires wants { AreWanted sought.now }
-    ensures { let Is = IsAtKey sought.now table.now key.now in
+    ensures { let Is = IsAtKey sought.now config.now table.now key.now in
         OnOk result (Takes Is found.old.items found.new.items) }
 {
     if !may_precede(sought, table, Some(key)) {
         return Ok(());
     }
-    add_entry(alloc, sought.here, table, key, found)
+    add_entry(alloc, sought.here, config, table, key, found)
 }
 
 /// Puts those at the keys of a table.
 fn add_keys(
     alloc: Global,
     sought: &Sought,
+    config: &Config,
     table: &str,
     entries: &Table,
     found: &mut Vec<Move>,
@@ -158,12 +176,12 @@ fn add_keys(
     requires named { IsNamed sought.now.here.now.ctx.now }
     requires table { 0 < length table.now }
     requires wants { AreWanted sought.now }
-    ensures { let Is = IsInKeys sought.now table.now (map (λ e. e.0) entries.now) in
+    ensures { let Is = IsInKeys sought.now config.now table.now (map (λ e. e.0) entries.now) in
         OnOk result (Takes Is found.old.items found.new.items) }
 {
     for i in 0..entries.len() {
         let key = entries.name_at(i);
-        add_key(alloc, sought, table, key, found)?;
+        add_key(alloc, sought, config, table, key, found)?;
     }
     Ok(())
 }
@@ -179,35 +197,34 @@ fn add_keys_of(
     requires named { IsNamed sought.now.here.now.ctx.now }
     requires table { 0 < length table.now }
     requires wants { AreWanted sought.now }
-    ensures { let Is = IsInKeys sought.now table.now (keys_of table.now config.now) in
+    ensures { let Is = IsInKeys sought.now config.now table.now (keys_of table.now config.now) in
         OnOk result (Takes Is found.old.items found.new.items) }
 {
     match config.table(table) {
-        Some(entries) => add_keys(alloc, sought, table, entries, found),
+        Some(entries) => add_keys(alloc, sought, config, table, entries, found),
         None => Ok(()),
     }
 }
 
-/// Puts those in a table.
+/// Puts those in a table: of its keys first, since they tell more often where the move comes from.
 fn add_table(
     alloc: Global,
     sought: &Sought,
+    config: &Config,
     table: &str,
     found: &mut Vec<Move>,
 ) -> Result<(), Memory>
     requires named { IsNamed sought.now.here.now.ctx.now }
     requires table { 0 < length table.now }
     requires wants { AreWanted sought.now }
-    ensures { let Is = IsAtTable sought.now table.now in
+    ensures { let Is = IsAtTable sought.now config.now table.now in
         OnOk result (Takes Is found.old.items found.new.items) }
 {
     if !may_precede(sought, table, None) {
         return Ok(());
     }
-    let here = sought.here;
-    add_at(alloc, here, Path::new(alloc, &[table])?, found)?;
-    add_keys_of(alloc, sought, here.cur, table, found)?;
-    add_keys_of(alloc, sought, here.goal, table, found)
+    add_keys_of(alloc, sought, config, table, found)?;
+    add_at(alloc, sought.here, Path::new(alloc, &[table])?, found)
 }
 
 /// Puts those in the tables of a configuration.
@@ -219,35 +236,28 @@ fn add_tables(
 ) -> Result<(), Memory>
     requires named { IsNamed sought.now.here.now.ctx.now }
     requires wants { AreWanted sought.now }
-    ensures { let Is = IsInTables sought.now (map (λ t. t.0) config.now) in
+    ensures { let Is = IsInTables sought.now config.now (map (λ t. t.0) config.now) in
         OnOk result (Takes Is found.old.items found.new.items) }
 {
     for i in 0..config.len() {
         let table = config.name_at(i);
-        add_table(alloc, sought, table, found)?;
+        add_table(alloc, sought, config, table, found)?;
     }
     Ok(())
 }
 
-/// The moves that may precede a move.
-pub(crate) fn preceding_moves<'a>(
-    alloc: Global,
-    here: &'a Here<'a>,
-    mv: &'a Move,
-) -> Result<Vec<Move>, Memory>
-    requires { IsNamed here.now.ctx.now }
-    ensures { IfOk result (λ v. ArePreceding here.now mv.now v.items) }
+/// The moves that may precede the sought one: all that stand in cur, then all that stand in goal.
+pub(crate) fn preceding_moves(alloc: Global, sought: &Sought) -> Result<Vec<Move>, Memory>
+    requires named { IsNamed sought.now.here.now.ctx.now }
+    requires wants { AreWanted sought.now }
+    ensures { let s = sought.now in
+        IfOk result (λ v. ArePreceding s.here.now s.mv.now v.items) }
 {
     listed_moves_are_defined();
+    let here = sought.here;
     let _tables = here.cur.len();
-    let wants = wants_at(alloc, &here.ctx.models, here.cur, mv.place())?;
-    let sought = Sought {
-        here,
-        mv,
-        wants: &wants,
-    };
     let mut found = Vec::new(alloc);
-    add_tables(alloc, &sought, here.cur, &mut found)?;
-    add_tables(alloc, &sought, here.goal, &mut found)?;
+    add_tables(alloc, sought, here.cur, &mut found)?;
+    add_tables(alloc, sought, here.goal, &mut found)?;
     Ok(found)
 }

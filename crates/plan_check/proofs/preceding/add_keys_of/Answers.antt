@@ -10,14 +10,16 @@ use Rattle.plan_check.proofs.preceding.add_keys_of.Goals as goal
 pub returns-in-Some : goal.returns-in-Some
 returns-in-Some c =
     let s = c.args.sought.now in
+    let d = c.args.config.now in
     let t = c.args.table.now in
     on_ok_weaker c.add_keys.result
-    (λ takes. subst (λ o. Takes (IsInKeys s t (option_map_or (map (λ (e : List ℕ × Entry). e.0)) o [])) c.args.found.now.items c.add_keys.new.found.items) c.in-Some.ensures.table takes)
+    (λ takes. subst (λ o. Takes (IsInKeys s d t (option_map_or (map (λ (e : List ℕ × Entry). e.0)) o [])) c.args.found.now.items c.add_keys.new.found.items) c.in-Some.ensures.table takes)
     c.add_keys.ensures
 
 pub returns-in-None : goal.returns-in-None
 returns-in-None c =
     let s = c.args.sought.now in
+    let d = c.args.config.now in
     let t = c.args.table.now in
-    subst (λ o. Takes (IsInKeys s t (option_map_or (map (λ (e : List ℕ × Entry). e.0)) o [])) c.args.found.now.items c.args.found.now.items) c.in-None.ensures.table
-    (takes_none (IsInKeys s t []) c.args.found.now.items (λ m is. none_in is.item is.there))
+    subst (λ o. Takes (IsInKeys s d t (option_map_or (map (λ (e : List ℕ × Entry). e.0)) o [])) c.args.found.now.items c.args.found.now.items) c.in-None.ensures.table
+    (takes_none (IsInKeys s d t []) c.args.found.now.items (λ m is. none_in is.item is.there))
