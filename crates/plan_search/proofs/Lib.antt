@@ -17,3 +17,10 @@ pub mod SetAnswers
 pub mod Takings
 pub mod Tops
 pub mod Trails
+pub mod GeneratedMoves
+pub mod PlaceWants
+pub mod RankedMoves
+pub mod RequiredMoves
+pub mod Rounds
+pub mod Telling
+pub mod TextWants

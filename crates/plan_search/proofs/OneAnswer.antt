@@ -10,6 +10,7 @@ use Rattle.plan_search.specs.Searches.{IsSearchAnswer, SearchesAgree}
 use Rattle.plan_search.specs.declared.errors.SearchError.{SearchError}
 use Rattle.plan_search.specs.declared.errors.SearchError.TheVariants.{Unorderable, Budget, Memory}
 use Rattle.plan_search.proofs.Orders.{not_both_before}
+use Rattle.plan_search.proofs.Positions.{least_is_first}
 
 same_head : (m n : Move) (ms ns : List Move) → m ∷ ms ≡ n ∷ ns → m ≡ n
 same_head m n ms ns e = cc
@@ -44,7 +45,8 @@ module _ (ctx : Ctx) (start goal : Config) where
   one_answer : (n : ℕ) (r s : Result (List Move) SearchError)
       → IsSearchAnswer (rulebook ctx) start goal n r → IsSearchAnswer (rulebook ctx) start goal n s
       → r ≢ Err Memory → s ≢ Err Memory → r ≡ s
-  one_answer n (Ok ms) (Ok ns) a b u v = ap Ok (one_first ms ns a.2 b.2)
+  one_answer n (Ok ms) (Ok ns) a b u v =
+      ap Ok (one_first ms ns (least_is_first ctx start goal ms a.2) (least_is_first ctx start goal ns b.2))
   one_answer n (Ok ms) (Err Unorderable) a b u v = absurd (b.0 (ms, a.0))
   one_answer n (Ok ms) (Err (Budget k)) a b u v = absurd (a.3 b.2)
   one_answer n (Ok ms) (Err Memory) a b u v = absurd (v refl)

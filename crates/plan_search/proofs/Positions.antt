@@ -1,5 +1,5 @@
 -- The order of ways is that of their positions in the lists of moves.
-use Rattle.std.proofs.Common.{◌≡◌, ◌⊎◌, inl, inr, ℕ, ◌<◌, List, [], ◌∷◌, ◌++◌, zero, suc, length, Some, get_or, refl, sym, ap, subst, ◌∙◌, arith}
+use Rattle.std.proofs.Common.{◌≡◌, ◌⊎◌, inl, inr, ℕ, ◌<◌, List, [], ◌∷◌, zero, suc, length, Some, get_or, refl, sym, ap, subst, ◌∙◌, arith}
 use Rattle.std.specs.Cmp.{nat_cmp_is, nat_cmp_total, tied_itself}
 use Rattle.std.specs.Cmp.Lexicographic.{slice_cmp}
 use Rattle.std.specs.List.{Contains, slice_get}
@@ -12,17 +12,15 @@ use Rattle.conf_doc.specs.declared.configuration.Config.{Config}
 use Rattle.move_core.specs.Contexts.{rulebook}
 use Rattle.move_core.specs.Listed.{AreListed, IsListed}
 use Rattle.move_core.specs.Moves.{step}
-use Rattle.move_core.specs.Plans.{IsReachable, IsWay}
+use Rattle.move_core.specs.Plans.{IsWay}
 use Rattle.move_core.specs.Ways.{ArePositions, IsAhead, IsBefore as AreBefore, IsLeast, IsSimpleWay}
 use Rattle.move_core.specs.declared.contexts.Ctx.{Ctx}
 use Rattle.move_core.specs.declared.moves.Move.{Move}
-use Rattle.move_lists.proofs.ListExistence.{surely_listed}
 use Rattle.move_lists.proofs.OneList.{one_list}
-use Rattle.move_lists.proofs.DoubleNegation.{surely, then_surely}
-use Rattle.plan_search.specs.FirstLaws.{IsSurelyAhead, IsSurelyLeast}
 use Rattle.plan_search.specs.FirstWays.{IsAheadOfGoal, IsBefore, IsFirstWay, StandsBefore}
 use Rattle.plan_search.specs.Kits.{one_before}
 use Rattle.plan_search.proofs.Parts.{listed_order}
+use Rattle.plan_search.proofs.RankedMoves.{list_there}
 
 -- a member has a position
 position : {A : Type 0} (xs : List A) (x : A) → Contains xs x → (i : ℕ) × (slice_get xs i ≡ Some x)
@@ -44,17 +42,6 @@ after_same i is js e =
     ap (λ o. ordering_then o (slice_cmp nat_cmp is js)) (tied_itself nat_cmp_total i) ∙ e
 
 module _ (ctx : Ctx) (start goal : Config) where
-  -- some way leads there, and a move is allowed
-  further : (c : Config) (m : Move) → IsReachable (rulebook ctx) goal start c
-      → IsWay (rulebook ctx) goal c (m ∷ []) (step c m) → IsReachable (rulebook ctx) goal start (step c m)
-  further c m r w = (r.0 ++ m ∷ [], go start r.0 r.1)
-    where
-      go : (d : Config) (ms : List Move) → IsWay (rulebook ctx) goal d ms c
-          → IsWay (rulebook ctx) goal d (ms ++ m ∷ []) (step c m)
-      go d [] e =
-          subst (λ x. IsWay (rulebook ctx) goal x (m ∷ []) (step c m)) e w
-      go d (n ∷ ms) v = (v.0, go (step d n) ms v.1)
-
   -- the list of moves of a configuration
   abbrev HasList : Config → Type 0
   HasList c = (list : List Move) × AreListed (rulebook ctx) start c goal list
@@ -145,44 +132,52 @@ module _ (ctx : Ctx) (start goal : Config) where
   none_first c n ns ([], are) = absurd are
   none_first c n ns (j ∷ js, are) = ([], j ∷ js, tt, are, refl)
 
-  -- M says of a thing that it is there, or that it can't fail to be
-  module _ (M : Type 0 → Type 0) (sure : (A : Type 0) → A → M A) (next : (A B : Type 0) → M A → (A → M B) → M B)
-      (lists : (c : Config) → IsReachable (rulebook ctx) goal start c → M (HasList c)) where
-    -- the moves of a way have positions
-    positions : (c : Config) (ms : List Move) (x : Config) → IsReachable (rulebook ctx) goal start c
-        → IsWay (rulebook ctx) goal c ms x → M (HavePositions c ms)
-    positions c [] x r w = sure _ ([], tt)
-    positions c (m ∷ ms) x r w =
-        next _ _ (lists c r) (λ l.
-        next _ _ (positions (step c m) ms x (further c m r (w.0, refl)) w.1) (λ rest.
-        sure _ (one_more c m ms l w.0.listed rest)))
+  -- the list of moves there
+  listed : (c : Config) → HasList c
+  listed c = list_there ctx c goal start
 
-    -- by them the way before is before
-    by_positions : (c : Config) (ms ns : List Move) (x y : Config) → IsReachable (rulebook ctx) goal start c
-        → IsWay (rulebook ctx) goal c ms x → IsWay (rulebook ctx) goal c ns y
-        → IsBefore (StandsBefore (rulebook ctx) start goal) c ms ns → M (HaveBefore c ms ns)
-    by_positions c [] [] x y r v w b = absurd b
-    by_positions c [] (n ∷ ns) x y r v w b =
-        next _ _ (positions c (n ∷ ns) y r w) (λ right. sure _ (none_first c n ns right))
-    by_positions c (m ∷ ms) [] x y r v w b = absurd b
-    by_positions c (m ∷ ms) (n ∷ ns) x y r v w (inl before) =
-        next _ _ (lists c r) (λ l.
-        next _ _ (positions (step c m) ms x (further c m r (v.0, refl)) v.1) (λ left.
-        next _ _ (positions (step c n) ns y (further c n r (w.0, refl)) w.1) (λ right.
-        sure _ (parted c m n ms ns l v.0.listed w.0.listed before left right))))
-    by_positions c (m ∷ ms) (n ∷ ns) x y r v w (inr b) =
-        next _ _ (lists c r) (λ l.
-        next _ _ (by_positions (step c m) ms ns x y (further c m r (v.0, refl)) v.1
-        (subst (λ k. IsWay (rulebook ctx) goal (step c k) ns y) (sym b.0) w.1) b.1) (λ rest.
-        sure _ (alike c m n ms ns l v.0.listed b.0 rest)))
+  -- the moves of a way have positions
+  positions : (c : Config) (ms : List Move) (x : Config) → IsWay (rulebook ctx) goal c ms x → HavePositions c ms
+  positions c [] x w = ([], tt)
+  positions c (m ∷ ms) x w = one_more c m ms (listed c) w.0.listed (positions (step c m) ms x w.1)
 
-    -- so a simple way that is before another one is so by positions
-    simple_before : (ms ns : List Move) (x y : Config) → IsSimpleWay (rulebook ctx) start goal ms x
-        → IsSimpleWay (rulebook ctx) start goal ns y → IsBefore (StandsBefore (rulebook ctx) start goal) start ms ns
-        → M (AreBefore (rulebook ctx) start goal ms ns)
-    simple_before ms ns x y one other b =
-        next _ _ (by_positions start ms ns x y ([], refl) one.way other.way b) (λ h.
-        sure _ (record { left = h.0; right = h.1; left_are = h.2; right_are = h.3; before = h.4 }))
+  -- by them the way before is before
+  by_positions : (c : Config) (ms ns : List Move) (x y : Config) → IsWay (rulebook ctx) goal c ms x
+      → IsWay (rulebook ctx) goal c ns y → IsBefore (StandsBefore (rulebook ctx) start goal) c ms ns → HaveBefore c ms ns
+  by_positions c [] [] x y v w b = absurd b
+  by_positions c [] (n ∷ ns) x y v w b = none_first c n ns (positions c (n ∷ ns) y w)
+  by_positions c (m ∷ ms) [] x y v w b = absurd b
+  by_positions c (m ∷ ms) (n ∷ ns) x y v w (inl before) =
+      parted c m n ms ns (listed c) v.0.listed w.0.listed before (positions (step c m) ms x v.1) (positions (step c n) ns y w.1)
+  by_positions c (m ∷ ms) (n ∷ ns) x y v w (inr b) =
+      alike c m n ms ns (listed c) v.0.listed b.0
+      (by_positions (step c m) ms ns x y v.1 (subst (λ k. IsWay (rulebook ctx) goal (step c k) ns y) (sym b.0) w.1) b.1)
+
+  -- so a simple way that is before another one is so by positions
+  simple_before : (ms ns : List Move) (x y : Config) → IsSimpleWay (rulebook ctx) start goal ms x
+      → IsSimpleWay (rulebook ctx) start goal ns y → IsBefore (StandsBefore (rulebook ctx) start goal) start ms ns
+      → AreBefore (rulebook ctx) start goal ms ns
+  simple_before ms ns x y one other b =
+      let h = by_positions start ms ns x y one.way other.way b in
+      record { left = h.0; right = h.1; left_are = h.2; right_are = h.3; before = h.4 }
+
+  -- the first way is the least one
+  pub first_is_least : (ms : List Move) → IsFirstWay (rulebook ctx) start goal ms
+      → IsLeast (rulebook ctx) start goal ms goal
+  first_is_least ms is = record {
+    way = is.way;
+    first = λ ns simple other. simple_before ms ns goal goal is.way simple (is.first ns simple other);
+  }
+
+  -- and what is ahead by chains is so by positions
+  pub ahead_by_positions : (x : Config) → IsAheadOfGoal (rulebook ctx) start goal x
+      → IsAhead (rulebook ctx) start goal x
+  ahead_by_positions x is = record {
+    other = is.other;
+    moves = is.moves;
+    way = is.way;
+    before = λ ns simple. simple_before is.moves ns x goal is.way simple (is.before ns simple);
+  }
 
   -- ---- from positions to chains
 
@@ -245,55 +240,4 @@ module _ (ctx : Ctx) (start goal : Config) where
     moves = is.moves;
     way = is.way;
     before = λ ns simple. before_by_chains is.moves ns (is.before ns simple);
-  }
-
-  -- ---- where the lists are given
-
-  module _ (lists : (c : Config) → IsReachable (rulebook ctx) goal start c → HasList c) where
-    given_before : (ms ns : List Move) (x y : Config) → IsSimpleWay (rulebook ctx) start goal ms x
-        → IsSimpleWay (rulebook ctx) start goal ns y → IsBefore (StandsBefore (rulebook ctx) start goal) start ms ns
-        → AreBefore (rulebook ctx) start goal ms ns
-    given_before = simple_before (λ A. A) (λ A a. a) (λ A B a f. f a) lists
-
-    -- the first way is the least one
-    pub first_is_least : (ms : List Move) → IsFirstWay (rulebook ctx) start goal ms
-        → IsLeast (rulebook ctx) start goal ms goal
-    first_is_least ms is = record {
-      way = is.way;
-      first = λ ns simple other. given_before ms ns goal goal is.way simple (is.first ns simple other);
-    }
-
-    -- and what is ahead by chains is so by positions
-    pub ahead_by_positions : (x : Config) → IsAheadOfGoal (rulebook ctx) start goal x
-        → IsAhead (rulebook ctx) start goal x
-    ahead_by_positions x is = record {
-      other = is.other;
-      moves = is.moves;
-      way = is.way;
-      before = λ ns simple. given_before is.moves ns x goal is.way simple (is.before ns simple);
-    }
-
-  -- ---- where they aren't
-
-  surely_before : (ms ns : List Move) (x y : Config) → IsSimpleWay (rulebook ctx) start goal ms x
-      → IsSimpleWay (rulebook ctx) start goal ns y → IsBefore (StandsBefore (rulebook ctx) start goal) start ms ns
-      → ¬ ¬ AreBefore (rulebook ctx) start goal ms ns
-  surely_before = simple_before (λ A. ¬ ¬ A) (λ A a. surely a) (λ A B a f. then_surely a f) (λ c r. surely_listed ctx start c goal)
-
-  -- the first way can't fail to be the least one
-  pub first_is_surely_least : (ms : List Move) → IsFirstWay (rulebook ctx) start goal ms
-      → IsSurelyLeast (rulebook ctx) start goal ms goal
-  first_is_surely_least ms is = record {
-    way = is.way;
-    first = λ ns simple other. surely_before ms ns goal goal is.way simple (is.first ns simple other);
-  }
-
-  -- and what is ahead by chains can't fail to be so by positions
-  pub surely_ahead_by_positions : (x : Config) → IsAheadOfGoal (rulebook ctx) start goal x
-      → IsSurelyAhead (rulebook ctx) start goal x
-  surely_ahead_by_positions x is = record {
-    other = is.other;
-    moves = is.moves;
-    way = is.way;
-    before = λ ns simple. surely_before is.moves ns x goal is.way simple (is.before ns simple);
   }

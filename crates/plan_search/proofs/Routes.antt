@@ -5,19 +5,20 @@ use Rattle.conf_doc.specs.declared.configuration.Config.{Config}
 use Rattle.move_core.specs.Contexts.{rulebook}
 use Rattle.move_core.specs.Moves.{step}
 use Rattle.move_core.specs.Plans.{IsReachable, IsWay}
-use Rattle.move_core.specs.Ways.{AreAtLeast, IsSimpleWay}
+use Rattle.move_core.specs.Ways.{AreAtLeast, IsAhead as IsAheadByPositions, IsSimpleWay}
 use Rattle.move_core.specs.declared.contexts.Ctx.{Ctx}
 use Rattle.move_core.specs.declared.moves.Move.{Move}
 use Rattle.plan_search.specs.Answers.{IsAnswer}
 use Rattle.plan_search.specs.FirstWays.{IsAheadOfGoal, IsFirstWay}
 use Rattle.plan_search.specs.Kits.{move_problem}
 use Rattle.plan_search.specs.Problems.{CanReach, CanReachBeside, IsAhead, IsFirst, IsRoute, IsSimpleRoute}
-use Rattle.plan_search.specs.Searches.{IsSearchAnswer}
+use Rattle.plan_search.specs.Searches.{AreAhead, IsSearchAnswer}
 use Rattle.plan_search.specs.declared.errors.SearchError.{SearchError}
 use Rattle.plan_search.specs.declared.errors.SearchError.TheVariants.{Unorderable, Budget, Memory}
+use Rattle.plan_search.proofs.Positions.{ahead_by_chains, ahead_by_positions, first_is_least}
 
 -- at least as many are such where more is asked of each
-pub many : (n : ℕ) (P Q : Config → Type 0) → ((x : Config) → P x → Q x) → AreAtLeast n P → AreAtLeast n Q
+many : (n : ℕ) (P Q : Config → Type 0) → ((x : Config) → P x → Q x) → AreAtLeast n P → AreAtLeast n Q
 many n P Q f h = (h.0, h.1, All-weaker P Q f h.0 h.2, h.3)
 
 module _ (ctx : Ctx) (start goal : Config) where
@@ -68,15 +69,21 @@ module _ (ctx : Ctx) (start goal : Config) where
     before = λ ns simple. is.before ns (simple_way ns goal simple);
   }
 
-  not_many : (n : ℕ) → ¬ AreAtLeast n (IsAhead (move_problem ctx start goal))
-      → ¬ AreAtLeast n (IsAheadOfGoal (rulebook ctx) start goal)
+  -- as many are ahead by positions
+  many_ahead : (n : ℕ) → AreAtLeast n (IsAhead (move_problem ctx start goal)) → AreAhead (rulebook ctx) start goal n
+  many_ahead n h =
+      many n (IsAhead (move_problem ctx start goal)) (IsAheadByPositions (rulebook ctx) start goal)
+      (λ x is. ahead_by_positions ctx start goal x (ahead_of_goal x is)) h
+
+  not_many : (n : ℕ) → ¬ AreAtLeast n (IsAhead (move_problem ctx start goal)) → ¬ AreAhead (rulebook ctx) start goal n
   not_many n few h =
-      few (many n (IsAheadOfGoal (rulebook ctx) start goal) (IsAhead (move_problem ctx start goal)) is_ahead h)
+      few (many n (IsAheadByPositions (rulebook ctx) start goal) (IsAhead (move_problem ctx start goal))
+      (λ x is. is_ahead x (ahead_by_chains ctx start goal x is)) h)
 
   pub search_answer : (n : ℕ) (r : Result (List Move) SearchError)
       → IsAnswer (move_problem ctx start goal) n r → IsSearchAnswer (rulebook ctx) start goal n r
   search_answer n (Ok ms) is =
-      (way_of_route start ms goal is.0, is.1, first_way ms is.0 is.2, not_many n is.3)
+      (way_of_route start ms goal is.0, is.1, first_is_least ctx start goal ms (first_way ms is.0 is.2), not_many n is.3)
   search_answer n (Err Unorderable) is = (
     λ w. is.0 (can_reach goal w),
     λ h. is.1 (many n (IsReachable (rulebook ctx) goal start) (CanReach (move_problem ctx start goal)) can_reach h),
@@ -86,6 +93,6 @@ module _ (ctx : Ctx) (start goal : Config) where
     is.0,
     many n (CanReachBeside (move_problem ctx start goal)) (λ x. IsReachable (rulebook ctx) goal start x × (x ≢ goal))
         (λ x h. (reachable x h.0, h.1)) is.1,
-    many n (IsAhead (move_problem ctx start goal)) (IsAheadOfGoal (rulebook ctx) start goal) ahead_of_goal is.2,
+    many_ahead n is.2,
   )
   search_answer n (Err Memory) is = tt

@@ -7,7 +7,6 @@ use Rattle.move_core.specs.Rulebook.{Rulebook}
 use Rattle.move_core.specs.Ways.{AreAtLeast, IsAhead, IsLeast}
 use Rattle.move_core.specs.declared.contexts.Ctx.{Ctx}
 use Rattle.move_core.specs.declared.moves.Move.{Move}
-use Rattle.plan_search.specs.FirstLaws.{HaveLists}
 use Rattle.plan_search.specs.Searches.{IsSearchAnswer}
 use Rattle.plan_search.specs.declared.errors.SearchError.{SearchError}
 use Rattle.plan_search.specs.declared.errors.SearchError.TheVariants.{Unorderable, Budget, Memory}
@@ -26,9 +25,9 @@ pub record IsExact
       (r ≡ Err Unorderable)
       ↔ (¬ IsReachable book goal start goal × ¬ AreAtLeast n (IsAhead book start goal))
 
--- where each configuration that can be reached has its list, and memory was there
+-- where memory was there
 abbrev pub BudgetIsExact : Type 0
 BudgetIsExact =
     (ctx : Ctx) (start goal : Config) (n : ℕ) (r : Result (List Move) SearchError)
-    → HaveLists ctx start goal → IsSearchAnswer (rulebook ctx) start goal n r → r ≢ Err Memory
+    → IsSearchAnswer (rulebook ctx) start goal n r → r ≢ Err Memory
     → IsExact (rulebook ctx) start goal n r

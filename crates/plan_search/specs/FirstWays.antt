@@ -1,5 +1,5 @@
--- Ways compared by the order of the lists of moves: which is before the other, the first one to goal, and
--- what is ahead of goal.
+-- Ways compared by chains of moves, without lists: which is before the other, the first one to goal, and what
+-- is ahead of goal.
 use Rattle.std.specs.Prelude.{◌≡◌, ◌≢◌, ◌⊎◌, List, [], ◌∷◌}
 use Rattle.std.specs.declared.cmp.Ordering.TheVariants.{Less}
 use Rattle.conf_doc.specs.declared.configuration.Config.{Config}

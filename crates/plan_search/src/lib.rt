@@ -16,7 +16,7 @@ mod steps;
 pub use errors::SearchError;
 pub use first_plans::first_plan;
 pub use laws::{
-    budget_is_exact, first_ways_are_least, first_ways_are_surely_least, least_ways_are_first,
+    budget_is_exact, first_ways_are_least, least_ways_are_first, lists_are_there,
     searches_have_one_answer,
 };
 pub use move_lists::listed;

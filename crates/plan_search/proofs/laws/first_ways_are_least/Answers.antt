@@ -6,7 +6,7 @@ pub returns-clause-one : goal.returns-clause-one
 returns-clause-one c = one_first
 
 pub returns-clause-least : goal.returns-clause-least
-returns-clause-least c = λ ctx start goal ms lists is. first_is_least ctx start goal lists ms is
+returns-clause-least c = λ ctx start goal ms is. first_is_least ctx start goal ms is
 
 pub returns-clause-ahead : goal.returns-clause-ahead
-returns-clause-ahead c = λ ctx start goal x lists is. ahead_by_positions ctx start goal lists x is
+returns-clause-ahead c = λ ctx start goal x is. ahead_by_positions ctx start goal x is
