@@ -14,13 +14,15 @@ use Rattle.gcu_inputs.specs.Asking.{Asking, follows_by, ◌>>>◌}
 use Rattle.gcu_inputs.specs.Preparing.{FailsIn, Finds, Found, IsGiven, IsRightBy, Refuses, RefusesAlways, StandsIn, refusal}
 
 -- a refusal that is right by itself is right of what is asked
-pub refusal_is_right : {Y : Type 0} (o : Option Outcome) (asking : Asking Y) → IfSome o (λ e. asking.Gives (Err e)) → FailsIn o asking
+pub refusal_is_right : {Y : Type 0} (o : Option Outcome) (asking : Asking Y) → IfSome o (λ e. asking.Gives (Err e))
+    → FailsIn o asking
 refusal_is_right None asking h = tt
 refusal_is_right (Some e) asking h = h
 
 -- ---- what is asked one after the other
 
-pub stands_first : {X Y : Type 0} (first : Asking X) (next : X → Asking Y) (e : Outcome) → StandsIn first e → StandsIn (first >>> next) e
+pub stands_first : {X Y : Type 0} (first : Asking X) (next : X → Asking Y) (e : Outcome) → StandsIn first e
+    → StandsIn (first >>> next) e
 stands_first first next InputFault h = inl h
 stands_first first next (DiskFault step) h = inl h
 stands_first first next other h = tt
@@ -31,7 +33,8 @@ stands_next first next x InputFault is h = inr (x, is, h)
 stands_next first next x (DiskFault step) is h = inr (x, is, h)
 stands_next first next x other is h = tt
 
-pub fails_first : {X Y : Type 0} (first : Asking X) (next : X → Asking Y) (o : Option Outcome) → FailsIn o first → FailsIn o (first >>> next)
+pub fails_first : {X Y : Type 0} (first : Asking X) (next : X → Asking Y) (o : Option Outcome) → FailsIn o first
+    → FailsIn o (first >>> next)
 fails_first first next None h = tt
 fails_first first next (Some e) h = inl h
 
@@ -68,7 +71,8 @@ stands_anywhere InputFault asking never = absurd never
 stands_anywhere (DiskFault step) asking never = absurd never
 stands_anywhere other asking h = tt
 
-always_stands : {X Y : Type 0} (r : Result X Outcome) (asking : Asking Y) → IfErr r RefusesAlways → IfErr r (StandsIn asking)
+always_stands : {X Y : Type 0} (r : Result X Outcome) (asking : Asking Y) → IfErr r RefusesAlways
+    → IfErr r (StandsIn asking)
 always_stands (Ok x) asking h = tt
 always_stands (Err e) asking h = stands_anywhere e asking h
 
@@ -84,11 +88,13 @@ refused_here (Budget n) old new never = absurd never
 refused_here other old new h = tt
 
 -- what is refused always is refused here
-pub always_refuses : {X : Type 0} (r : Result X Outcome) (old new : Counts) → IfErr r RefusesAlways → IfErr r (Refuses old new)
+pub always_refuses : {X : Type 0} (r : Result X Outcome) (old new : Counts) → IfErr r RefusesAlways
+    → IfErr r (Refuses old new)
 always_refuses (Ok x) old new h = tt
 always_refuses (Err e) old new h = refused_here e old new h
 
-fails_as : {Y : Type 0} (o : Option Outcome) (answer : Result Y Outcome) (asking : Asking Y) → ((q : Result Y Outcome) → answer ≡ q → asking.Gives q)
+fails_as : {Y : Type 0} (o : Option Outcome) (answer : Result Y Outcome) (asking : Asking Y)
+    → ((q : Result Y Outcome) → answer ≡ q → asking.Gives q)
     → FailsAs o answer → FailsIn o asking
 fails_as None answer asking right h = tt
 fails_as (Some e) answer asking right h = right (Err e) h
@@ -100,7 +106,8 @@ given_as view (Err e) answer asking right h = fails_as (refusal e) answer asking
 
 -- no fault is found with no call
 pub found_always : {X Y : Type 0} (view : X → Y) (r : Result X Outcome) (answer : Result Y Outcome) (asking : Asking Y)
-    → ((q : Result Y Outcome) → answer ≡ q → asking.Gives q) → Gives view refusal r answer → IfErr r RefusesAlways → Found view r asking
+    → ((q : Result Y Outcome) → answer ≡ q → asking.Gives q) → Gives view refusal r answer → IfErr r RefusesAlways
+    → Found view r asking
 found_always view r answer asking right gives h = record {
   gives = given_as view r answer asking right gives;
   stands = always_stands r asking h;
@@ -112,7 +119,8 @@ pub found_told : {X Y : Type 0} (view : X → Y) (r : Result X Outcome) (Tells :
 found_told view r Tells gives h = record { gives = gives; stands = always_stands r (follows_by Tells) h }
 
 -- want of memory says nothing
-pub memory_found : {X Y : Type 0} (view : X → Y) (o : Option State) (asking : State → Asking Y) → Finds o view (Err Memory) asking
+pub memory_found : {X Y : Type 0} (view : X → Y) (o : Option State) (asking : State → Asking Y)
+    → Finds o view (Err Memory) asking
 memory_found view None asking = tt
 memory_found view (Some s) asking = record { gives = tt; stands = tt }
 
@@ -120,9 +128,11 @@ memory_found view (Some s) asking = record { gives = tt; stands = tt }
 
 -- what is found of the input decides the patch
 pub found_input : (o : Option State) (path given : List ℕ) (found : Input) (r : Result Patch Outcome) → given ≡ path
-    → IfSome o (λ s. found ≡ input_of s given patch_limit) → Gives operations refusal r (patch_in path found) → IfErr r RefusesAlways
+    → IfSome o (λ s. found ≡ input_of s given patch_limit) → Gives operations refusal r (patch_in path found)
+    → IfErr r RefusesAlways
     → Finds o operations r (patch_asked path)
 found_input None path given found r same is gives h = tt
 found_input (Some s) path given found r same is gives h =
-    found_always operations r (patch_in path (input_of s path patch_limit)) (patch_asked path s) (λ q is. is) (subst (λ p. Gives operations refusal r (patch_in path (input_of s p patch_limit))) same
+    found_always operations r (patch_in path (input_of s path patch_limit)) (patch_asked path s) (λ q is. is)
+    (subst (λ p. Gives operations refusal r (patch_in path (input_of s p patch_limit))) same
     (subst (λ i. Gives operations refusal r (patch_in path i)) is gives)) h

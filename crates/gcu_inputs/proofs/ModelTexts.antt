@@ -37,16 +37,19 @@ pub file_read : (o : Option State) (found : List File) (path bytes : List ℕ) (
     → Finds o self r (files_asked (found ++ (path, bytes) ∷ []) paths)
     → Finds o self r (files_asked found (path ∷ paths))
 file_read None found path bytes paths r h rest = tt
-file_read (Some s) found path bytes paths r h rest = then_found self self bytes r (bytes_asked path model_limit s) _ h rest
+file_read (Some s) found path bytes paths r h rest =
+    then_found self self bytes r (bytes_asked path model_limit s) _ h rest
 
 -- there are no files
 pub no_files : (o : Option State) (paths : List (List ℕ)) (e : Outcome) → Finds o self (Ok paths) paths_asked
     → Finds {X = List File} o self (Err e) (files_asked [] paths) → Finds {X = List Text} o self (Err e) texts_asked
 no_files None paths e h f = tt
-no_files (Some s) paths e h f = then_found self self paths (Err e) (paths_asked s) _ h (first_refused self self e (files_asked [] paths s) _ f)
+no_files (Some s) paths e h f =
+    then_found self self paths (Err e) (paths_asked s) _ h (first_refused self self e (files_asked [] paths s) _ f)
 
 -- what the texts of the files give
-pub texts_read : (o : Option State) (paths : List (List ℕ)) (files : List File) (r : Result (List Text) Outcome) → Finds o self (Ok paths) paths_asked
+pub texts_read : (o : Option State) (paths : List (List ℕ)) (files : List File) (r : Result (List Text) Outcome)
+    → Finds o self (Ok paths) paths_asked
     → Finds o self (Ok files) (files_asked [] paths) → Gives self refusal r (texts_in [] files) → IfErr r RefusesAlways
     → Finds o self r texts_asked
 texts_read None paths files r h f gives always = tt

@@ -18,7 +18,8 @@ no_texts None e h = tt
 no_texts (Some s) e h = first_refused self self e (texts_asked s) _ h
 
 -- what the texts give
-pub models_read : (o : Option State) (texts : List Text) (r : Result ModelSet Outcome) → Finds o self (Ok texts) texts_asked
+pub models_read : (o : Option State) (texts : List Text) (r : Result ModelSet Outcome)
+    → Finds o self (Ok texts) texts_asked
     → IsRightBy self r (AreModels texts) → IfErr r RefusesAlways → Finds o self r models_asked
 models_read None texts r h told always = tt
 models_read (Some s) texts r h told always =

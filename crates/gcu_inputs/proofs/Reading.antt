@@ -40,7 +40,8 @@ file_reads a b rise =
 
 -- ---- what is left as it was
 
-module _ {H : Type 0} {told : H → Option State} {counts : H → Counts} {moment : H → ℕ} {left_since : H → ℕ → Left → Type 0} {goes_on : H → H → Type 0} where
+module _ {H : Type 0} {told : H → Option State} {counts : H → Counts} {moment : H → ℕ}
+    {left_since : H → ℕ → Left → Type 0} {goes_on : H → H → Type 0} where
   pub reads_both : {a b c : H} → ((a b c : H) → goes_on a b → goes_on b c → goes_on a c)
       → OnlyReads told counts moment left_since goes_on a b → OnlyReads told counts moment left_since goes_on b c
       → OnlyReads told counts moment left_since goes_on a c
@@ -54,10 +55,12 @@ module _ {H : Type 0} {told : H → Option State} {counts : H → Counts} {momen
   }
 
   -- what reads inputs alone, or files alone, only reads
-  pub of_inputs : {a b : H} → ReadsInputs told counts moment left_since goes_on a b → OnlyReads told counts moment left_since goes_on a b
+  pub of_inputs : {a b : H} → ReadsInputs told counts moment left_since goes_on a b
+      → OnlyReads told counts moment left_since goes_on a b
   of_inputs {a = a} {b = b} one =
       record { state = one.state; faults = input_reads (counts a) (counts b) one.faults; time = one.time; goes = one.goes }
 
-  pub of_files : {a b : H} → ReadsFiles told counts moment left_since goes_on a b → OnlyReads told counts moment left_since goes_on a b
+  pub of_files : {a b : H} → ReadsFiles told counts moment left_since goes_on a b
+      → OnlyReads told counts moment left_since goes_on a b
   of_files {a = a} {b = b} one =
       record { state = one.state; faults = file_reads (counts a) (counts b) one.faults; time = one.time; goes = one.goes }

@@ -19,7 +19,8 @@ self x = x
 
 -- there is no rules file
 pub no_rules : (o : Option State) (path : List ℕ) (e : Outcome) → path ≡ rules_path
-    → Finds {X = List ℕ} o self (Err e) (bytes_asked path rules_limit) → Finds {X = Settings} o self (Err e) settings_asked
+    → Finds {X = List ℕ} o self (Err e) (bytes_asked path rules_limit)
+    → Finds {X = Settings} o self (Err e) settings_asked
 no_rules None path e is h = tt
 no_rules (Some s) path e is h =
     first_refused self self e (bytes_asked rules_path rules_limit s) _
@@ -47,11 +48,13 @@ no_ctx_models (Some s) e h = first_refused self self e (models_asked s) _ h
 pub no_ctx_settings : (o : Option State) (models : ModelSet) (e : Outcome) → Finds o self (Ok models) models_asked
     → Finds {X = Settings} o self (Err e) settings_asked → Finds {X = Ctx} o self (Err e) ctx_asked
 no_ctx_settings None models e h f = tt
-no_ctx_settings (Some s) models e h f = then_found self self models (Err e) (models_asked s) _ h (first_refused self self e (settings_asked s) _ f)
+no_ctx_settings (Some s) models e h f =
+    then_found self self models (Err e) (models_asked s) _ h (first_refused self self e (settings_asked s) _ f)
 
 -- there are both
 pub ctx_found : (o : Option State) (models : ModelSet) (settings : Settings) → Finds o self (Ok models) models_asked
-    → Finds o self (Ok settings) settings_asked → Finds {X = Ctx} o self (Ok (record { models = models; settings = settings })) ctx_asked
+    → Finds o self (Ok settings) settings_asked
+    → Finds {X = Ctx} o self (Ok (record { models = models; settings = settings })) ctx_asked
 ctx_found None models settings h f = tt
 ctx_found (Some s) models settings h f =
     then_found self self models _ (models_asked s) _ h

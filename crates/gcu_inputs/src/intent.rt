@@ -1,9 +1,9 @@
 //! The file of a change under way: whether it is there, and the configuration that it holds.
-ghost use Rattle.std.specs.Prelude.{◌≤◌, IfErr, option_map};
+ghost use Rattle.std.specs.Prelude.{◌≤◌, IfErr, IfOk, Ok, option_map};
 ghost use Rattle.host_core.specs.Answers.{Gives};
 ghost use Rattle.host_core.specs.Names.{longest_plain_name};
 ghost use Rattle.conf_store.specs.Stored.{config_in};
-ghost use Rattle.gcu_inputs.specs.IntentAsked.{held_answer, intended_answer, intended_asked, intent_asked, interrupted, uninterrupted};
+ghost use Rattle.gcu_inputs.specs.IntentAsked.{held_answer, intended_answer, intent_asked, interrupted, uninterrupted};
 ghost use Rattle.gcu_inputs.specs.Preparing.{Finds, Refuses, RefusesAlways, refusal};
 ghost use Rattle.gcu_inputs.specs.Reads.{ReadsFiles};
 
@@ -41,19 +41,24 @@ pub fn test_interrupted<H: Host>(alloc: Global, host: &mut H) -> Result<(), Outc
     Ok(())
 }
 
-/// The goal of the change that was stopped.
-pub fn intent_goal<H: Host>(alloc: Global, host: &mut H) -> Result<Config, Outcome>
+/// The file of a change that was stopped before its end. Refuses where none was.
+pub fn read_interrupted<H: Host>(alloc: Global, host: &mut H) -> Result<Option<Vec<u8>>, Outcome>
     requires { longest_plain_name ≤ H.longest_name }
-    ensures answer { Finds (H.told host.old) (λ c. c) result intended_asked }
+    ensures answer { Finds (H.told host.old) (λ _. tt) result interrupted }
+    ensures held { IfOk result (λ found.
+        Finds (H.told host.old) (option_map (λ v. v.items)) (Ok found) intent_asked) }
     ensures reads { ReadsFiles H.told H.counts H.moment H.left_since H.goes_on host.old host.new }
     ensures cause { IfErr result (Refuses (H.counts host.old) (H.counts host.new)) }
 {
     let found = read_intent(alloc, host)?;
-    goal_found(alloc, found)
+    if found.is_none() {
+        return Err(Outcome::NoIntent);
+    }
+    Ok(found)
 }
 
-/// The goal, where the file was found.
-fn goal_found(alloc: Global, found: Option<Vec<u8>>) -> Result<Config, Outcome>
+/// The goal of the change that was stopped, by what was found of the file.
+pub fn goal_held(alloc: Global, found: Option<Vec<u8>>) -> Result<Config, Outcome>
     ensures answer { Gives (λ c. c) refusal result
         (intended_answer (option_map (λ v. v.items) found)) }
     ensures cause { IfErr result RefusesAlways }

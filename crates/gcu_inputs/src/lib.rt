@@ -12,7 +12,7 @@ mod rules;
 mod stored;
 
 pub use inputs::input_bytes;
-pub use intent::{intent_goal, read_intent, test_interrupted, test_uninterrupted};
+pub use intent::{goal_held, read_intent, read_interrupted, test_interrupted, test_uninterrupted};
 pub use model_list::read_list;
 pub use models::input_models;
 pub use patch_input::input_patch;

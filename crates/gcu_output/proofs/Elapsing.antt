@@ -5,7 +5,8 @@ use Rattle.host_core.specs.State.{State}
 
 module _ {H : Type 0} (moment : H → ℕ) (left_since : H → ℕ → Left → Type 0) where
   -- what may be left of these may be left of those
-  pub elapses_weaker : (old new : H) (P Q : Left → Type 0) → ((left : Left) → P left → Q left) → Elapses moment left_since old new P
+  pub elapses_weaker : (old new : H) (P Q : Left → Type 0) → ((left : Left) → P left → Q left)
+      → Elapses moment left_since old new P
       → Elapses moment left_since old new Q
   elapses_weaker old new P Q more h = record {
     later = h.later;
@@ -14,7 +15,8 @@ module _ {H : Type 0} (moment : H → ℕ) (left_since : H → ℕ → Left → 
   }
 
   -- the same through two calls
-  pub elapses_both : (old mid new : H) (P : Left → Type 0) → Elapses moment left_since old mid P → Elapses moment left_since mid new P
+  pub elapses_both : (old mid new : H) (P : Left → Type 0) → Elapses moment left_since old mid P
+      → Elapses moment left_since mid new P
       → Elapses moment left_since old new P
   elapses_both old mid new P a b = record {
     later = omega (arith, a.later, b.later);
@@ -24,7 +26,8 @@ module _ {H : Type 0} (moment : H → ℕ) (left_since : H → ℕ → Left → 
   }
 
   -- two calls that change nothing
-  pub elapses_unchanged : (old mid new : H) (told before : Option State) → told ≡ before → Elapses moment left_since old mid (MayLeaveNow told)
+  pub elapses_unchanged : (old mid new : H) (told before : Option State) → told ≡ before
+      → Elapses moment left_since old mid (MayLeaveNow told)
       → (after : Option State) → after ≡ told → Elapses moment left_since mid new (MayLeaveNow after)
       → Elapses moment left_since old new (MayLeaveNow before)
   elapses_unchanged old mid new told before same first after again second =

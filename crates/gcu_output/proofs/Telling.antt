@@ -14,7 +14,8 @@ unwritten (ServiceFault step service) first isnt = absurd first
 unwritten other first isnt = isnt
 
 -- and its last line may ask for memory
-pub told_said : (e : Outcome) (written : Bool) → written ≡ false → (before after : Option State) (old new : Counts) (result : Outcome)
+pub told_said : (e : Outcome) (written : Bool) → written ≡ false
+    → (before after : Option State) (old new : Counts) (result : Outcome)
     → IsSaid e (last_line e) before after old new result → IsTold written e before after old new result
 told_said e true isnt before after old new result said = absurd cc
 told_said e false isnt before after old new result said = said

@@ -19,19 +19,24 @@ pairs_itself [] = refl
 pairs_itself (m ∷ ms) = ap (λ (ns : List (List ℕ × Document)). m ∷ ns) (pairs_itself ms)
 
 -- all items are written
-pub list_written : (ds : List Document) (start old new : List Token) → old ≡ start ++ begin_array ∷ opened_items itself ds → new ≡ old ++ end_array ∷ []
+pub list_written : (ds : List Document) (start old new : List Token)
+    → old ≡ start ++ begin_array ∷ opened_items itself ds → new ≡ old ++ end_array ∷ []
     → new ≡ start ++ document_tokens (list (items_of ds))
 list_written ds start old new so_far written =
-    items_written itself ds start old new so_far written ∙ ap (λ es. start ++ document_tokens (list (items_of es))) (map_itself ds)
+    items_written itself ds start old new so_far written
+    ∙ ap (λ es. start ++ document_tokens (list (items_of es))) (map_itself ds)
 
 -- all members are written
-pub object_written : (ms : List (List ℕ × Document)) (start old new : List Token) → old ≡ start ++ begin_object ∷ opened_members itself ms → new ≡ old ++ end_object ∷ []
+pub object_written : (ms : List (List ℕ × Document)) (start old new : List Token)
+    → old ≡ start ++ begin_object ∷ opened_members itself ms → new ≡ old ++ end_object ∷ []
     → new ≡ start ++ document_tokens (object (members_of ms))
 object_written ms start old new so_far written =
-    members_written itself ms start old new so_far written ∙ ap (λ ns. start ++ document_tokens (object (members_of ns))) (pairs_itself ms)
+    members_written itself ms start old new so_far written
+    ∙ ap (λ ns. start ++ document_tokens (object (members_of ns))) (pairs_itself ms)
 
 -- the member at an index
-pub member_at : (ms : List (List ℕ × Document)) (i : ℕ) (name : List ℕ) (d : Document) → slice_get (map (λ m. m.0) ms) i ≡ Some name
+pub member_at : (ms : List (List ℕ × Document)) (i : ℕ) (name : List ℕ) (d : Document)
+    → slice_get (map (λ m. m.0) ms) i ≡ Some name
     → slice_get (map (λ m. m.1) ms) i ≡ Some d → slice_get ms i ≡ Some (name, d)
 member_at [] i name d named names = absurd cc
 member_at (m ∷ ms) zero name d named names =

@@ -10,5 +10,5 @@ mod tree_text;
 
 pub use lines::{line, numbered_line, quoted};
 pub use outcomes::{Outcome, PointWhy};
-pub use printing::{print, say, say_memory, show, show_plan, tell};
-pub use statuses::{Intent, show_status};
+pub use printing::{DONE_LINE, say, say_memory, show, show_text, tell};
+pub use statuses::{Intent, status_text};

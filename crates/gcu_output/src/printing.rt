@@ -3,7 +3,6 @@ ghost use Rattle.std.specs.Prelude.{◌≡◌, ◌++◌, IfErr, IfOk};
 ghost use Rattle.host_core.specs.Counts.{PrintMayRise};
 ghost use Rattle.host_core.specs.Crashes.{Elapses, MayLeaveInPrint};
 ghost use Rattle.conf_doc.specs.Trees.{document};
-ghost use Rattle.move_core.specs.Operations.{plan_text as text_of_plan};
 ghost use Rattle.gcu_output.specs.Printing.{LeftInText, LeftInTold, IsBeforeAnyStep, IsTold, is_disk_fault as is_fault, may_have_written, outcome_of, IsPrinted, IsSaid, text_in_lines};
 ghost use Rattle.gcu_output.specs.Lines.{last_line};
 ghost use Rattle.gcu_output.specs.declared.outcomes.Outcome.TheVariants.{Done as done, Memory as no_memory};
@@ -13,8 +12,10 @@ use crate::lines::line;
 use crate::tree_text::tree_text;
 use conf_doc::Tree;
 use host_core::{Host, Memory};
-use move_core::{Plan, plan_text};
 use std::alloc::Global;
+
+/// The last line of Done.
+pub const DONE_LINE: &[u8] = b"done\n";
 
 /// Prints the last line of an outcome that isn't Done, and answers it.
 pub fn say<H: Host>(alloc: Global, outcome: Outcome, host: &mut H) -> Outcome
@@ -43,7 +44,7 @@ pub fn tell<H: Host>(alloc: Global, done: Result<(), Outcome>, host: &mut H) -> 
     ensures goes { H.goes_on host.old host.new }
 {
     match done {
-        Ok(()) => print(Outcome::Done, b"done\n", host),
+        Ok(()) => print(Outcome::Done, DONE_LINE, host),
         Err(refusal) if is_disk_fault(&refusal) => {
             let fault = Outcome::DiskFault { step: 0 };
             print(fault, b"refused 4 disk fault after 0\n", host)
@@ -70,23 +71,23 @@ pub fn show<H: Host>(alloc: Global, tree: &Tree, host: &mut H) -> Outcome
         (LeftInText (text_in_lines (document tree.now) ++ last_line done) (H.told host.old)) }
     ensures goes { H.goes_on host.old host.new }
 {
-    match shown(alloc, tree) {
-        Ok(text) => print(Outcome::Done, &text, host),
+    match tree_text(alloc, tree) {
+        Ok(text) => show_text(text, host),
         Err(Memory) => say_memory(host),
     }
 }
 
-/// Prints the text of a plan and the last line of Done.
-pub fn show_plan<H: Host>(alloc: Global, plan: &Plan, host: &mut H) -> Outcome
-    ensures said { IsSaid done (text_of_plan plan.now ++ last_line done)
+/// Prints a text and the last line of Done.
+pub fn show_text<H: Host>(text: Vec<u8>, host: &mut H) -> Outcome
+    ensures said { IsSaid done (text.items ++ last_line done)
         (H.told host.old) (H.told host.new) (H.counts host.old) (H.counts host.new) result }
     ensures counts { PrintMayRise (H.counts host.old) (H.counts host.new) }
     ensures time { Elapses H.moment H.left_since host.old host.new
-        (LeftInText (text_of_plan plan.now ++ last_line done) (H.told host.old)) }
+        (LeftInText (text.items ++ last_line done) (H.told host.old)) }
     ensures goes { H.goes_on host.old host.new }
 {
-    match shown_plan(alloc, plan) {
-        Ok(lines) => print(Outcome::Done, &lines, host),
+    match with_done(text) {
+        Ok(whole) => print(Outcome::Done, &whole, host),
         Err(Memory) => say_memory(host),
     }
 }
@@ -103,30 +104,16 @@ pub fn say_memory<H: Host>(host: &mut H) -> Outcome
     print(Outcome::Memory, b"refused 1 memory\n", host)
 }
 
-/// The whole output with a configuration's tree.
-fn shown(alloc: Global, tree: &Tree) -> Result<Vec<u8>, Memory>
-    ensures { IfOk result (λ b. b.items ≡ text_in_lines (document tree.now) ++ last_line done) }
+/// A text with the last line of Done behind it.
+fn with_done(mut text: Vec<u8>) -> Result<Vec<u8>, Memory>
+    ensures { IfOk result (λ b. b.items ≡ text.items ++ last_line done) }
 {
-    let mut text = tree_text(alloc, tree)?;
-    match text.extend_from_slice(b"done\n") {
-        Ok(()) => Ok(text),
-        Err(_) => Err(Memory),
-    }
-}
-
-/// The whole output with a plan.
-fn shown_plan(alloc: Global, plan: &Plan) -> Result<Vec<u8>, Memory>
-    ensures { IfOk result (λ b. b.items ≡ text_of_plan plan.now ++ last_line done) }
-{
-    let mut text = plan_text(alloc, plan)?;
-    match text.extend_from_slice(b"done\n") {
-        Ok(()) => Ok(text),
-        Err(_) => Err(Memory),
-    }
+    text.extend_from_slice(DONE_LINE)?;
+    Ok(text)
 }
 
 /// Prints the whole output of an outcome in one call.
-pub fn print<H: Host>(outcome: Outcome, text: &[u8], host: &mut H) -> Outcome
+fn print<H: Host>(outcome: Outcome, text: &[u8], host: &mut H) -> Outcome
     ensures printed { IsPrinted outcome text.now
         (H.told host.old) (H.told host.new) (H.counts host.old) (H.counts host.new) result }
     ensures counts { PrintMayRise (H.counts host.old) (H.counts host.new) }

@@ -35,7 +35,8 @@ module _ {X Y V : Type 0} (view : V → Y) (ask : X → Asking Y) where
 
 -- ---- items by their places
 
-module _ {S X : Type 0} (f : S → X) (items : List S) (i : ℕ) (item : S) (less : i < length items) (is : item ≡ get_or items i item) where
+module _ {S X : Type 0} (f : S → X) (items : List S) (i : ℕ) (item : S) (less : i < length items)
+    (is : item ≡ get_or items i item) where
   -- the first ones and one more
   pub items_more : map f (take (i + 1) items) ≡ map f (take i items) ++ f item ∷ []
   items_more =
@@ -52,25 +53,32 @@ module _ {S X : Type 0} (f : S → X) (items : List S) (i : ℕ) (item : S) (les
 
 module _ {S X Y V : Type 0} (f : S → X) (view : V → Y) (ask : X → Asking Y) (items : List S) where
   -- one more is found
-  pub more_given : (i : ℕ) (item : S) (vs all : List V) (v : V) → i < length items → item ≡ get_or items i item → all ≡ vs ++ v ∷ []
-      → AreFound view ask (map f (take i items)) vs → (ask (f item)).Gives (Ok (view v)) → AreFound view ask (map f (take (i + 1) items)) all
+  pub more_given : (i : ℕ) (item : S) (vs all : List V) (v : V) → i < length items → item ≡ get_or items i item
+      → all ≡ vs ++ v ∷ []
+      → AreFound view ask (map f (take i items)) vs → (ask (f item)).Gives (Ok (view v))
+      → AreFound view ask (map f (take (i + 1) items)) all
   more_given i item vs all v less is longer found gives =
       subst (AreFound view ask (map f (take (i + 1) items))) (sym longer)
       (subst (λ (xs : List X). AreFound view ask xs (vs ++ v ∷ [])) (sym (items_more f items i item less is))
       (one_more view ask (map f (take i items)) (f item) vs v found gives))
 
   -- all are found
-  pub each_given : (i : ℕ) (vs : List V) → length items ≤ i → AreFound view ask (map f (take i items)) vs → Found (map view) (Ok vs) (of_each ask (map f items))
+  pub each_given : (i : ℕ) (vs : List V) → length items ≤ i → AreFound view ask (map f (take i items)) vs
+      → Found (map view) (Ok vs) (of_each ask (map f items))
   each_given i vs behind found = record {
-    gives = all_given view ask (map f items) vs (subst (λ (xs : List S). AreFound view ask (map f xs) vs) (take_all i items behind) found);
+    gives =
+        all_given view ask (map f items) vs
+        (subst (λ (xs : List S). AreFound view ask (map f xs) vs) (take_all i items behind) found);
     stands = tt;
   }
 
   -- one is refused behind those that are found
   pub refused_behind : (i : ℕ) (item : S) (vs : List V) (e : Outcome) → i < length items → item ≡ get_or items i item
-      → AreFound view ask (map f (take i items)) vs → Found {X = V} view (Err e) (ask (f item)) → Found {X = List V} (map view) (Err e) (of_each ask (map f items))
+      → AreFound view ask (map f (take i items)) vs → Found {X = V} view (Err e) (ask (f item))
+      → Found {X = List V} (map view) (Err e) (of_each ask (map f items))
   refused_behind i item vs e less is found h =
-      subst (λ (xs : List X). Found {X = List V} (map view) (Err e) (of_each ask xs)) (sym (items_around f items i item less is))
+      subst (λ (xs : List X). Found {X = List V} (map view) (Err e) (of_each ask xs))
+      (sym (items_around f items i item less is))
       (one_refused view ask (map f (take i items)) (f item) (map f (drop (i + 1) items)) vs e found h)
 
 -- ---- the same over a host that may not tell its state
@@ -82,23 +90,29 @@ module _ {S X Y V : Type 0} (f : S → X) (view : V → Y) (ask : State → X �
   none_found (Some s) vs is = subst (AreFound view (ask s) []) (sym is) tt
 
   -- one more is found
-  pub more_found : (i : ℕ) (item : S) (o q : Option State) (vs all : List V) (v : V) → i < length items → item ≡ get_or items i item
-      → q ≡ o → all ≡ vs ++ v ∷ [] → IfSome o (λ s. AreFound view (ask s) (map f (take i items)) vs) → Finds q view (Ok v) (λ s. ask s (f item))
+  pub more_found : (i : ℕ) (item : S) (o q : Option State) (vs all : List V) (v : V) → i < length items
+      → item ≡ get_or items i item
+      → q ≡ o → all ≡ vs ++ v ∷ [] → IfSome o (λ s. AreFound view (ask s) (map f (take i items)) vs)
+      → Finds q view (Ok v) (λ s. ask s (f item))
       → IfSome o (λ s. AreFound view (ask s) (map f (take (i + 1) items)) all)
   more_found i item None q vs all v less is same longer found h = tt
   more_found i item (Some s) q vs all v less is same longer found h =
-      let here : Found view (Ok v) (ask s (f item)) = subst (λ (t : Option State). Finds t view (Ok v) (λ s. ask s (f item))) same h in
+      let here : Found view (Ok v) (ask s (f item)) = subst
+      (λ (t : Option State). Finds t view (Ok v) (λ s. ask s (f item))) same h in
       more_given f view (ask s) items i item vs all v less is longer found here.gives
 
   -- all are found
-  pub all_found : (i : ℕ) (o : Option State) (vs : List V) → length items ≤ i → IfSome o (λ s. AreFound view (ask s) (map f (take i items)) vs)
+  pub all_found : (i : ℕ) (o : Option State) (vs : List V) → length items ≤ i
+      → IfSome o (λ s. AreFound view (ask s) (map f (take i items)) vs)
       → Finds o (map view) (Ok vs) (λ s. of_each (ask s) (map f items))
   all_found i None vs behind found = tt
   all_found i (Some s) vs behind found = each_given f view (ask s) items i vs behind found
 
   -- one is refused behind those that are found
-  pub refused_among : (i : ℕ) (item : S) (o q : Option State) (vs : List V) (e : Outcome) → i < length items → item ≡ get_or items i item
-      → q ≡ o → IfSome o (λ s. AreFound view (ask s) (map f (take i items)) vs) → Finds {X = V} q view (Err e) (λ s. ask s (f item))
+  pub refused_among : (i : ℕ) (item : S) (o q : Option State) (vs : List V) (e : Outcome) → i < length items
+      → item ≡ get_or items i item
+      → q ≡ o → IfSome o (λ s. AreFound view (ask s) (map f (take i items)) vs)
+      → Finds {X = V} q view (Err e) (λ s. ask s (f item))
       → Finds {X = List V} o (map view) (Err e) (λ s. of_each (ask s) (map f items))
   refused_among i item None q vs e less is same found h = tt
   refused_among i item (Some s) q vs e less is same found h =

@@ -10,12 +10,14 @@ use Rattle.yang_model.specs.declared.shapes.Shape.{Shape}
 use Rattle.gcu_requests.specs.Places.{AddsField, IsFieldOf, field_name, rule_name}
 
 -- behind the last field there is no name
-pub no_field_name : (names : List (List ℕ)) (row : Row) (n : ℕ) → length row.fields ≤ n → names ≡ names ++ field_name row n
+pub no_field_name : (names : List (List ℕ)) (row : Row) (n : ℕ) → length row.fields ≤ n
+    → names ≡ names ++ field_name row n
 no_field_name names row n past =
     sym (ap (λ o. names ++ option_to_list (option_map (λ f. f.0) o)) (slice_get_past row.fields n past) ∙ append-nil names)
 
 -- nor behind that of a shape
-pub no_rule_name : (names : List (List ℕ)) (shape : Shape) (n : ℕ) → length shape.fields ≤ n → names ≡ names ++ rule_name shape n
+pub no_rule_name : (names : List (List ℕ)) (shape : Shape) (n : ℕ) → length shape.fields ≤ n
+    → names ≡ names ++ rule_name shape n
 no_rule_name names shape n past =
     sym (ap (λ o. names ++ option_to_list (option_map (λ f. f.name) o)) (slice_get_past shape.fields n past) ∙ append-nil names)
 
@@ -37,7 +39,8 @@ is_missing models row rule n shape is one =
 
 -- an entry of no shape
 pub is_of_none : (models : ModelSet) (row : Row) (rule : RuleName) (n : ℕ) (names : List (List ℕ)) → rule ≡ MissingField
-    → ((s : Shape) → HasShape models row s → ◌≡◌ {A = Option Shape} None (Some s)) → AddsField models row rule n names names
+    → ((s : Shape) → HasShape models row s → ◌≡◌ {A = Option Shape} None (Some s))
+    → AddsField models row rule n names names
 is_of_none models row rule n names is none = (
   [],
   sym (append-nil names),

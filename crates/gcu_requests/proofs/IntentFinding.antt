@@ -35,18 +35,22 @@ module _ {X Y : Type 0} (view : X → Y) (o : Option State) where
 
   -- what follows from its bytes
   pub intent_found : (found : Option (Vec ℕ Global)) (r : Result X Outcome) (answer : Option (List ℕ) → Result Y Outcome)
-      → Finds o items_in (Ok found) intent_asked → Gives view refusal r (answer (items_in found)) → IfErr r RefusesAlways
+      → Finds o items_in (Ok found) intent_asked → Gives view refusal r (answer (items_in found))
+      → IfErr r RefusesAlways
       → Finds o view r (λ s. intent_asked s >>> λ f. follows (answer f))
   intent_found found r answer h gives always = by o h
     where
-      by : (p : Option State) → Finds p items_in (Ok found) intent_asked → Finds p view r (λ s. intent_asked s >>> λ f. follows (answer f))
+      by : (p : Option State) → Finds p items_in (Ok found) intent_asked
+          → Finds p view r (λ s. intent_asked s >>> λ f. follows (answer f))
       by None h = tt
       by (Some s) h =
-          then_found items_in view found r (intent_asked s) _ h (found_always view r (answer (items_in found)) _ (λ q same. same) gives always)
+          then_found items_in view found r (intent_asked s) _ h
+          (found_always view r (answer (items_in found)) _ (λ q same. same) gives always)
 
 -- ---- behind the gate
 
-module _ {X Y : Type 0} (view : X → Y) (o : Option State) (gate : State → Asking (Unit {0})) (next : State → Asking Y) where
+module _ {X Y : Type 0} (view : X → Y) (o : Option State) (gate : State → Asking (Unit {0}))
+    (next : State → Asking Y) where
   -- it is closed
   pub gate_closed : (e : Outcome) → Finds {X = Unit {0}} o self (Err e) gate → Finds {X = X} o view (Err e) (λ s. gate s >>> λ u. next s)
   gate_closed e h = by o h

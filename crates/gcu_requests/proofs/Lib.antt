@@ -5,7 +5,7 @@ pub mod EachFinding
 mod FieldNames
 mod FirstBreaches
 pub mod IntentFinding
-mod OneAnswer
+pub mod OneAnswer
 mod OnePlanAnswer
 mod PlanCheckFinding
 mod PlanFinding

@@ -25,13 +25,17 @@ made_of t e = row_of t.0 e.0 e.1
 
 -- the entry that stands there, of a table that has a model or not
 chosen : (k : ℕ) (t : List ℕ × Table) (e : List ℕ × Entry) (row : Row) (b : Bool) → slice_get t.1 k ≡ Some e
-    → option_and_then (λ u. option_map (made_of u) (slice_get u.1 k)) (cond b (Some t) None) ≡ Some row → made_of t e ≡ row
-chosen k t e row true at is = let two : Some (made_of t e) ≡ Some row = sym (ap (option_map (made_of t)) at) ∙ is in let one : made_of t e ≡ row = cc in one
+    → option_and_then (λ u. option_map (made_of u) (slice_get u.1 k)) (cond b (Some t) None) ≡ Some row
+    → made_of t e ≡ row
+chosen k t e row true at is =
+    let two : Some (made_of t e) ≡ Some row = sym (ap (option_map (made_of t)) at) ∙ is in
+    let one : made_of t e ≡ row = cc in one
 chosen k t e row false at is = absurd (none-some row is)
 
 -- it is the row
 pub entry_at : (models : ModelSet) (config : Config) (t k : ℕ) (table key : List ℕ) (entries : Table) (fields : Entry) (row : Row)
-    → slice_get config t ≡ Some (table, entries) → slice_get entries k ≡ Some (key, fields) → row_at models config t k ≡ Some row
+    → slice_get config t ≡ Some (table, entries) → slice_get entries k ≡ Some (key, fields)
+    → row_at models config t k ≡ Some row
     → row_of table key fields ≡ row
 entry_at models config t k table key entries fields row at at_key is =
     chosen k (table, entries) (key, fields) row (is_some (table_named table models)) at_key
@@ -48,7 +52,8 @@ numbered MissingField = refl
 numbered Must = refl
 
 -- a number is that of one rule
-pub rule_is : (b : Breach) (v : Violation) (o : Option RuleName) (rule : RuleName) → v ≡ violation_of b → o ≡ rule_from v.rule → o ≡ Some rule → rule ≡ b.rule
+pub rule_is : (b : Breach) (v : Violation) (o : Option RuleName) (rule : RuleName) → v ≡ violation_of b
+    → o ≡ rule_from v.rule → o ≡ Some rule → rule ≡ b.rule
 rule_is b v o rule same from is =
     let two : Some rule ≡ Some b.rule = sym is ∙ from ∙ ap (λ w. rule_from w.rule) same ∙ numbered b.rule in
     let one : rule ≡ b.rule = cc in one

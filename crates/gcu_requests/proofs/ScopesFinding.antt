@@ -70,8 +70,10 @@ module _ (ctx : Ctx) (budget : ℕ) (ops : List Operation) where
   no_start (Some s) e h = first_refused config_of (plan_in ctx budget) e (start_asked ctx s) _ h
 
   -- what is found of a start
-  pub ends_found : (o : Option State) (stored : Stored) (r : Result Ends Outcome) → Finds o config_of (Ok stored) (start_asked ctx)
-      → Found (plan_in ctx budget) r (patched_goal ctx budget ops stored.config) → Finds o (plan_in ctx budget) r (patched_ends ctx budget ops)
+  pub ends_found : (o : Option State) (stored : Stored) (r : Result Ends Outcome)
+      → Finds o config_of (Ok stored) (start_asked ctx)
+      → Found (plan_in ctx budget) r (patched_goal ctx budget ops stored.config)
+      → Finds o (plan_in ctx budget) r (patched_ends ctx budget ops)
   ends_found None stored r h f = tt
   ends_found (Some s) stored r h f = then_found config_of (plan_in ctx budget) stored r (start_asked ctx s) _ h f
 
@@ -83,14 +85,16 @@ module _ (ctx : Ctx) (budget : ℕ) (ops : List Operation) where
 
   -- what is found where none is
   pub ends_free : (o : Option State) (u : Unit {0}) (r : Result Ends Outcome) → Finds o self (Ok u) uninterrupted
-      → Finds o (plan_in ctx budget) r (patched_ends ctx budget ops) → Finds o (plan_in ctx budget) r (patched_asked ctx budget ops)
+      → Finds o (plan_in ctx budget) r (patched_ends ctx budget ops)
+      → Finds o (plan_in ctx budget) r (patched_asked ctx budget ops)
   ends_free None u r h f = tt
   ends_free (Some s) u r h f = then_found self (plan_in ctx budget) u r (uninterrupted s) _ h f
 
 -- ---- what a search asks
 
 -- it may be made from a valid start to the goal that was judged
-pub ends_ready : (ctx : Ctx) (stored : Stored) (r : Result Ends Outcome) → IsNamed ctx → IsConfig stored.config → AllPass is_step_name stored.steps
+pub ends_ready : (ctx : Ctx) (stored : Stored) (r : Result Ends Outcome) → IsNamed ctx → IsConfig stored.config
+    → AllPass is_step_name stored.steps
     → IsValidIn ctx stored.config → IfOk r (λ e. e.stored ≡ stored) → IfOk r (λ e. IsValidIn ctx e.goal)
     → IfOk r (λ e. AgreeElsewhere ctx e.stored.config e.goal) → IfOk r (IsReadyBetween ctx)
 ends_ready ctx stored (Err e) named formed names start same goal elsewhere = tt
@@ -105,10 +109,12 @@ ends_ready ctx stored (Ok e) named formed names start same goal elsewhere = λ b
 }
 
 -- and the files stand for the start
-pub ends_stand : (o : Option State) (stored : Stored) (r : Result Ends Outcome) → IfSome o (λ s. StandsFor stored s.files)
+pub ends_stand : (o : Option State) (stored : Stored) (r : Result Ends Outcome)
+    → IfSome o (λ s. StandsFor stored s.files)
     → IfOk r (λ e. e.stored ≡ stored) → IfOk r (λ e. IfSome o (λ s. StandsFor e.stored s.files))
 ends_stand o stored (Err e) stands same = tt
-ends_stand o stored (Ok e) stands same = subst (λ (what : Stored). IfSome o (λ s. StandsFor what s.files)) (sym same) stands
+ends_stand o stored (Ok e) stands same =
+    subst (λ (what : Stored). IfSome o (λ s. StandsFor what s.files)) (sym same) stands
 
 -- what is found in the folder that a scope shows
 pub found_behind : {X Y : Type 0} (scope : Scope) (o : Option State) (view : X → Y) (r : Result X Outcome) (asking : State → Asking Y)
@@ -134,13 +140,17 @@ refused_within {X} {Y} {Z} scope asking view view' old new e r refuses told h = 
     by Unorderable f never told found = absurd never
     by (Budget n) f never told found = absurd never
     by Memory f refuses told found = subst (told_as Memory) (sym told) (record { gives = tt; stands = tt })
-    by InputFault f refuses told found = subst (told_as InputFault) (sym told) (record { gives = tt; stands = found.stands })
-    by (DiskFault step) f refuses told found = subst (told_as (DiskFault step)) (sym told) (record { gives = tt; stands = found.stands })
+    by InputFault f refuses told found =
+        subst (told_as InputFault) (sym told) (record { gives = tt; stands = found.stands })
+    by (DiskFault step) f refuses told found =
+        subst (told_as (DiskFault step)) (sym told) (record { gives = tt; stands = found.stands })
     by other f refuses (inl told) found = subst (told_as other) (sym told) (record { gives = tt; stands = tt })
-    by other f refuses (inr told) found = subst (told_as other) (sym told) (record { gives = (other, found.gives, refl); stands = tt })
+    by other f refuses (inr told) found =
+        subst (told_as other) (sym told) (record { gives = (other, found.gives, refl); stands = tt })
 
 -- it has its cause
-pub refusal_refuses : (scope : Scope) (old new : Counts) (e r : Outcome) → Refuses old new e → IsRefusalOf scope e r → Refuses old new r
+pub refusal_refuses : (scope : Scope) (old new : Counts) (e r : Outcome) → Refuses old new e → IsRefusalOf scope e r
+    → Refuses old new r
 refusal_refuses scope old new Done r never told = absurd never
 refusal_refuses scope old new Usage r never told = absurd never
 refusal_refuses scope old new (PrintFault step) r never told = absurd never
@@ -160,7 +170,8 @@ pub part_refused : (scope : Scope) (part : Part) (ctx : Ctx) (budget : ℕ) (o :
     → Finds {X = ScopeEnds} o (scope_planning ctx budget) (Err r) (λ s. part_asked ctx budget s part)
 part_refused scope part ctx budget None old new e r is refuses told h = tt
 part_refused scope part ctx budget (Some s) old new e r is refuses told h =
-    first_refused {X = Ends} (plan_in ctx budget) (scope_planning ctx budget) r (within part.0 (patched_asked ctx budget part.1 (seen part.0 s))) _
+    first_refused {X = Ends} (plan_in ctx budget) (scope_planning ctx budget) r
+    (within part.0 (patched_asked ctx budget part.1 (seen part.0 s))) _
     (refused_within part.0 (patched_asked ctx budget part.1 (seen part.0 s)) (plan_in ctx budget) (plan_in ctx budget) old new e r
     refuses (subst (λ (sc : Scope). IsRefusalOf sc e r) is told) h)
 
@@ -178,14 +189,16 @@ part_found part ctx budget (Some s) found is h =
 -- ---- scope after scope
 
 -- one more is ready for a search
-pub ready_more : (ctx : Ctx) (es all : List ScopeEnds) (e : ScopeEnds) → all ≡ es ++ e ∷ [] → AreReady ctx es → IsReadyBetween ctx e.ends → AreReady ctx all
+pub ready_more : (ctx : Ctx) (es all : List ScopeEnds) (e : ScopeEnds) → all ≡ es ++ e ∷ [] → AreReady ctx es
+    → IsReadyBetween ctx e.ends → AreReady ctx all
 ready_more ctx es all e longer ready here = subst (AreReady ctx) (sym longer) (by es ready)
   where
     by : (xs : List ScopeEnds) → AreReady ctx xs → AreReady ctx (xs ++ e ∷ [])
     by [] r = (here, tt)
     by (x ∷ xs) r = (r.0, by xs r.1)
 
-one_stands : (s : State) (es : List ScopeEnds) (e : ScopeEnds) → StandsInEach es s → StandsFor e.ends.stored (seen_files e.scope s.files) → StandsInEach (es ++ e ∷ []) s
+one_stands : (s : State) (es : List ScopeEnds) (e : ScopeEnds) → StandsInEach es s
+    → StandsFor e.ends.stored (seen_files e.scope s.files) → StandsInEach (es ++ e ∷ []) s
 one_stands s [] e stands here = (here, tt)
 one_stands s (x ∷ es) e stands here = (stands.0, one_stands s es e stands.1 here)
 
@@ -195,7 +208,8 @@ so_far_stands None es e stands here = tt
 so_far_stands (Some s) es e stands here = one_stands s es e stands here
 
 -- and is what its files stand for
-pub stands_more : (o q : Option State) (es all : List ScopeEnds) (e : ScopeEnds) → q ≡ o → all ≡ es ++ e ∷ [] → IfSome o (StandsInEach es)
+pub stands_more : (o q : Option State) (es all : List ScopeEnds) (e : ScopeEnds) → q ≡ o → all ≡ es ++ e ∷ []
+    → IfSome o (StandsInEach es)
     → IfSome q (λ s. StandsFor e.ends.stored (seen_files e.scope s.files)) → IfSome o (StandsInEach all)
 stands_more o q es all e same longer stands here =
     subst (λ (l : List ScopeEnds). IfSome o (StandsInEach l)) (sym longer)

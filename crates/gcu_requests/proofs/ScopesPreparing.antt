@@ -41,7 +41,9 @@ module _ (path : List ℕ) (budget : ℕ) (o : Option State) where
       where
         by : (q : Option State) → Finds q self (Ok u) uninterrupted → Finds {X = Ctx} q self (Err e) ctx_asked → Finds {X = ScopesPlanning} q plans_of (Err e) (scopes_asked path budget)
         by None f h = tt
-        by (Some s) f h = then_found self plans_of u (Err e) (uninterrupted s) _ f (first_refused {X = Ctx} self plans_of e (ctx_asked s) _ h)
+        by (Some s) f h =
+            then_found self plans_of u (Err e) (uninterrupted s) _ f
+            (first_refused {X = Ctx} self plans_of e (ctx_asked s) _ h)
 
     module _ (ctx : Ctx) (judged : Finds o self (Ok ctx) ctx_asked) where
       -- there is no patch
@@ -61,7 +63,8 @@ module _ (path : List ℕ) (budget : ℕ) (o : Option State) where
             → Finds {X = ScopesPlanning} o plans_of (Err e) (scopes_asked path budget)
         no_parts e h = by o free judged read
           where
-            by : (q : Option State) → Finds q self (Ok u) uninterrupted → Finds q self (Ok ctx) ctx_asked → Finds q operations (Ok patch) (patch_asked path)
+            by : (q : Option State) → Finds q self (Ok u) uninterrupted → Finds q self (Ok ctx) ctx_asked
+                → Finds q operations (Ok patch) (patch_asked path)
                 → Finds {X = ScopesPlanning} q plans_of (Err e) (scopes_asked path budget)
             by None f j r = tt
             by (Some s) f j r =
@@ -70,12 +73,17 @@ module _ (path : List ℕ) (budget : ℕ) (o : Option State) where
                 (then_found operations plans_of patch (Err e) (patch_asked path s) _ r
                 (first_refused {X = Vec Scoped Global} parts_of plans_of e (follows (split_answer (split (operations patch)))) _ h)))
 
-        module _ (parts : Vec Scoped Global) (parted : Found parts_of (Ok parts) (follows (split_answer (split (operations patch))))) where
-          all_behind : (r : Result ScopesPlanning Outcome) → Finds o plans_of r (λ s. of_each (part_asked ctx budget s) (parts_of parts)) → Finds o plans_of r (scopes_asked path budget)
+        module _ (parts : Vec Scoped Global)
+            (parted : Found parts_of (Ok parts) (follows (split_answer (split (operations patch))))) where
+          all_behind : (r : Result ScopesPlanning Outcome)
+              → Finds o plans_of r (λ s. of_each (part_asked ctx budget s) (parts_of parts))
+              → Finds o plans_of r (scopes_asked path budget)
           all_behind r h = by o free judged read h
             where
-              by : (q : Option State) → Finds q self (Ok u) uninterrupted → Finds q self (Ok ctx) ctx_asked → Finds q operations (Ok patch) (patch_asked path)
-                  → Finds q plans_of r (λ s. of_each (part_asked ctx budget s) (parts_of parts)) → Finds q plans_of r (scopes_asked path budget)
+              by : (q : Option State) → Finds q self (Ok u) uninterrupted → Finds q self (Ok ctx) ctx_asked
+                  → Finds q operations (Ok patch) (patch_asked path)
+                  → Finds q plans_of r (λ s. of_each (part_asked ctx budget s) (parts_of parts))
+                  → Finds q plans_of r (scopes_asked path budget)
               by None f j p h = tt
               by (Some s) f j p h =
                   then_found self plans_of u r (uninterrupted s) _ f
@@ -99,7 +107,8 @@ module _ (path : List ℕ) (budget : ℕ) (o : Option State) where
               by (Some s) h = record { gives = h.gives; stands = h.stands }
 
           -- there is all that the plans need
-          pub scopes_found : (all : ScopesPlanning) (q : Option State) (ps : List Scoped) → plans_of all ≡ map (scope_planning ctx budget) all.scopes → q ≡ o → ps ≡ parts.items
+          pub scopes_found : (all : ScopesPlanning) (q : Option State) (ps : List Scoped)
+              → plans_of all ≡ map (scope_planning ctx budget) all.scopes → q ≡ o → ps ≡ parts.items
               → Finds q (map (scope_planning ctx budget)) (Ok all.scopes) (λ s. of_each (part_asked ctx budget s) (map part_of ps))
               → Finds o plans_of (Ok all) (scopes_asked path budget)
           scopes_found all q ps is same are h =
@@ -108,10 +117,12 @@ module _ (path : List ℕ) (budget : ℕ) (o : Option State) where
               (subst (λ (t : Option State). Finds t (map (scope_planning ctx budget)) (Ok all.scopes) (λ s. of_each (part_asked ctx budget s) (parts_of parts))) same
               (subst (λ (l : List Scoped). Finds q (map (scope_planning ctx budget)) (Ok all.scopes) (λ s. of_each (part_asked ctx budget s) (map part_of l))) are h)))
             where
-              by : (q : Option State) → Finds q (map (scope_planning ctx budget)) (Ok all.scopes) (λ s. of_each (part_asked ctx budget s) (parts_of parts))
+              by : (q : Option State)
+                  → Finds q (map (scope_planning ctx budget)) (Ok all.scopes) (λ s. of_each (part_asked ctx budget s) (parts_of parts))
                   → Finds q plans_of (Ok all) (λ s. of_each (part_asked ctx budget s) (parts_of parts))
               by None h = tt
               by (Some s) h = record {
-                gives = subst (λ (ps : List ScopePlanning). (of_each (part_asked ctx budget s) (parts_of parts)).Gives (Ok ps)) (sym is) h.gives;
+                gives =
+                    subst (λ (ps : List ScopePlanning). (of_each (part_asked ctx budget s) (parts_of parts)).Gives (Ok ps)) (sym is) h.gives;
                 stands = tt;
               }

@@ -34,19 +34,23 @@ module _ (ctx : Ctx) (a b : Config) where
   found_same None (Some t) left right = sym (right refl)
 
   -- a table that is the same wherever it is there
-  agree_at : (u : List ℕ) → (IsSome (find u a) → AgreeAt ctx a b u) → (IsSome (find u b) → AgreeAt ctx b a u) → AgreeAt ctx a b u
+  agree_at : (u : List ℕ) → (IsSome (find u a) → AgreeAt ctx a b u) → (IsSome (find u b) → AgreeAt ctx b a u)
+      → AgreeAt ctx a b u
   agree_at u left right unmodelled = found_same (find u a) (find u b) (λ s. left s unmodelled) (λ s. right s unmodelled)
 
   -- what a walk over the first one answers, and one over the second
   abbrev Seen : Config → Config → Option (List ℕ) → Type 0
-  Seen of other o = MatchOption o (AreAt (AgreeAt ctx of other) of) (λ t. DifferAt ctx of other t × AreBelow (AgreeAt ctx of other) of t)
+  Seen of other o =
+      MatchOption o (AreAt (AgreeAt ctx of other) of)
+      (λ t. DifferAt ctx of other t × AreBelow (AgreeAt ctx of other) of t)
 
   abbrev IsAnswer : Option (List ℕ) → Type 0
   IsAnswer o = MatchOption o (AgreeElsewhere ctx a b) (λ t. IsFirstDifference ctx a b t)
 
   by_lesser : (l r : Option (List ℕ)) → Seen a b l → Seen b a r → IsAnswer (lesser l r)
   by_lesser None None left right = λ u. agree_at u (left u) (right u)
-  by_lesser None (Some r) left right = ((right.0.0, λ same. right.0.1 (sym same)), λ u less. agree_at u (left u) (right.1 u less))
+  by_lesser None (Some r) left right =
+      ((right.0.0, λ same. right.0.1 (sym same)), λ u less. agree_at u (left u) (right.1 u less))
   by_lesser (Some l) None left right = (left.0, λ u less. agree_at u (left.1 u less) (right u))
   by_lesser (Some l) (Some r) left right =
       elim (is_lt (name_cmp r l)) as (λ c. is_lt (name_cmp r l) ≡ c → IsAnswer (cond c (Some r) (Some l))) [
@@ -62,13 +66,16 @@ module _ (ctx : Ctx) (a b : Config) where
   seen of other None h = h
   seen of other (Some t) h = h
 
-  answered : (o : Option (Bor (List ℕ))) → IsAnswer (option_copied o) → MatchOption o (AgreeElsewhere ctx a b) (λ t. IsFirstDifference ctx a b t.now)
+  answered : (o : Option (Bor (List ℕ))) → IsAnswer (option_copied o)
+      → MatchOption o (AgreeElsewhere ctx a b) (λ t. IsFirstDifference ctx a b t.now)
   answered None h = h
   answered (Some t) h = h
 
   pub found : (l r x : Option (Bor (List ℕ)))
       → MatchOption l (AreAt (AgreeAt ctx a b) a) (λ t. DifferAt ctx a b t.now × AreBelow (AgreeAt ctx a b) a t.now)
       → MatchOption r (AreAt (AgreeAt ctx b a) b) (λ t. DifferAt ctx b a t.now × AreBelow (AgreeAt ctx b a) b t.now)
-      → IsLesser (option_copied l) (option_copied r) (option_copied x) → MatchOption x (AgreeElsewhere ctx a b) (λ t. IsFirstDifference ctx a b t.now)
+      → IsLesser (option_copied l) (option_copied r) (option_copied x)
+      → MatchOption x (AgreeElsewhere ctx a b) (λ t. IsFirstDifference ctx a b t.now)
   found l r x left right is =
-      answered x (subst IsAnswer (sym is) (by_lesser (option_copied l) (option_copied r) (seen a b l left) (seen b a r right)))
+      answered x
+      (subst IsAnswer (sym is) (by_lesser (option_copied l) (option_copied r) (seen a b l left) (seen b a r right)))

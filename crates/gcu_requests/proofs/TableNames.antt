@@ -39,7 +39,8 @@ not_turned x y less back = let other : name_cmp y x ≡ Greater = turned x y Les
 
 module _ {A : Type 0} where
   -- where a name that is found stands
-  key_at : (u : List ℕ) (ps : List (List ℕ × A)) → IsSome (find u ps) → (i : ℕ) × (slice_get (map (λ p. p.0) ps) i ≡ Some u)
+  key_at : (u : List ℕ) (ps : List (List ℕ × A)) → IsSome (find u ps)
+      → (i : ℕ) × (slice_get (map (λ p. p.0) ps) i ≡ Some u)
   key_at u [] some = absurd cc
   key_at u (p ∷ ps) some =
       elim (eq_by_cmp name_cmp u p.0) as (λ b. eq_by_cmp name_cmp u p.0 ≡ b → IsSome (cond b (Some p.1) (find u ps)) → (i : ℕ) × (slice_get (map (λ q. q.0) (p ∷ ps)) i ≡ Some u)) [
@@ -48,26 +49,33 @@ module _ {A : Type 0} where
       ] refl some
 
   -- a name that comes later is greater
-  above : (x : List ℕ) (ps : List (List ℕ × A)) (name : List ℕ) (i : ℕ) → below_all name_cmp x ps ≡ true → slice_get (map (λ p. p.0) ps) i ≡ Some name → name_cmp x name ≡ Less
+  above : (x : List ℕ) (ps : List (List ℕ × A)) (name : List ℕ) (i : ℕ) → below_all name_cmp x ps ≡ true
+      → slice_get (map (λ p. p.0) ps) i ≡ Some name → name_cmp x name ≡ Less
   above x [] name i below has = absurd cc
-  above x (p ∷ ps) name zero below has = subst (λ n. name_cmp x n ≡ Less) (same_Some _ _ has) (less_is _ (and_parts _ _ below).0)
+  above x (p ∷ ps) name zero below has =
+      subst (λ n. name_cmp x n ≡ Less) (same_Some _ _ has) (less_is _ (and_parts _ _ below).0)
   above x (p ∷ ps) name (suc i) below has = above x ps name i (and_parts _ _ below).1 has
 
   -- a lesser name stands before
-  earlier : (ps : List (List ℕ × A)) (i k : ℕ) (t u : List ℕ) → IsRising ps → slice_get (map (λ p. p.0) ps) i ≡ Some t → slice_get (map (λ p. p.0) ps) k ≡ Some u
+  earlier : (ps : List (List ℕ × A)) (i k : ℕ) (t u : List ℕ) → IsRising ps → slice_get (map (λ p. p.0) ps) i ≡ Some t
+      → slice_get (map (λ p. p.0) ps) k ≡ Some u
       → name_cmp u t ≡ Less → k < i
   earlier [] i k t u rising at has less = absurd cc
-  earlier (p ∷ ps) zero zero t u rising at has less = absurd (never_before t u (sym (same_Some _ _ at) ∙ same_Some _ _ has) less)
+  earlier (p ∷ ps) zero zero t u rising at has less =
+      absurd (never_before t u (sym (same_Some _ _ at) ∙ same_Some _ _ has) less)
   earlier (p ∷ ps) zero (suc k) t u rising at has less =
       absurd (not_turned t u (subst (λ n. name_cmp n u ≡ Less) (same_Some _ _ at) (above p.0 ps u k (and_parts _ _ rising).0 has)) less)
   earlier (p ∷ ps) (suc i) zero t u rising at has less = omega arith
-  earlier (p ∷ ps) (suc i) (suc k) t u rising at has less = omega (arith, earlier ps i k t u (and_parts _ _ rising).1 at has less)
+  earlier (p ∷ ps) (suc i) (suc k) t u rising at has less =
+      omega (arith, earlier ps i k t u (and_parts _ _ rising).1 at has less)
 
   module _ (P : List ℕ → Type 0) (ps : List (List ℕ × A)) (i : ℕ) (before : AreBefore i P (map (λ p. p.0) ps)) where
     -- one more name
-    pub one_more : (t : List ℕ) → slice_get (map (λ p. p.0) ps) i ≡ Some t → P t → AreBefore (i + 1) P (map (λ p. p.0) ps)
+    pub one_more : (t : List ℕ) → slice_get (map (λ p. p.0) ps) i ≡ Some t → P t
+        → AreBefore (i + 1) P (map (λ p. p.0) ps)
     one_more t at is j n below e =
-        below_more (λ k. (m : List ℕ) → slice_get (map (λ p. p.0) ps) k ≡ Some m → P m) i (λ k less m f. before k m less f)
+        below_more (λ k. (m : List ℕ) → slice_get (map (λ p. p.0) ps) k ≡ Some m → P m) i
+        (λ k less m f. before k m less f)
         (λ m f. subst P (same_Some t m (sym at ∙ f)) is) j below n e
 
     -- none is left
@@ -79,10 +87,12 @@ module _ {A : Type 0} where
 
     -- those before the next one
     pub passed_below : (t : List ℕ) → IsRising ps → slice_get (map (λ p. p.0) ps) i ≡ Some t → AreBelow P ps t
-    passed_below t rising at u less some = let k = key_at u ps some in before k.0 u (earlier ps i k.0 t u rising at k.1 less) k.1
+    passed_below t rising at u less some =
+        let k = key_at u ps some in before k.0 u (earlier ps i k.0 t u rising at k.1 less) k.1
 
 -- what is so of each name that is found, and of those that aren't, is so of each
-pub at_each : {A : Type 0} (P : List ℕ → Type 0) (ps : List (List ℕ × A)) (u : List ℕ) → (IsSome (find u ps) → P u) → (find u ps ≡ None → P u) → P u
+pub at_each : {A : Type 0} (P : List ℕ → Type 0) (ps : List (List ℕ × A)) (u : List ℕ) → (IsSome (find u ps) → P u)
+    → (find u ps ≡ None → P u) → P u
 at_each {A = A} P ps u there absent = by (find u ps) refl
   where
     by : (o : Option A) → find u ps ≡ o → P u

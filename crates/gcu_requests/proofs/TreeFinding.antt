@@ -46,15 +46,18 @@ found_through f view (Err e) first next h = record {
 }
 
 -- a document that was found is that of a configuration that is given
-pub tree_given : (asking : Asking Config) (d : Document) → (through tree asking).Gives (Ok d) → (c : Config) × asking.Gives (Ok c) × (tree c ≡ d)
+pub tree_given : (asking : Asking Config) (d : Document) → (through tree asking).Gives (Ok d)
+    → (c : Config) × asking.Gives (Ok c) × (tree c ≡ d)
 tree_given asking d (Ok c, h, is) = let same : tree c ≡ d = cc in (c, h, same)
 tree_given asking d (Err e, h, is) = absurd cc
 
 -- what f makes of the value doesn't tell of a refusal
-pub fails_before : {X Y : Type 0} (f : X → Y) (o : Option Outcome) (asking : Asking X) → FailsIn o (through f asking) → FailsIn o asking
+pub fails_before : {X Y : Type 0} (f : X → Y) (o : Option Outcome) (asking : Asking X) → FailsIn o (through f asking)
+    → FailsIn o asking
 fails_before f None asking h = tt
 fails_before f (Some e) asking (Ok x, h, is) = absurd cc
-fails_before {X = X} f (Some e) asking (Err x, h, is) = let same : x ≡ e = cc in subst (λ y. asking.Gives (Err y)) same h
+fails_before {X = X} f (Some e) asking (Err x, h, is) =
+    let same : x ≡ e = cc in subst (λ y. asking.Gives (Err y)) same h
 
 -- ---- the preview
 
@@ -74,7 +77,8 @@ no_stored (Some s) path e h =
 
 -- what is found at the stored configuration
 behind_stored : {W : Type 0} (s : State) (start : Tree) (view : W → Document) (r : Result W Outcome) (next : Config → Asking Config)
-    → Found document (Ok start) (stored_document s) → ((c : Config) → tree c ≡ document start → Found view r (through tree (next c)))
+    → Found document (Ok start) (stored_document s)
+    → ((c : Config) → tree c ≡ document start → Found view r (through tree (next c)))
     → Found view r (through tree (stored_asked s >>> next))
 behind_stored s start view r next h then =
     let given = tree_given (stored_asked s) (document start) h.gives in

@@ -18,7 +18,8 @@ module _ (scope : Scope) where
   settled_behind settled files is = refl
   settled_behind (dirty name) files is = by (plain_name scope name) is
     where
-      by : (o : Option (List ℕ)) → option_map_or dirty o (listing (seen_files scope files)) ≡ settled → dirty name ≡ settled
+      by : (o : Option (List ℕ)) → option_map_or dirty o (listing (seen_files scope files)) ≡ settled
+          → dirty name ≡ settled
       by None e = absurd cc
       by (Some plain) e = absurd cc
   settled_behind (listing before) files is = absurd cc
@@ -45,13 +46,15 @@ module _ (scope : Scope) where
       let is : left ≡ s.files = subst (λ p. Image p s.files left) clean image in
       λ name none. ap (λ (files : Files). get files name) is
 
-  state_behind : (s t : State) → s.pending ≡ settled → seen scope t ≡ seen scope s → AreOthersSame scope s.files t.files → t ≡ s
+  state_behind : (s t : State) → s.pending ≡ settled → seen scope t ≡ seen scope s → AreOthersSame scope s.files t.files
+      → t ≡ s
   state_behind s t clean shown others =
       let inputs : t.inputs ≡ s.inputs = ap (λ (v : State). v.inputs) shown in
       let output : t.output ≡ s.output = ap (λ (v : State). v.output) shown in
       let restarts : t.restarts ≡ s.restarts = ap (λ (v : State). v.restarts) shown in
       let files : t.files ≡ s.files = files_behind s.files t.files (ap (λ (v : State). v.files) shown) others in
-      let before : seen_pending scope s.pending s.files ≡ settled = ap (λ (p : Pending). seen_pending scope p s.files) clean in
+      let before : seen_pending scope s.pending s.files ≡ settled = ap (λ (p : Pending). seen_pending scope p s.files)
+      clean in
       let now : seen_pending scope t.pending t.files ≡ settled = ap (λ (v : State). v.pending) shown ∙ before in
       let pending : t.pending ≡ s.pending = settled_behind t.pending t.files now ∙ sym clean in
       λ i. record { inputs = inputs i; files = files i; pending = pending i; output = output i; restarts = restarts i }
@@ -71,7 +74,8 @@ module _ (scope : Scope) where
   -- ---- crashes
 
   -- what is left of the scope's files, and of the others, is what is left
-  left_behind : (s : State) (left whole : Left) → s.pending ≡ settled → MayLeave s whole → seen_left scope left ≡ seen_left scope whole
+  left_behind : (s : State) (left whole : Left) → s.pending ≡ settled → MayLeave s whole
+      → seen_left scope left ≡ seen_left scope whole
       → AreOthersSame scope s.files left.files → MayLeave s left
   left_behind s left whole clean may shown others =
       let there : whole.files ≡ s.files = subst (λ p. Image p s.files whole.files) clean may.files in
@@ -101,7 +105,8 @@ module _ (scope : Scope) where
       -- what may be left of the view may be left of the folder
       within : AreOthersSame scope s.files left.files → MayLeave (seen scope s) (seen_left scope left) → MayLeave s left
       within others may =
-          let image = subst (λ p. Image (seen_pending scope p s.files) (seen_files scope s.files) (seen_files scope left.files)) clean may.files in
+          let image = subst
+          (λ p. Image (seen_pending scope p s.files) (seen_files scope s.files) (seen_files scope left.files)) clean may.files in
           record {
             files = subst (λ p. Image p s.files left.files) (sym clean) (files_behind s.files left.files image others);
             output = may.output;

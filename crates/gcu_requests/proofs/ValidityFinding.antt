@@ -32,7 +32,8 @@ no_config (Some s) models e h f =
     then_found self check_of models (Err e) (models_asked s) _ h (first_refused self check_of e (stored_asked s) _ f)
 
 -- what is said of the configuration
-pub judged : (o : Option State) (models : ModelSet) (config : Config) (r : Result Config Outcome) → Finds o self (Ok models) models_asked
+pub judged : (o : Option State) (models : ModelSet) (config : Config) (r : Result Config Outcome)
+    → Finds o self (Ok models) models_asked
     → Finds o self (Ok config) stored_asked → IsRightBy check_of r (IsJudged models config) → IfErr r RefusesAlways
     → Finds o check_of r judging_asked
 judged None models config r h f told always = tt

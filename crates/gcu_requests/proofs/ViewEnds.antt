@@ -23,12 +23,14 @@ answer_viewed scope shown o behind is same view r asking h =
     (subst (λ (q : Option State). Finds (option_map (seen scope) q) view r asking) same
     (subst (λ (s : Scope). Finds (option_map (seen s) behind) view r asking) is h))
 
-files_stand : (scope : Scope) (o : Option State) (stored : Stored) → IfSome (option_map (seen scope) o) (λ s. StandsFor stored s.files)
+files_stand : (scope : Scope) (o : Option State) (stored : Stored)
+    → IfSome (option_map (seen scope) o) (λ s. StandsFor stored s.files)
     → IfSome o (λ s. StandsFor stored (seen_files scope s.files))
 files_stand scope None stored h = tt
 files_stand scope (Some s) stored h = h
 
-pub stands_viewed : (scope shown : Scope) (o behind : Option State) → shown ≡ scope → behind ≡ o → (r : Result Ends Outcome)
+pub stands_viewed : (scope shown : Scope) (o behind : Option State) → shown ≡ scope → behind ≡ o
+    → (r : Result Ends Outcome)
     → IfOk r (λ e. IfSome (option_map (seen shown) behind) (λ s. StandsFor e.stored s.files))
     → IfOk r (λ e. IfSome o (λ s. StandsFor e.stored (seen_files scope s.files)))
 stands_viewed scope shown o behind is same (Err e) h = tt
@@ -51,7 +53,8 @@ module _ {H : Type 0} (told : H → Option State) (moment : H → ℕ) (left_sin
     tells = told_behind scope (told old) (told new) clean h.keeps.tells h.shown h.keeps.now;
     later = h.keeps.later;
     stays = λ t le now.
-        stays_behind scope (told old) (left_since old t) (left_since new t) clean now (λ left since. h.nothing_else t left le since)
+        stays_behind scope (told old) (left_since old t) (left_since new t) clean now
+        (λ left since. h.nothing_else t left le since)
         (at (told old) t le h.keeps.ever);
   }
     where
@@ -63,7 +66,8 @@ module _ {H : Type 0} (told : H → Option State) (moment : H → ℕ) (left_sin
       at None t le ever = tt
       at (Some s) t le ever = λ clean left since. ever clean t left le since
 
-  pub still_viewed : (scope from to : Scope) (old behind new ended : H) → from ≡ scope → to ≡ from → behind ≡ old → new ≡ ended
+  pub still_viewed : (scope from to : Scope) (old behind new ended : H) → from ≡ scope → to ≡ from → behind ≡ old
+      → new ≡ ended
       → IfSome (told old) (λ s. s.pending ≡ settled)
       → option_map (seen to) (told ended) ≡ option_map (seen from) (told behind)
       → ((t : ℕ) (left : Left) → t ≤ moment behind → IsSeen to (left_since ended t) left
@@ -78,7 +82,8 @@ module _ {H : Type 0} (told : H → Option State) (moment : H → ℕ) (left_sin
       (record { shown = shown; nothing_else = nothing_else; keeps = keeps })))))
 
   -- two such runs are one
-  pub still_on : (old mid new : H) → IsStill told moment left_since old mid → IsStill told moment left_since mid new → IsStill told moment left_since old new
+  pub still_on : (old mid new : H) → IsStill told moment left_since old mid → IsStill told moment left_since mid new
+      → IsStill told moment left_since old new
   still_on old mid new first second = record {
     tells = second.tells ∙ first.tells;
     later = omega (arith, first.later, second.later);
@@ -102,5 +107,6 @@ module _ {H : Type 0} (told : H → Option State) (moment : H → ℕ) (left_sin
   still_here host = record { tells = refl; later = omega arith; stays = λ t le now left since. now left since }
 
 -- nothing is pending where nothing was
-pub still_clean : (o q : Option State) → q ≡ o → IfSome o (λ s. s.pending ≡ settled) → IfSome q (λ s. s.pending ≡ settled)
+pub still_clean : (o q : Option State) → q ≡ o → IfSome o (λ s. s.pending ≡ settled)
+    → IfSome q (λ s. s.pending ≡ settled)
 still_clean o q is clean = subst (λ (p : Option State). IfSome p (λ s. s.pending ≡ settled)) (sym is) clean

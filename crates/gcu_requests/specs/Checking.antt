@@ -28,14 +28,10 @@ pub record IsInvalidAs (answer : List ℕ → RuleName → Outcome) (models : Mo
   pub at : IsPlaceOf models config breach place
   pub told : e ≡ answer place breach.rule
 
--- that of the stored configuration
-abbrev pub IsInvalid : ModelSet → Config → Outcome → Type 0
-IsInvalid models config e = IsInvalidAs CurrentInvalid models config e
-
--- a valid configuration, or its first violation
+-- a valid stored configuration, or its first violation
 abbrev pub IsJudged : ModelSet → Config → Result Request Outcome → Type 0
 IsJudged models config (Ok request) = IsValid models config × (request ≡ check)
-IsJudged models config (Err e) = IsInvalid models config e
+IsJudged models config (Err e) = IsInvalidAs CurrentInvalid models config e
 
 -- whether the stored configuration is valid: the models are read before it
 abbrev pub judging_asked : State → Asking Request

@@ -25,9 +25,7 @@ generating_asked seed ports s = ctx_asked s >>> λ ctx. generated_asked seed por
 
 -- the same, where no change is under way
 abbrev pub demo_planning_asked : (seed ports : ℕ) → State → Asking Planning
-demo_planning_asked seed ports s =
-    uninterrupted s >>> λ _.
-    generating_asked seed ports s
+demo_planning_asked seed ports s = uninterrupted s >>> λ _. generating_asked seed ports s
 
 -- its moves are to be counted
 abbrev pub demo_asked : (seed ports : ℕ) → State → Asking Request

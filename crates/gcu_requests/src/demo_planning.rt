@@ -55,10 +55,10 @@ fn generate(alloc: Global, ctx: Ctx, size: Demo) -> Result<Planning, Outcome>
     ensures cause { IfErr result RefusesAlways }
 {
     let (start, goal) = make(alloc, size.seed, size.ports)?;
-    let config = judge(alloc, End::Start, &ctx, start)?;
-    let goal = judge_goal(alloc, &ctx, &config, goal)?;
+    judge(alloc, End::Start, &ctx, &start)?;
+    let goal = judge_goal(alloc, &ctx, &start, goal)?;
     let stored = Stored {
-        config,
+        config: start,
         steps: Names::new(alloc),
         folded: false,
     };

@@ -1,5 +1,5 @@
 //! Whether what is stored and the goal of a plan are valid, and where they aren't.
-ghost use Rattle.std.specs.Prelude.{◌≡◌, IfErr, IfOk};
+ghost use Rattle.std.specs.Prelude.{◌≡◌, IfErr, OnOk};
 ghost use Rattle.conf_check.specs.Validity.{IsFirstViolation};
 ghost use Rattle.move_core.specs.Contexts.{IsValidIn};
 ghost use Rattle.gcu_inputs.specs.Preparing.{IsRightBy, RefusesAlways};
@@ -25,15 +25,16 @@ pub(crate) enum End {
     Goal,
 }
 
-/// The configuration, where it is valid.
-pub(crate) fn judge(alloc: Global, end: End, ctx: &Ctx, config: Config) -> Result<Config, Outcome>
-    ensures answer { IsRightBy (λ c. c) result (IsValidOr (answer_of end) ctx.now config) }
-    ensures valid { IfOk result (IsValidIn ctx.now) }
+/// Ok where a configuration is valid.
+pub(crate) fn judge(alloc: Global, end: End, ctx: &Ctx, config: &Config) -> Result<(), Outcome>
+    ensures answer { IsRightBy (λ _. config.now) result
+        (IsValidOr (answer_of end) ctx.now config.now) }
+    ensures valid { OnOk result (IsValidIn ctx.now config.now) }
     ensures cause { IfErr result RefusesAlways }
 {
-    match check(&ctx.models, &config) {
-        Ok(()) => Ok(config),
-        Err(violation) => Err(invalid(alloc, end, &ctx.models, &config, &violation)),
+    match check(&ctx.models, config) {
+        Ok(()) => Ok(()),
+        Err(violation) => Err(invalid(alloc, end, &ctx.models, config, &violation)),
     }
 }
 

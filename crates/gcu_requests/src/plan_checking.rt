@@ -1,23 +1,22 @@
 //! `gcu check-plan PATCH PLAN`: whether an input holds a plan for a patch, and where it doesn't.
 ghost use Rattle.std.specs.Prelude.{◌≤◌, ◌<◌, IfErr, IfOk, length};
 ghost use Rattle.host_core.specs.Names.{longest_plain_name};
+ghost use Rattle.move_core.specs.Contexts.{IsNamed};
 ghost use Rattle.plan_check.specs.Checks.{most_steps};
-ghost use Rattle.gcu_words.specs.Options.{default_budget};
-ghost use Rattle.gcu_words.specs.Targets.{patched};
 ghost use Rattle.plan_texts.specs.PlanTexts.{most_bytes};
 ghost use Rattle.gcu_inputs.specs.Preparing.{Finds, IsRightBy, Refuses, RefusesAlways};
 ghost use Rattle.gcu_inputs.specs.Reads.{OnlyReads, ReadsInputs};
-ghost use Rattle.gcu_requests.specs.PlanAsked.{planning_asked};
-ghost use Rattle.gcu_requests.specs.PlanCheckAsked.{IsAccepted, IsPlanIn, check_plan_asked, moves_asked};
-ghost use Rattle.gcu_requests.specs.ReadPlannings.{IsReadyToSearch, planning_of};
+ghost use Rattle.gcu_requests.specs.PlanCheckAsked.{IsAccepted, IsPlanIn, check_plan_asked, checking_asked, moves_asked};
 ghost use Rattle.gcu_requests.specs.Request.{accept_plan};
 
-use crate::planning::{Planning, prepare};
-use gcu_inputs::input_bytes;
+use crate::plan_goal::read_goal;
+use crate::planning::read_start;
+use conf_doc::Config;
+use gcu_inputs::{input_bytes, input_ctx, test_uninterrupted};
 use gcu_output::Outcome;
-use gcu_words::{DEFAULT_BUDGET, Source, Target};
+use gcu_words::{Source, Target};
 use host_core::{Host, Txt};
-use move_core::Plan;
+use move_core::{Ctx, Plan};
 use plan_check::{CheckError, PlanError, check_plan, read_plan};
 use std::alloc::Global;
 
@@ -37,25 +36,33 @@ pub fn judge_plan<H: Host>(
     ensures reads { OnlyReads H.told H.counts H.moment H.left_since H.goes_on host.old host.new }
     ensures cause { IfErr result (Refuses (H.counts host.old) (H.counts host.new)) }
 {
-    let planning = prepare_patch(alloc, patch, host)?;
-    let moves = input_plan(alloc, plan, host)?;
-    accept(alloc, &planning, &moves)
+    test_uninterrupted(alloc, host)?;
+    judge_inputs(alloc, patch, plan, host)
 }
 
-/// Reads what a plan for the patch in an input needs. Nothing is searched for, so its budget says nothing.
-fn prepare_patch<H: Host>(alloc: Global, patch: &Txt, host: &mut H) -> Result<Planning, Outcome>
+/// The same, where no change was stopped before its end. All that a plan for the patch needs is read before the
+/// plan, and nothing is searched for.
+fn judge_inputs<H: Host>(
+    alloc: Global,
+    patch: &Txt,
+    plan: &Txt,
+    host: &mut H,
+) -> Result<usize, Outcome>
     requires { longest_plain_name ≤ H.longest_name }
-    ensures answer { Finds (H.told host.old) planning_of result
-        (planning_asked (patched patch.now) default_budget) }
-    ensures ready { IfOk result IsReadyToSearch }
+    ensures answer { Finds (H.told host.old) accept_plan result
+        (checking_asked patch.now plan.now) }
     ensures reads { OnlyReads H.told H.counts H.moment H.left_since H.goes_on host.old host.new }
     ensures cause { IfErr result (Refuses (H.counts host.old) (H.counts host.new)) }
 {
+    let ctx = input_ctx(alloc, host)?;
+    let stored = read_start(alloc, &ctx, host)?;
     let target = Target {
         source: Source::Patch,
         word: patch,
     };
-    prepare(alloc, target, DEFAULT_BUDGET, host)
+    let goal = read_goal(alloc, target, None, &ctx, &stored.config, host)?;
+    let moves = input_plan(alloc, plan, host)?;
+    accept(alloc, &ctx, &stored.config, &goal, &moves)
 }
 
 /// The moves that an input holds.
@@ -87,15 +94,20 @@ fn plan_in(alloc: Global, path: &Txt, bytes: &[u8]) -> Result<Plan, Outcome>
 }
 
 /// How many steps moves have, where they are a plan.
-fn accept(alloc: Global, planning: &Planning, moves: &Plan) -> Result<usize, Outcome>
-    requires ready { IsReadyToSearch planning.now }
+fn accept(
+    alloc: Global,
+    ctx: &Ctx,
+    start: &Config,
+    goal: &Config,
+    moves: &Plan,
+) -> Result<usize, Outcome>
+    requires named { IsNamed ctx.now }
     requires few { length moves.now < most_steps }
     ensures answer { IsRightBy accept_plan result
-        (IsAccepted (planning_of planning.now) moves.now) }
+        (IsAccepted ctx.now start.now goal.now moves.now) }
     ensures cause { IfErr result RefusesAlways }
 {
-    let start = &planning.stored.config;
-    match check_plan(alloc, &planning.ctx, start, &planning.goal, moves) {
+    match check_plan(alloc, ctx, start, goal, moves) {
         Ok(()) => Ok(moves.len()),
         Err(CheckError::No { step, why }) => Err(Outcome::PlanRejected { step, why }),
         Err(CheckError::Memory) => Err(Outcome::Memory),

@@ -9,7 +9,7 @@ ghost use Rattle.gcu_words.specs.Views.{target_view};
 ghost use Rattle.gcu_inputs.specs.Preparing.{Finds, Found, IsRightBy, Refuses, RefusesAlways, refusal};
 ghost use Rattle.gcu_inputs.specs.Reads.{OnlyReads};
 ghost use Rattle.gcu_requests.specs.PlanAsked.{HasKeys, IsElsewhereAs, goal_asked, judged_asked, made_asked, target_answer};
-ghost use Rattle.gcu_requests.specs.ReadPlannings.{HasGoodName};
+ghost use Rattle.gcu_requests.specs.ReadPlannings.{HasGoodName, IsHeld};
 ghost use Rattle.gcu_requests.specs.PointAsked.{name_answer};
 
 use crate::checkpoint_goal::checkpoint_goal;
@@ -20,7 +20,7 @@ use crate::patch_goal::patch_goal;
 use crate::tables_elsewhere::difference_elsewhere;
 use checkpoints::is_good_name;
 use conf_doc::Config;
-use gcu_inputs::intent_goal;
+use gcu_inputs::goal_held;
 use gcu_output::Outcome;
 use gcu_words::{Source, Target};
 use host_core::{Host, Txt};
@@ -58,12 +58,14 @@ fn test_name(alloc: Global, name: &Txt) -> Result<(), Outcome>
 pub(crate) fn read_goal<H: Host>(
     alloc: Global,
     target: Target<'_>,
+    held: Option<Vec<u8>>,
     ctx: &Ctx,
     start: &Config,
     host: &mut H,
 ) -> Result<Config, Outcome>
     requires longest { longest_plain_name ≤ H.longest_name }
     requires named { HasGoodName (target_view target) }
+    requires held { IsHeld (target_view target) (H.told host.old) held }
     ensures answer { Finds (H.told host.old) (λ c. c) result
         (goal_asked (target_view target.entry) ctx.now start.now) }
     ensures valid { IfOk result (IsValidIn ctx.now) }
@@ -71,7 +73,7 @@ pub(crate) fn read_goal<H: Host>(
     ensures reads { OnlyReads H.told H.counts H.moment H.left_since H.goes_on host.old host.new }
     ensures cause { IfErr result (Refuses (H.counts host.old) (H.counts host.new)) }
 {
-    let goal = make_goal(alloc, target, start, host)?;
+    let goal = make_goal(alloc, target, held, start, host)?;
     judge_goal(alloc, ctx, start, goal)
 }
 
@@ -89,18 +91,21 @@ pub(crate) fn judge_goal(
 {
     test_elsewhere(alloc, ctx, start, &goal)?;
     test_keys(alloc, ctx, &goal)?;
-    judge(alloc, End::Goal, ctx, goal)
+    judge(alloc, End::Goal, ctx, &goal)?;
+    Ok(goal)
 }
 
 /// What the target makes of the start.
 fn make_goal<H: Host>(
     alloc: Global,
     target: Target<'_>,
+    held: Option<Vec<u8>>,
     start: &Config,
     host: &mut H,
 ) -> Result<Config, Outcome>
     requires longest { longest_plain_name ≤ H.longest_name }
     requires named { HasGoodName (target_view target) }
+    requires held { IsHeld (target_view target) (H.told host.old) held }
     ensures answer { Finds (H.told host.old) (λ c. c) result
         (made_asked (target_view target.entry) start.now) }
     ensures reads { OnlyReads H.told H.counts H.moment H.left_since H.goes_on host.old host.new }
@@ -110,7 +115,7 @@ fn make_goal<H: Host>(
         Source::Patch => patch_goal(alloc, target.word, start, host),
         Source::File => file_goal(alloc, target.word, host),
         Source::Checkpoint => checkpoint_goal(alloc, target.word, host),
-        Source::Intent => intent_goal(alloc, host),
+        Source::Intent => goal_held(alloc, held),
     }
 }
 

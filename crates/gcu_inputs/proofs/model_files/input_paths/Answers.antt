@@ -10,5 +10,6 @@ returns-in_err-bytes-clause-answer g c =
 
 pub returns-clause-answer : goal.returns-clause-answer
 returns-clause-answer g c =
-    list_read (g.H.Host.told c.args.host.now) c.in_ok-path.path c.in_ok-bytes.bytes c.paths_in.result c.in_ok-path.ensures c.in_ok-bytes.ensures.answer
+    list_read (g.H.Host.told c.args.host.now) c.in_ok-path.path c.in_ok-bytes.bytes c.paths_in.result
+    c.in_ok-path.ensures c.in_ok-bytes.ensures.answer
     (rw c.items.ensures at c.paths_in.ensures.answer) c.paths_in.ensures.cause

@@ -11,6 +11,7 @@ returns-in_err-files-clause-answer g c =
 
 pub returns-clause-answer : goal.returns-clause-answer
 returns-clause-answer g c =
-    texts_read (g.H.Host.told c.args.host.now) c.in_ok-paths.paths c.in_ok-files.files c.texts_of.result c.in_ok-paths.ensures.answer
+    texts_read (g.H.Host.told c.args.host.now) c.in_ok-paths.paths c.in_ok-files.files c.texts_of.result
+    c.in_ok-paths.ensures.answer
     (rw (c.in_ok-paths.ensures.reads.state, c.items.ensures, c.new.ensures) at c.in_ok-files.ensures.answer)
     (rw (c.items-2.ensures, c.new-2.ensures) at c.texts_of.ensures.answer) c.texts_of.ensures.cause

@@ -1,3 +1,4 @@
+-- The paths on lines, line after line.
 use Rattle.std.proofs.Common.{◌≡◌, ◌<◌, ◌==◌, ◌∷◌, ◌++◌, ◌+◌, ℕ, List, [], true, false, Ok, subst, ◌≤◌, ap, ◌∙◌, sym, Bor, length, take, drop, get_or, arith}
 use Rattle.std.proofs.lemmas.List.{map-append, append-nil, length-append, length-map, take_all}
 use Rattle.gcu_inputs.specs.ModelList.{Named, named_from, paths_within}
@@ -27,7 +28,8 @@ with_path xs i inside full =
 
 pub loop-i-preserved-then-is_empty : goal.loop-i-preserved-then-is_empty
 loop-i-preserved-then-is_empty c =
-    let same = with_empty c.args.lines.now c.loop-i.i c.loop-i-test.true (sym c.is_empty.ensures ∙ c.if-is_empty.true) in
+    let same = with_empty c.args.lines.now c.loop-i.i c.loop-i-test.true
+    (sym c.is_empty.ensures ∙ c.if-is_empty.true) in
     (c.loop-i.invariant.0 ∙ ap paths (sym same), c.loop-i.invariant.1)
 
 pub returns-then-len-eq-MOST_FILES : goal.returns-then-len-eq-MOST_FILES
@@ -38,7 +40,8 @@ returns-then-len-eq-MOST_FILES c =
     let line = (get_or xs i some_line).now in
     let rest = named_from (1 + length (texts (take (i + 1) xs))) (texts (drop (i + 1) xs)) in
     let full : length front ≡ 256 =
-    sym (length-map front (λ (n : Named). n.1)) ∙ ap length (sym c.loop-i.invariant.0) ∙ sym c.len.ensures ∙ c.if-len-eq-MOST_FILES.true in
+    sym (length-map front (λ (n : Named). n.1)) ∙ ap length (sym c.loop-i.invariant.0) ∙ sym c.len.ensures
+    ∙ c.if-len-eq-MOST_FILES.true in
     let whole = go_on xs (i + 1)
     ∙ ap (λ named. named ++ rest) (with_path xs i c.loop-i-test.true (sym c.is_empty.ensures ∙ c.if-is_empty.false)) in
     record { paths = ap paths_within whole ∙ too_many front (i + 1, line) rest full; few = tt }
@@ -70,7 +73,8 @@ returns c =
     let same = c.loop-i.invariant.0 ∙ ap paths all in
     record {
       paths =
-          within (named_from 1 (texts xs)) (subst (λ n. n ≤ 256) (ap length same ∙ length-map (named_from 1 (texts xs)) (λ (n : Named). n.1)) few)
+          within (named_from 1 (texts xs))
+          (subst (λ n. n ≤ 256) (ap length same ∙ length-map (named_from 1 (texts xs)) (λ (n : Named). n.1)) few)
           ∙ ap Ok (sym same);
       few = few;
     }

@@ -1,3 +1,4 @@
+-- The list of files: its lines, or the bytes that are no text.
 use Rattle.std.proofs.Common.{◌≡◌, ℕ, Bool, List, Result, Err, ap, refl, ◌∙◌, sym, length, map, arith, subst, true, false, Bor, if◌then◌else◌}
 use Rattle.std.proofs.lemmas.List.{length-map}
 use Rattle.std.proofs.lemmas.Str.{IsUtf8-from_is_utf8, is_utf8-from_IsUtf8}

@@ -12,7 +12,10 @@ returns-in_err-texts-clause-answer g c =
 -- what the texts give
 pub returns-clause-answer : goal.returns-clause-answer
 returns-clause-answer g c =
-    models_read (g.H.Host.told c.args.host.now) c.in_ok-texts.texts c.models_of.result c.in_ok-texts.ensures.answer c.models_of.ensures.answer c.models_of.ensures.cause
+    models_read (g.H.Host.told c.args.host.now) c.in_ok-texts.texts c.models_of.result c.in_ok-texts.ensures.answer
+    c.models_of.ensures.answer c.models_of.ensures.cause
 
 pub returns-clause-cause : goal.returns-clause-cause
-returns-clause-cause g c = always_refuses c.models_of.result (g.H.Host.counts c.args.host.now) (g.H.Host.counts c.input_texts.new.host) c.models_of.ensures.cause
+returns-clause-cause g c =
+    always_refuses c.models_of.result (g.H.Host.counts c.args.host.now) (g.H.Host.counts c.input_texts.new.host)
+    c.models_of.ensures.cause

@@ -7,7 +7,8 @@ use Rattle.gcu_inputs.specs.ModelFiles.{Text}
 use Rattle.gcu_inputs.proofs.models.models_of.Goals as goal
 
 -- the path of the text at a place
-path_at : (texts : List Text) (i : ℕ) (text : Text) → slice_get texts i ≡ Some text → slice_get (map (λ (t : Text). t.0) texts) i ≡ Some text.0
+path_at : (texts : List Text) (i : ℕ) (text : Text) → slice_get texts i ≡ Some text
+    → slice_get (map (λ (t : Text). t.0) texts) i ≡ Some text.0
 path_at [] i text is = absurd (none-some text is)
 path_at (t ∷ texts) zero text is = let same : t ≡ text = cc in ap (λ (u : Text). Some u.0) same
 path_at (t ∷ texts) (suc i) text is = path_at texts i text is

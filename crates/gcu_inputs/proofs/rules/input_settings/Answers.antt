@@ -10,5 +10,6 @@ returns-in_err-bytes-clause-answer g c =
 
 pub returns-clause-answer : goal.returns-clause-answer
 returns-clause-answer g c =
-    rules_found (g.H.Host.told c.args.host.now) c.in_ok-path.path c.in_ok-bytes.bytes c.settings_in.result c.in_ok-path.ensures c.in_ok-bytes.ensures.answer
+    rules_found (g.H.Host.told c.args.host.now) c.in_ok-path.path c.in_ok-bytes.bytes c.settings_in.result
+    c.in_ok-path.ensures c.in_ok-bytes.ensures.answer
     (rw c.items.ensures at c.settings_in.ensures.answer) c.settings_in.ensures.cause

@@ -6,4 +6,5 @@ use Rattle.gcu_requests.proofs.checking.judge.Goals as goal
 
 pub returns-in-Err-clause-answer : goal.returns-in-Err-clause-answer
 returns-in-Err-clause-answer c =
-    refusal_is_right (refusal c.invalid.result) (follows_by (IsJudged c.args.models.now c.args.config.now)) c.invalid.ensures.answer
+    refusal_is_right (refusal c.invalid.result) (follows_by (IsJudged c.args.models.now c.args.config.now))
+    c.invalid.ensures.answer

@@ -23,10 +23,12 @@ returns-in_err-judge-clause-answer g c =
     let p = err_from_is_err_and c.from_residual-in_err-judge.result c.from_residual-in_err-judge.ensures.1 in
     rw (p.1, p.2)
     (judged (g.H.Host.told c.args.host.now) c.in_ok-models.models c.in_ok-config.config (Err c.in_err-judge.field-0.0) c.in_ok-models.ensures.answer
-    (rw c.in_ok-models.ensures.reads.state at c.in_ok-config.ensures.answer) c.in_err-judge.ensures.answer c.in_err-judge.ensures.cause)
+    (rw c.in_ok-models.ensures.reads.state at c.in_ok-config.ensures.answer) c.in_err-judge.ensures.answer
+    c.in_err-judge.ensures.cause)
 
 -- it is
 pub returns-clause-answer : goal.returns-clause-answer
 returns-clause-answer g c =
-    judged (g.H.Host.told c.args.host.now) c.in_ok-models.models c.in_ok-config.config (Ok c.in_ok-config.config) c.in_ok-models.ensures.answer
+    judged (g.H.Host.told c.args.host.now) c.in_ok-models.models c.in_ok-config.config (Ok c.in_ok-config.config)
+    c.in_ok-models.ensures.answer
     (rw c.in_ok-models.ensures.reads.state at c.in_ok-config.ensures.answer) c.in_ok-judge.ensures.answer tt

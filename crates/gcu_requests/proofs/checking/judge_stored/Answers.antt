@@ -9,10 +9,12 @@ use Rattle.gcu_requests.proofs.checking.judge_stored.Goals as goal
 pub returns-in_err-test_uninterrupted-clause-answer : goal.returns-in_err-test_uninterrupted-clause-answer
 returns-in_err-test_uninterrupted-clause-answer g c =
     let p = err_from_is_err_and c.from_residual.result c.from_residual.ensures.1 in
-    rw (p.1, p.2) (gate_closed check_of (g.H.Host.told c.args.host.now) uninterrupted judging_asked c.in_err-test_uninterrupted.field-0.0 c.in_err-test_uninterrupted.ensures.answer)
+    rw (p.1, p.2)
+    (gate_closed check_of (g.H.Host.told c.args.host.now) uninterrupted judging_asked c.in_err-test_uninterrupted.field-0.0 c.in_err-test_uninterrupted.ensures.answer)
 
 -- none was
 pub returns-clause-answer : goal.returns-clause-answer
 returns-clause-answer g c =
-    gate_open check_of (g.H.Host.told c.args.host.now) uninterrupted judging_asked c.judge_folder.result c.in_ok-test_uninterrupted.ensures.answer
+    gate_open check_of (g.H.Host.told c.args.host.now) uninterrupted judging_asked c.judge_folder.result
+    c.in_ok-test_uninterrupted.ensures.answer
     (rw c.test_uninterrupted.ensures.reads.state at c.judge_folder.ensures.answer)

@@ -7,4 +7,5 @@ use Rattle.gcu_requests.proofs.judging.judge.Goals as goal
 
 pub returns-in-Err-clause-answer : goal.returns-in-Err-clause-answer
 returns-in-Err-clause-answer c =
-    refusal_is_right (refusal c.invalid.result) (follows_by (IsValidOr (answer_of c.args.end) c.args.ctx.now c.args.config)) c.invalid.ensures.answer
+    refusal_is_right (refusal c.invalid.result)
+    (follows_by (IsValidOr (answer_of c.args.end) c.args.ctx.now c.args.config.now)) c.invalid.ensures.answer

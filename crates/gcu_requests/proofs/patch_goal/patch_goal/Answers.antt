@@ -17,4 +17,6 @@ returns-clause-answer g c =
     c.in_ok-patch.ensures.answer c.patch_start.ensures.answer c.patch_start.ensures.cause
 
 pub returns-clause-cause : goal.returns-clause-cause
-returns-clause-cause g c = always_refuses c.patch_start.result (g.H.Host.counts c.args.host.now) (g.H.Host.counts c.input_patch.new.host) c.patch_start.ensures.cause
+returns-clause-cause g c =
+    always_refuses c.patch_start.result (g.H.Host.counts c.args.host.now) (g.H.Host.counts c.input_patch.new.host)
+    c.patch_start.ensures.cause

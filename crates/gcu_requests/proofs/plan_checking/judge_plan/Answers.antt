@@ -1,27 +1,22 @@
 use Rattle.std.proofs.lemmas.Result.{err_from_is_err_and}
-use Rattle.gcu_inputs.proofs.Finding.{always_refuses}
-use Rattle.gcu_requests.proofs.PlanCheckFinding.{moves_judged, no_moves, no_planning}
+use Rattle.gcu_inputs.specs.IntentAsked.{uninterrupted}
+use Rattle.gcu_requests.specs.PlanCheckAsked.{checking_asked}
+use Rattle.gcu_requests.specs.Request.{accept_plan}
+use Rattle.gcu_requests.proofs.IntentFinding.{gate_closed, gate_open}
 use Rattle.gcu_requests.proofs.plan_checking.judge_plan.Goals as goal
 
--- there is nothing to judge by
-pub returns-in_err-planning-clause-answer : goal.returns-in_err-planning-clause-answer
-returns-in_err-planning-clause-answer g c =
+-- a change was stopped before its end
+pub returns-in_err-test_uninterrupted-clause-answer : goal.returns-in_err-test_uninterrupted-clause-answer
+returns-in_err-test_uninterrupted-clause-answer g c =
     let p = err_from_is_err_and c.from_residual.result c.from_residual.ensures.1 in
-    rw (p.1, p.2) (no_planning c.args.patch.now c.args.plan.now (g.H.Host.told c.args.host.now) c.in_err-planning.field-0.0 c.in_err-planning.ensures.answer)
-
--- there are no moves
-pub returns-in_err-moves-clause-answer : goal.returns-in_err-moves-clause-answer
-returns-in_err-moves-clause-answer g c =
-    let p = err_from_is_err_and c.from_residual-in_err-moves.result c.from_residual-in_err-moves.ensures.1 in
     rw (p.1, p.2)
-    (no_moves c.args.patch.now c.args.plan.now (g.H.Host.told c.args.host.now) c.in_ok-planning.planning c.in_err-moves.field-0.0 c.in_ok-planning.ensures.answer
-    (rw c.in_ok-planning.ensures.reads.state at c.in_err-moves.ensures.answer))
+    (gate_closed accept_plan (g.H.Host.told c.args.host.now) uninterrupted (checking_asked c.args.patch.now c.args.plan.now)
+    c.in_err-test_uninterrupted.field-0.0 c.in_err-test_uninterrupted.ensures.answer)
 
--- they are judged
+-- none was
 pub returns-clause-answer : goal.returns-clause-answer
 returns-clause-answer g c =
-    moves_judged c.args.patch.now c.args.plan.now (g.H.Host.told c.args.host.now) c.in_ok-planning.planning c.in_ok-moves.moves c.accept.result c.in_ok-planning.ensures.answer
-    (rw c.in_ok-planning.ensures.reads.state at c.in_ok-moves.ensures.answer) c.accept.ensures.answer c.accept.ensures.cause
-
-pub returns-clause-cause : goal.returns-clause-cause
-returns-clause-cause g c = always_refuses c.accept.result (g.H.Host.counts c.args.host.now) (g.H.Host.counts c.input_plan.new.host) c.accept.ensures.cause
+    gate_open accept_plan (g.H.Host.told c.args.host.now) uninterrupted
+    (checking_asked c.args.patch.now c.args.plan.now)
+    c.judge_inputs.result c.in_ok-test_uninterrupted.ensures.answer
+    (rw c.test_uninterrupted.ensures.reads.state at c.judge_inputs.ensures.answer)

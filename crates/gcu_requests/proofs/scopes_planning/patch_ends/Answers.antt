@@ -21,5 +21,6 @@ returns-in_err-goal-clause-answer c = λ budget.
 
 pub returns-clause-answer : goal.returns-clause-answer
 returns-clause-answer c = λ budget.
-    ends_made c.args.ctx.now budget (operations c.args.patch.now) c.args.stored.config c.in_ok-made.made c.in_ok-goal.goal _ refl refl
+    ends_made c.args.ctx.now budget (operations c.args.patch.now) c.args.stored.config c.in_ok-made.made
+    c.in_ok-goal.goal _ refl refl
     c.in_ok-made.ensures.answer c.in_ok-goal.ensures.answer

@@ -13,17 +13,22 @@ returns-in_err-stored-clause-answer g c = λ budget.
 
 pub returns-clause-answer : goal.returns-clause-answer
 returns-clause-answer g c = λ budget.
-    ends_found c.args.ctx.now budget (operations c.args.patch.now) (g.H.Host.told c.args.host.now) c.in_ok-stored.stored c.patch_ends.result
+    ends_found c.args.ctx.now budget (operations c.args.patch.now) (g.H.Host.told c.args.host.now) c.in_ok-stored.stored
+    c.patch_ends.result
     c.in_ok-stored.ensures.answer (c.patch_ends.ensures.answer budget)
 
 pub returns-clause-ready : goal.returns-clause-ready
 returns-clause-ready g c =
-    ends_ready c.args.ctx.now c.in_ok-stored.stored c.patch_ends.result c.requires.named c.in_ok-stored.ensures.formed c.in_ok-stored.ensures.names
+    ends_ready c.args.ctx.now c.in_ok-stored.stored c.patch_ends.result c.requires.named c.in_ok-stored.ensures.formed
+    c.in_ok-stored.ensures.names
     c.in_ok-stored.ensures.valid c.patch_ends.ensures.same c.patch_ends.ensures.valid c.patch_ends.ensures.elsewhere
 
 pub returns-clause-stands : goal.returns-clause-stands
 returns-clause-stands g c =
-    ends_stand (g.H.Host.told c.args.host.now) c.in_ok-stored.stored c.patch_ends.result c.in_ok-stored.ensures.stands c.patch_ends.ensures.same
+    ends_stand (g.H.Host.told c.args.host.now) c.in_ok-stored.stored c.patch_ends.result c.in_ok-stored.ensures.stands
+    c.patch_ends.ensures.same
 
 pub returns-clause-cause : goal.returns-clause-cause
-returns-clause-cause g c = always_refuses c.patch_ends.result (g.H.Host.counts c.args.host.now) (g.H.Host.counts c.read_start.new.host) c.patch_ends.ensures.cause
+returns-clause-cause g c =
+    always_refuses c.patch_ends.result (g.H.Host.counts c.args.host.now) (g.H.Host.counts c.read_start.new.host)
+    c.patch_ends.ensures.cause

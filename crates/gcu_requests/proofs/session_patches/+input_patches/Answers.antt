@@ -8,9 +8,11 @@ use Rattle.gcu_requests.proofs.SessionFinding.{line_found}
 use Rattle.gcu_requests.proofs.session_patches.+input_patches.Goals as goal
 
 -- the first line and the others
-first_and_others : (d : ScriptLine) (ls : List ScriptLine) → 1 ≤ length ls → get_or ls 0 d ∷ take (length ls - 1) (drop 1 ls) ≡ ls
+first_and_others : (d : ScriptLine) (ls : List ScriptLine) → 1 ≤ length ls
+    → get_or ls 0 d ∷ take (length ls - 1) (drop 1 ls) ≡ ls
 first_and_others d [] some = absurd (omega (arith, some))
-first_and_others d (l ∷ ls) some = ap (λ (ks : List ScriptLine). l ∷ ks) (take_all (length (l ∷ ls) - 1) ls (omega arith))
+first_and_others d (l ∷ ls) some =
+    ap (λ (ks : List ScriptLine). l ∷ ks) (take_all (length (l ∷ ls) - 1) ls (omega arith))
 
 pub returns-in_ok-more-in-len1-up-clause-answer : goal.returns-in_ok-more-in-len1-up-clause-answer
 returns-in_ok-more-in-len1-up-clause-answer g t c =

@@ -7,7 +7,8 @@ use Rattle.gcu_requests.proofs.session_preparing.input_script.Goals as goal
 pub returns-in_err-bytes-clause-answer : goal.returns-in_err-bytes-clause-answer
 returns-in_err-bytes-clause-answer g c =
     let p = err_from_is_err_and c.from_residual.result c.from_residual.ensures.1 in
-    rw (p.1, p.2) (no_script (g.H.Host.told c.args.host.now) c.args.path.now c.in_err-bytes.field-0.0 c.in_err-bytes.ensures.answer)
+    rw (p.1, p.2)
+    (no_script (g.H.Host.told c.args.host.now) c.args.path.now c.in_err-bytes.field-0.0 c.in_err-bytes.ensures.answer)
 
 -- what they hold
 pub returns-clause-answer : goal.returns-clause-answer
@@ -16,4 +17,6 @@ returns-clause-answer g c =
     c.in_ok-bytes.ensures.answer (rw c.items.ensures at c.script_in.ensures.answer) c.script_in.ensures.cause
 
 pub returns-clause-cause : goal.returns-clause-cause
-returns-clause-cause g c = always_refuses c.script_in.result (g.H.Host.counts c.args.host.now) (g.H.Host.counts c.input_bytes.new.host) c.script_in.ensures.cause
+returns-clause-cause g c =
+    always_refuses c.script_in.result (g.H.Host.counts c.args.host.now) (g.H.Host.counts c.input_bytes.new.host)
+    c.script_in.ensures.cause

@@ -1,3 +1,4 @@
+-- What a script of operators needs, or what is refused, at each of its readings.
 use Rattle.std.proofs.Common.{refl}
 use Rattle.std.proofs.lemmas.Result.{err_from_is_err_and}
 use Rattle.gcu_inputs.proofs.Reading.{of_files, of_inputs, reads_both}
@@ -8,7 +9,8 @@ use Rattle.gcu_requests.proofs.session_preparing.read_script_needs.Goals as goal
 pub returns-in_err-ctx-clause-answer : goal.returns-in_err-ctx-clause-answer
 returns-in_err-ctx-clause-answer g c =
     let p = err_from_is_err_and c.from_residual.result c.from_residual.ensures.1 in
-    rw (p.1, p.2) (no_script_ctx c.args.path.now c.args.budget (g.H.Host.told c.args.host.now) c.in_err-ctx.field-0.0 c.in_err-ctx.ensures.answer)
+    rw (p.1, p.2)
+    (no_script_ctx c.args.path.now c.args.budget (g.H.Host.told c.args.host.now) c.in_err-ctx.field-0.0 c.in_err-ctx.ensures.answer)
 
 -- there is no start
 pub returns-in_err-stored-clause-answer : goal.returns-in_err-stored-clause-answer

@@ -6,7 +6,8 @@ use Rattle.gcu_requests.proofs.tables_elsewhere.first_difference.Goals as goal
 pub returns-then-not-agree : goal.returns-then-not-agree
 returns-then-not-agree c = (
   c.if-not-agree.ensures,
-  passed_below (AgreeAt c.args.ctx.now c.args.of.now c.args.other.now) c.args.of.now c.loop-i.i c.loop-i.invariant c.name_at-name.result.now
+  passed_below (AgreeAt c.args.ctx.now c.args.of.now c.args.other.now) c.args.of.now c.loop-i.i c.loop-i.invariant
+      c.name_at-name.result.now
       c.len-i-end.ensures.formed.shaped.rising c.name_at-name.ensures,
 )
 

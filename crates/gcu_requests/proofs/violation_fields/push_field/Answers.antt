@@ -18,7 +18,8 @@ returns-in-Some c =
     (λ h. (
       rule_name c.in-Some.shape.now c.args.field,
       h,
-      is_missing c.args.models.now row c.args.rule c.args.field c.in-Some.shape.now c.in-MissingField.is c.in-Some.ensures,
+      is_missing c.args.models.now row c.args.rule c.args.field c.in-Some.shape.now c.in-MissingField.is
+          c.in-Some.ensures,
     ))
     c.push_rule_name.ensures
 
