@@ -29,7 +29,8 @@ print_fell old new rises =
     record { input = omega arith; disk = omega arith; print = omega (arith, rises.1); service = omega arith }
 
 pub reads_fell : {old new : Counts} → ReadsMayRise old new → NoneFell old new
-reads_fell rises = record { input = rises.input; disk = rises.disk; print = omega (arith, rises.print); service = omega (arith, rises.service) }
+reads_fell rises =
+    record { input = rises.input; disk = rises.disk; print = omega (arith, rises.print); service = omega (arith, rises.service) }
 
 pub rose_from : (a b c : ℕ) → a ≤ b → Rose b c → Rose a c
 rose_from a b c le rose = ⊎_elim (λ (less : b < c). inl (omega arith)) (λ (last : c ≡ last_count). inr last) rose
@@ -54,8 +55,10 @@ module _ (old mid new : Counts) (fell : NoneFell old mid) (rises : PrintMayRise 
 
   pub said_cause : (e : Outcome) (before after : Option State) (result : Outcome) → Refuses old mid e
       → IsSaid e (last_line e) before after mid new result → HasCause old new result
-  said_cause e before after result refuses (inl said) = printed_cause e (last_line e) before after result (later_cause e refuses) said
-  said_cause e before after result refuses (inr said) = printed_cause Memory (last_line Memory) before after result tt said
+  said_cause e before after result refuses (inl said) =
+      printed_cause e (last_line e) before after result (later_cause e refuses) said
+  said_cause e before after result refuses (inr said) =
+      printed_cause Memory (last_line Memory) before after result tt said
 
   later_end : (e : Outcome) → RefusesOrEnds old mid e → HasCause old new e
   later_end Unorderable h = tt
@@ -63,23 +66,30 @@ module _ (old mid new : Counts) (fell : NoneFell old mid) (rises : PrintMayRise 
   later_end other h = later_cause other h
 
   -- what is done has its cause while it is printed
-  pub done_cause : (text : List ℕ) (before after : Option State) (result : Outcome) → IsSaid Done text before after mid new result → HasCause old new result
+  pub done_cause : (text : List ℕ) (before after : Option State) (result : Outcome)
+      → IsSaid Done text before after mid new result → HasCause old new result
   done_cause text before after result (inl said) = printed_cause Done text before after result tt said
   done_cause text before after result (inr said) = printed_cause Memory (last_line Memory) before after result tt said
 
   -- a refusal or the end of a search is answered with its cause
   pub unsolved_cause : (e : Outcome) (before after : Option State) (result : Outcome) → RefusesOrEnds old mid e
       → IsSaid e (last_line e) before after mid new result → HasCause old new result
-  unsolved_cause e before after result ends (inl said) = printed_cause e (last_line e) before after result (later_end e ends) said
-  unsolved_cause e before after result ends (inr said) = printed_cause Memory (last_line Memory) before after result tt said
+  unsolved_cause e before after result ends (inl said) =
+      printed_cause e (last_line e) before after result (later_end e ends) said
+  unsolved_cause e before after result ends (inr said) =
+      printed_cause Memory (last_line Memory) before after result tt said
 
   told_cause : (fault : Bool) (e : Outcome) (before after : Option State) (result : Outcome) → Refuses old mid e
       → IsTold fault e before after mid new result → HasCause old new result
-  told_cause true e before after result refuses told = printed_cause e (last_line e) before after result (later_cause e refuses) told
+  told_cause true e before after result refuses told =
+      printed_cause e (last_line e) before after result (later_cause e refuses) told
   told_cause false e before after result refuses told = said_cause e before after result refuses told
 
   -- what was done or refused is answered with its cause
-  pub ended_cause : (done : Result (Unit {0}) Outcome) (before after : Option State) (result : Outcome) → IfErr done (Refuses old mid)
-      → IsTold (may_have_written (outcome_of done)) (outcome_of done) before after mid new result → HasCause old new result
+  pub ended_cause : (done : Result (Unit {0}) Outcome) (before after : Option State) (result : Outcome)
+      → IfErr done (Refuses old mid)
+      → IsTold (may_have_written (outcome_of done)) (outcome_of done) before after mid new result
+      → HasCause old new result
   ended_cause (Ok u) before after result refuses told = printed_cause Done (last_line Done) before after result tt told
-  ended_cause (Err e) before after result refuses told = told_cause (may_have_written e) e before after result refuses told
+  ended_cause (Err e) before after result refuses told =
+      told_cause (may_have_written e) e before after result refuses told

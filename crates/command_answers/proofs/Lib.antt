@@ -3,3 +3,4 @@ pub mod Causes
 pub mod Completing
 pub mod Elapsing
 pub mod PlanSaying
+pub mod Querying

@@ -30,7 +30,8 @@ abbrev request_of : code.Planning → Request
 request_of p = request.plan (work_of p)
 
 -- what a plan needs makes the request
-planned_found : (o : Option State) (from : Target) (budget : ℕ) (r : Result code.Planning Outcome) → Finds o planning_of r (planning_asked from budget)
+planned_found : (o : Option State) (from : Target) (budget : ℕ) (r : Result code.Planning Outcome)
+    → Finds o planning_of r (planning_asked from budget)
     → Finds o request_of r (plan_asked (reach from) budget)
 planned_found None from budget r h = tt
 planned_found (Some s) from budget (Ok p) h =
@@ -39,7 +40,8 @@ planned_found (Some s) from budget (Ok p) h =
       stands = tt;
     }
 planned_found (Some s) from budget (Err e) h =
-    first_refused work_of request_of e (work_asked (reach from) budget s) _ (first_refused planning_of work_of e (planning_asked from budget s) _ h)
+    first_refused work_of request_of e (work_asked (reach from) budget s) _
+    (first_refused planning_of work_of e (planning_asked from budget s) _ h)
 
 -- a target that is refused is a task that is
 task_refused : (from : Target) (e : Outcome) → Gives {X = Unit {0}} (λ u. from) refusal (Err e) (target_answer from) → Gives {X = Unit {0}} (λ u. reach from) refusal (Err e) (task_answer (reach from))
@@ -61,7 +63,8 @@ no_named (Some s) from budget e gives always =
     (found_always {X = Unit {0}} (λ u. reach from) (Err e) (task_answer (reach from)) _ (λ q same. same) (task_refused from e gives) always)
 
 -- it isn't
-pub named_found : (o : Option State) (from : Target) (budget : ℕ) (u : Unit {0}) (r : Result code.Planning Outcome) → Gives (λ v. from) refusal (Ok u) (target_answer from)
+pub named_found : (o : Option State) (from : Target) (budget : ℕ) (u : Unit {0}) (r : Result code.Planning Outcome)
+    → Gives (λ v. from) refusal (Ok u) (target_answer from)
     → Finds o planning_of r (planning_asked from budget) → Finds o request_of r (dry_run_asked (reach from) budget)
 named_found None from budget u r gives h = tt
 named_found (Some s) from budget u r gives h =
@@ -70,7 +73,8 @@ named_found (Some s) from budget u r gives h =
     (planned_found (Some s) from budget r h)
 
 -- what a search answers is said of the request
-solved_says : (asking : Asking Request) (s : State) (p : code.Planning) (r : Result (List Move) Outcome) → asking.Gives (Ok (request_of p))
+solved_says : (asking : Asking Request) (s : State) (p : code.Planning) (r : Result (List Move) Outcome)
+    → asking.Gives (Ok (request_of p))
     → IsSolved p r → SaysPlan asking s r
 solved_says asking s p (Ok ms) given h = (request_of p, given, refl, (ms, plan_text ms, (h, refl), refl))
 solved_says asking s p (Err Memory) given h = (inl refl, refl)
@@ -84,7 +88,8 @@ plan_says None asking p r h solved = tt
 plan_says (Some s) asking p r h solved = solved_says (asking s) s p r h.gives solved
 
 -- what is refused is said of the question
-pub plan_refused : (o : Option State) (asking : State → Asking Request) (e : Outcome) (old new : Counts) → Refuses old new e
+pub plan_refused : (o : Option State) (asking : State → Asking Request) (e : Outcome) (old new : Counts)
+    → Refuses old new e
     → Finds {X = code.Planning} o request_of (Err e) asking → IfSome o (λ s. SaysPlan (asking s) s (Err e))
 plan_refused None asking e old new h f = tt
 plan_refused (Some s) asking e old new h f = refused_says (asking s) s e old new h f.stands f.gives
@@ -96,7 +101,8 @@ refuses_ends old new (Budget n) never = absurd never
 refuses_ends old new other h = h
 
 -- so is the end of a search
-pub solved_ends : (p : code.Planning) (r : Result (List Move) Outcome) (old new : Counts) → IsSolved p r → IfErr r (RefusesOrEnds old new)
+pub solved_ends : (p : code.Planning) (r : Result (List Move) Outcome) (old new : Counts) → IsSolved p r
+    → IfErr r (RefusesOrEnds old new)
 solved_ends p (Ok ms) old new h = tt
 solved_ends p (Err Memory) old new h = tt
 solved_ends p (Err Unorderable) old new h = tt

@@ -2,6 +2,7 @@ pub mod Answers
 pub mod Changing
 pub mod Commands
 pub mod Crashes
+pub mod Frames
 pub mod Migrating
 pub mod PlanCommands
 pub mod Plannings

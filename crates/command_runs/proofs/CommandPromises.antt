@@ -31,8 +31,8 @@ promised_by words faults host began ended result is answers cause crash headline
       headline = λ none. record {
         printed = (headline none).printed;
         no_order = (headline none).no_order;
-        crash = λ settled left may. (headline none).crash settled left (inl may);
-        refused = λ refusal settled left may. (headline none).refused refusal settled left (inl may);
+        crash = λ left may. (headline none).crash left (inl may);
+        refused = λ refusal left may. (headline none).refused refusal left (inl may);
         quiet = (headline none).quiet;
         finished = (headline none).finished;
         rolled = (headline none).rolled;

@@ -169,8 +169,16 @@ query_given (Some (forms.demo seed ports)) none few s r (inl never) = absurd nev
 query_given (Some (forms.demo seed ports)) none few s r (inr (p, g, e)) =
     let same : request.demo p ports ≡ r = cc in subst (Query s) same (demos p ports)
 query_given (Some (forms.check_plan patch plan)) none few s r (inl never) = absurd never
-query_given (Some (forms.check_plan patch plan)) none few s r (inr (p, g, inl never)) = absurd never
-query_given (Some (forms.check_plan patch plan)) none few s r (inr (p, g, inr (ms, h, accepted))) = subst (Query s) (sym accepted.1) (accepts (length ms))
+query_given (Some (forms.check_plan patch plan)) none few s r (inr (u, g, inl never)) = absurd never
+query_given (Some (forms.check_plan patch plan)) none few s r
+    (inr (u, g, inr (c, h, inl never))) = absurd never
+query_given (Some (forms.check_plan patch plan)) none few s r
+    (inr (u, g, inr (c, h, inr (start, k, inl never)))) = absurd never
+query_given (Some (forms.check_plan patch plan)) none few s r
+    (inr (u, g, inr (c, h, inr (start, k, inr (goal, l, inl never))))) = absurd never
+query_given (Some (forms.check_plan patch plan)) none few s r
+    (inr (u, g, inr (c, h, inr (start, k, inr (goal, l, inr (ms, m, accepted)))))) =
+    subst (Query s) (sym accepted.1) (accepts (length ms))
 query_given (Some forms.status) none few s r (inl never) = absurd never
 query_given (Some forms.status) none few s r (inr (c, g, inl never)) = absurd never
 query_given (Some forms.status) none few s r (inr (c, g, inr (found, h, e))) =

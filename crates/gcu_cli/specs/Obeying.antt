@@ -14,6 +14,7 @@ use Rattle.gcu_engine.specs.Headline.{IsHeadline}
 use Rattle.gcu_engine.specs.Intending.{KeepsIntent}
 use Rattle.gcu_engine.specs.Resuming.{IsStoppedIn, Resumes}
 use Rattle.gcu_engine.specs.Scoped.{RunsScoped}
+use Rattle.gcu_engine.specs.Settling.{SettlesTasks}
 
 -- the outcome is Usage only where the words are no command, and where they are none it tells so
 pub record IsOutcomeOf (words : List (List ℕ)) (outcome : Outcome) : Type 0 where
@@ -35,6 +36,8 @@ module _ {H : Type 0} (told : H → Option State) (counts : H → Counts) (momen
         IsHeadline words s (told new) outcome (left_since new (moment old)))
     pub intent : IsUnscoped words → IfSome (told old) (λ s.
         KeepsIntent words s (left_since new (moment old)))
+    pub settles : IsUnscoped words → IfSome (told old) (λ s.
+        SettlesTasks words s (left_since old (moment old)) (left_since new (moment old)))
     pub goes : goes_on old new
     pub complete : IsUnscoped words → IfSome (told old) (λ s.
         NoneRose (counts old) (counts new) → Complete (asked words s) outcome)

@@ -13,10 +13,10 @@ use Rattle.gcu_engine.specs.Headline.{IsChangeCommand, first_words}
 
 -- ---- words
 
-same_word : (a b : List ℕ) → is_word a b ≡ true → a ≡ b
+pub same_word : (a b : List ℕ) → is_word a b ≡ true → a ≡ b
 same_word a b is = (bytes_decides a b).0 is
 
-first_true : (a b : Bool) → (a && b) ≡ true → a ≡ true
+pub first_true : (a b : Bool) → (a && b) ≡ true → a ≡ true
 first_true true b e = refl
 first_true false b e = absurd cc
 

@@ -1,6 +1,6 @@
 -- What the headline says of a command by its form, and so by its words.
 use Rattle.std.proofs.Common.{◌≡◌, ◌≢◌, ◌⊎◌, inl, inr, ℕ, List, sym, ap, subst, Option, Some, None, Ok, IfSome}
-use Rattle.host_core.specs.Crashes.{Left}
+use Rattle.host_core.specs.Crashes.{Image, Left}
 use Rattle.host_core.specs.State.{Files, State}
 use Rattle.conf_doc.specs.declared.configuration.Config.{Config}
 use Rattle.conf_store.specs.Stored.{stored}
@@ -46,10 +46,11 @@ pub record LacksOrder (f : Option Form) (s : State) : Type 0 where
   pub demonstrated : IsDemonstrated f start goal
   pub none : ¬ IsReachable (rulebook ctx) goal start goal
 
--- what the folder stands for after a crash: a command that does no task leaves that as before
+-- what the folder stands for after a crash: a command that does no task leaves that as before, unless it leaves the
+-- files as a crash might have left them when it began
 abbrev pub StandsAfter : Option Form → State → Left → Type 0
 StandsAfter (Some (forms.change task budget)) s left = IsUnacknowledged task s left ⊎ IsLastOrNext task s left
-StandsAfter other s left = stored left.files ≡ stored s.files
+StandsAfter other s left = Image s.pending s.files left.files ⊎ (stored left.files ≡ stored s.files)
 
 -- the one checkpoint that a command adds, with the stored configuration, or removes
 abbrev pub IsOneChange : Option Form → State → Files → Type 0
@@ -60,9 +61,9 @@ IsOneChange (Some (forms.delete_checkpoint name)) s files =
     points files ≡ without_point name (points s.files)
 IsOneChange other s files = ⊥
 
--- the checkpoints are as before, or with the one change that the command makes
+-- the checkpoints are as before, or with the one change that the command makes, unless the files are so
 abbrev pub PointsAfter : Option Form → State → Files → Type 0
-PointsAfter f s files = (points files ≡ points s.files) ⊎ IsOneChange f s files
+PointsAfter f s files = Image s.pending s.files files ⊎ ((points files ≡ points s.files) ⊎ IsOneChange f s files)
 
 -- ---- by its words
 
@@ -106,16 +107,26 @@ order_by_words words s some lacks = record {
         ((stores_is s.files lacks.start).1 planned.0, planned.1)
 
 -- a command that does no task leaves what the folder stood for
-pub other_by_words : (words : List (List ℕ)) (s : State) (left : Left) → StandsAfter (form words) s left → ((task : Task) → ¬ IsChangeCommand task words) → StandForSame s.files left.files
+pub other_by_words : (words : List (List ℕ)) (s : State) (left : Left) → StandsAfter (form words) s left
+    → ((task : Task) → ¬ IsChangeCommand task words)
+    → Image s.pending s.files left.files ⊎ StandForSame s.files left.files
 other_by_words words s left stands none = by (form words) (form_words words) stands
   where
-    by : (f : Option Form) → IfSome f (IsFormOf words) → StandsAfter f s left → StandForSame s.files left.files
-    by (Some (forms.change task budget)) is h = absurd (none task is)
-    by other is h = same_stands s.files left.files h
+    unchanged : Image s.pending s.files left.files ⊎ (stored left.files ≡ stored s.files)
+        → Image s.pending s.files left.files ⊎ StandForSame s.files left.files
+    unchanged (inl image) = inl image
+    unchanged (inr same) = inr (same_stands s.files left.files same)
 
-pub points_by_words : (words : List (List ℕ)) (s : State) (files : Files) → PointsAfter (form words) s files → HasWholePoints words s files
-points_by_words words s files (inl same) = inl same
-points_by_words words s files (inr one) = inr (by (form words) (form_words words) one)
+    by : (f : Option Form) → IfSome f (IsFormOf words) → StandsAfter f s left → Image s.pending s.files left.files
+        ⊎ StandForSame s.files left.files
+    by (Some (forms.change task budget)) is h = absurd (none task is)
+    by other is h = unchanged h
+
+pub points_by_words : (words : List (List ℕ)) (s : State) (files : Files) → PointsAfter (form words) s files
+    → Image s.pending s.files files ⊎ HasWholePoints words s files
+points_by_words words s files (inl image) = inl image
+points_by_words words s files (inr (inl same)) = inr (inl same)
+points_by_words words s files (inr (inr one)) = inr (inr (by (form words) (form_words words) one))
   where
     by : (f : Option Form) → IfSome f (IsFormOf words) → IsOneChange f s files → AddsPoint words s files ⊎ RemovesPoint words s files
     by (Some (forms.save_checkpoint name)) is (config, there, e) =

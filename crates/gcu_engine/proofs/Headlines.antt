@@ -1,11 +1,10 @@
 -- The promise of the whole program follows from what it answers and what a crash leaves.
 use Rattle.std.proofs.Common.{◌≡◌, ◌≢◌, ◌≤◌, ◌⊎◌, inl, inr, ℕ, suc, List, ◌++◌, length, refl, sym, ap, ◌∙◌, subst, Option, Some, None, Ok, Err, IfSome, ⊎_elim}
 use Rattle.host_core.specs.Counts.{Counts}
-use Rattle.host_core.specs.Crashes.{Image, Left, LeavesOnly, MayLeave}
+use Rattle.host_core.specs.Crashes.{Image, Left, LeavesOnly}
 use Rattle.host_core.specs.State.{State, printed}
 use Rattle.host_core.proofs.Runs.{weaker}
 use Rattle.conf_doc.specs.declared.configuration.Config.{Config}
-use Rattle.conf_store.specs.Changes.{IsSettled}
 use Rattle.conf_store.specs.Stored.{stored}
 use Rattle.checkpoints.specs.Changes.{with_point, without_point}
 use Rattle.checkpoints.specs.Migrations.{migration}
@@ -32,12 +31,12 @@ use Rattle.command_answers.specs.Commands.{LeftUnwritten}
 use Rattle.command_answers.specs.Crashes.{LeftByForm, LeftChanged, LeftEarly, LeftMeanwhile, LeftOf, LeftOfChange, LeftOfMigration, LeftWriting}
 use Rattle.command_answers.specs.Commands.{LeftToEarly}
 use Rattle.gcu_engine.specs.Folder.{Stores}
-use Rattle.gcu_engine.specs.Headline.{HasNoOrder, IsUnacknowledged, IsHeadline, IsLastOrNext, IsQuiet, PrintsTask, StoresPoint, StoresTarget}
+use Rattle.gcu_engine.specs.Headline.{HasNoOrder, IsUnacknowledged, IsHeadline, IsLastOrNext, IsQuiet, IsWhole, PrintsTask, StoresPoint, StoresTarget}
 use Rattle.command_answers.specs.Plannings.{IsUnsolved}
 use Rattle.gcu_engine.proofs.AcknowledgementCounts.{acked_is}
 use Rattle.writing_commands.proofs.ChangeEnds.{is_last_line}
 use Rattle.writing_commands.proofs.Changes.{some_is}
-use Rattle.gcu_engine.proofs.Folders.{same_stands, stores_is}
+use Rattle.gcu_engine.proofs.Folders.{stores_is}
 use Rattle.gcu_engine.proofs.FormPromises.{IsOneChange, LacksOrder, PointsAfter, StandsAfter, change_of_words, order_by_words, other_by_words, points_by_words, task_in, task_of_words}
 use Rattle.writing_commands.proofs.IntentRemovals.{begun_output, either_points, either_stored}
 use Rattle.writing_commands.proofs.LastLines.{last_line_of, refusal_line, service_last_line}
@@ -198,9 +197,6 @@ module _ (asking : Asking Request) (s now : State) where
 
 -- ---- a crash
 
-pub settled_files : (s : State) (part : List ℕ) (left : Left) → IsSettled s → MayLeave (printed part s) left → left.files ≡ s.files
-settled_files s part left clean may = subst (λ p. Image p s.files left.files) clean may.files
-
 -- what is said of a change ends with the last line of an answer
 line_said : (task : Task) (budget : ℕ) (s now : State) (e : Outcome) (text : List ℕ) → Says (change_asked task budget s) s now e text → IsLastLine text
 line_said task budget s now Done text (r, given, leaves, out) =
@@ -215,15 +211,16 @@ line_said task budget s now Unorderable text h = last_line_of Unorderable text h
 line_said task budget s now (Budget n) text h = last_line_of (Budget n) text h.2 tt
 line_said task budget s now other text h = last_line_of other text h.2 tt
 
-pub early_before : (task : Task) (budget : ℕ) (s : State) (left : Left) → IsSettled s → LeftEarly (change_asked task budget s) s left → IsUnacknowledged task s left
-early_before task budget s left clean (part, inl (now, answer, rest, says, same), may) = record {
+pub early_before : (task : Task) (budget : ℕ) (s : State) (left : Left) → LeftEarly (change_asked task budget s) s left
+    → IsUnacknowledged task s left
+early_before task budget s left (part, inl (now, answer, rest, says, same), may) = record {
   part = part;
   rest = rest;
   text = inl (line_said task budget s now answer (part ++ rest) says);
   output = may.output;
-  stands = same_stands s.files left.files (ap stored (settled_files s part left clean may));
+  files = may.files;
 }
-early_before task budget s left clean (part, inr (w, c, told, rest, given, fits, is), may) =
+early_before task budget s left (part, inr (w, c, told, rest, given, fits, is), may) =
     let g = change_given task budget s (request.change w) given in
     let asks = subst (IsWorkAsked task s) (same_change g.0 w g.2) g.1 in
     record {
@@ -231,19 +228,20 @@ early_before task budget s left clean (part, inr (w, c, told, rest, given, fits,
       rest = rest;
       text = inr (right_work task s w c.moves told asks fits.work, is);
       output = may.output;
-      stands = same_stands s.files left.files (ap stored (settled_files s part left clean may));
+      files = may.files;
     }
 
 -- so do words that are no command
-unknown_before : (task : Task) (s : State) (left : Left) → IsSettled s → LeftOf (form_asked None s) s left → IsUnacknowledged task s left
-unknown_before task s left clean (part, (now, answer, rest, says, same), inl may) = record {
+unknown_before : (task : Task) (s : State) (left : Left) → LeftOf (form_asked None s) s left
+    → IsUnacknowledged task s left
+unknown_before task s left (part, (now, answer, rest, says, same), inl may) = record {
   part = part;
   rest = rest;
   text = inl (unknown_line s now answer (part ++ rest) says).0;
   output = may.output;
-  stands = same_stands s.files left.files (ap stored (settled_files s part left clean may));
+  files = may.files;
 }
-unknown_before task s left clean (part, front, inr (r, given, h)) = absurd (no_request s r given)
+unknown_before task s left (part, front, inr (r, given, h)) = absurd (no_request s r given)
 
 -- the folder stands for one of the configurations
 at_start : (w : Work) (s : State) (c : Change) (told : List ℕ) → IsChangeFor w s c told → (k : ℕ) (left : Left) → StandAt c k left.files
@@ -276,15 +274,17 @@ changed_next task s w c told left asks fits (answered, began, a, b, inr h) =
       stands = at_start w s c told fits (acknowledged c h.answer) left (subst (λ (n : ℕ). StandAt c n left.files) k h.is.stands);
     }
 
-change_stands : (task : Task) (budget : ℕ) (s : State) (left : Left) → IsSettled s → LeftOfChange (change_asked task budget s) s left → StandsAfter (Some (forms.change task budget)) s left
-change_stands task budget s left clean (inl h) = inl (early_before task budget s left clean h)
-change_stands task budget s left clean (inr (w, c, told, given, fits, h, kept)) =
+change_stands : (task : Task) (budget : ℕ) (s : State) (left : Left) → LeftOfChange (change_asked task budget s) s left
+    → StandsAfter (Some (forms.change task budget)) s left
+change_stands task budget s left (inl h) = inl (early_before task budget s left h)
+change_stands task budget s left (inr (w, c, told, given, fits, h, kept)) =
     let g = change_given task budget s (request.change w) given in
     inr (changed_next task s w c told left (subst (IsWorkAsked task s) (same_change g.0 w g.2) g.1) fits h)
 
-change_points : (asking : Asking Request) (s : State) (left : Left) → IsSettled s → LeftOfChange asking s left → points left.files ≡ points s.files
-change_points asking s left clean (inl (part, front, may)) = ap points (settled_files s part left clean may)
-change_points asking s left clean (inr (w, c, told, given, fits, h, kept)) = kept
+change_points : (task : Task) (budget : ℕ) (s : State) (left : Left) → LeftOfChange (change_asked task budget s) s left
+    → PointsAfter (Some (forms.change task budget)) s left.files
+change_points task budget s left (inl (part, front, may)) = inl may.files
+change_points task budget s left (inr (w, c, told, given, fits, h, kept)) = inr (inl kept)
 
 writing_stands : (r : Request) (s : State) (left : Left) → LeftWriting r s left → stored left.files ≡ stored s.files
 writing_stands (request.delete_checkpoint name) s left h = h.files.kept
@@ -292,9 +292,10 @@ writing_stands (request.save_checkpoint name config) s left h = h.files.kept
 writing_stands request.abandon s left h = either_stored s.files left.files h.files
 writing_stands other s left never = absurd never
 
-other_stands : (asking : Asking Request) (s : State) (left : Left) → IsSettled s → LeftOf asking s left → stored left.files ≡ stored s.files
-other_stands asking s left clean (part, front, inl may) = ap stored (settled_files s part left clean may)
-other_stands asking s left clean (part, front, inr (r, given, h)) = writing_stands r (printed part s) left h
+other_stands : (asking : Asking Request) (s : State) (left : Left) → LeftOf asking s left
+    → Image s.pending s.files left.files ⊎ (stored left.files ≡ stored s.files)
+other_stands asking s left (part, front, inl may) = inl may.files
+other_stands asking s left (part, front, inr (r, given, h)) = inr (writing_stands r (printed part s) left h)
 
 -- the change of a request is that of its form
 one_change : (f : Option Form) (s now : State) (r : Request) (left : Left) → now.files ≡ s.files → IsRequestOf f s r → LeftWriting r now left
@@ -318,39 +319,51 @@ one_change (Some forms.list_checkpoints) s now r left files (names, same) h = ab
 one_change (Some forms.migrate_checkpoints) s now r left files same h = absurd (subst (λ (q : Request). LeftWriting q now left) (sym same) h)
 one_change None s now r left files never h = absurd never
 
-other_points : (f : Option Form) (s : State) (left : Left) → IsSettled s → LeftOf (form_asked f s) s left
-    → (points left.files ≡ points s.files) ⊎ IsOneChange f s left.files
-other_points f s left clean (part, front, inl may) = inl (ap points (settled_files s part left clean may))
-other_points f s left clean (part, front, inr (r, given, h)) = one_change f s (printed part s) r left refl (requested f s r given) h
+other_points : (f : Option Form) (s : State) (left : Left) → LeftOf (form_asked f s) s left → PointsAfter f s left.files
+other_points f s left (part, front, inl may) = inl may.files
+other_points f s left (part, front, inr (r, given, h)) =
+    inr (one_change f s (printed part s) r left refl (requested f s r given) h)
 
 -- a migration leaves the folder standing for the same, and all checkpoints
-migration_stands : (asking : Asking Request) (s : State) (left : Left) → IsSettled s → LeftOfMigration asking s left → stored left.files ≡ stored s.files
-migration_stands asking s left clean (inl h) = other_stands asking s left clean h
-migration_stands asking s left clean (inr (news, given, inl h)) = h.same.kept
-migration_stands asking s left clean (inr (news, given, inr h)) = h.is.same.kept
+migration_stands : (asking : Asking Request) (s : State) (left : Left) → LeftOfMigration asking s left
+    → Image s.pending s.files left.files ⊎ (stored left.files ≡ stored s.files)
+migration_stands asking s left (inl h) = other_stands asking s left h
+migration_stands asking s left (inr (news, given, inl h)) = inr h.same.kept
+migration_stands asking s left (inr (news, given, inr h)) = inr h.is.same.kept
 
-migration_points : (s : State) (left : Left) → IsSettled s → LeftOfMigration (migrate_asked s) s left
-    → (points left.files ≡ points s.files) ⊎ IsOneChange (Some forms.migrate_checkpoints) s left.files
-migration_points s left clean (inl h) = other_points (Some forms.migrate_checkpoints) s left clean h
-migration_points s left clean (inr (news, given, inl h)) = inl h.same.points
-migration_points s left clean (inr (news, given, inr h)) = inl h.is.same.points
+migration_points : (s : State) (left : Left) → LeftOfMigration (migrate_asked s) s left
+    → PointsAfter (Some forms.migrate_checkpoints) s left.files
+migration_points s left (inl h) = other_points (Some forms.migrate_checkpoints) s left h
+migration_points s left (inr (news, given, inl h)) = inr (inl h.same.points)
+migration_points s left (inr (news, given, inr h)) = inr (inl h.is.same.points)
 
 -- what the command that words are leaves
-form_stands : (f : Option Form) (s : State) (left : Left) → IsSettled s → LeftByForm f s left → StandsAfter f s left
-form_stands (Some (forms.change task budget)) s left clean h = change_stands task budget s left clean h
-form_stands (Some forms.migrate_checkpoints) s left clean h = migration_stands (migrate_asked s) s left clean h
-form_stands other s left clean h = other_stands (form_asked other s) s left clean h
+form_stands : (f : Option Form) (s : State) (left : Left) → LeftByForm f s left → StandsAfter f s left
+form_stands (Some (forms.change task budget)) s left h = change_stands task budget s left h
+form_stands (Some forms.migrate_checkpoints) s left h = migration_stands (migrate_asked s) s left h
+form_stands other s left h = other_stands (form_asked other s) s left h
 
-form_points : (f : Option Form) (s : State) (left : Left) → IsSettled s → LeftByForm f s left → PointsAfter f s left.files
-form_points (Some (forms.change task budget)) s left clean h = inl (change_points (change_asked task budget s) s left clean h)
-form_points (Some forms.migrate_checkpoints) s left clean h = migration_points s left clean h
-form_points other s left clean h = other_points other s left clean h
+form_points : (f : Option Form) (s : State) (left : Left) → LeftByForm f s left → PointsAfter f s left.files
+form_points (Some (forms.change task budget)) s left h = change_points task budget s left h
+form_points (Some forms.migrate_checkpoints) s left h = migration_points s left h
+form_points other s left h = other_points other s left h
+
+-- what is said of it by the words
+pub whole_of : (words : List (List ℕ)) (s : State) (left : Left) → LeftByForm (form words) s left → IsWhole words s left
+whole_of words s left h = record {
+  change = λ task is. changing task (change_of_words task words is);
+  other = other_by_words words s left (form_stands (form words) s left h);
+  points_are = points_by_words words s left.files (form_points (form words) s left h);
+}
+  where
+    changing : (task : Task) → (form words ≡ None) ⊎ ((budget : ℕ) × (form words ≡ Some (forms.change task budget)))
+        → IsUnacknowledged task s left ⊎ IsLastOrNext task s left
+    changing task (inl none) =
+        inl (unknown_before task s left (subst (λ (f : Option Form). LeftByForm f s left) none h))
+    changing task (inr (budget, e)) =
+        subst (λ (f : Option Form). StandsAfter f s left) e (form_stands (form words) s left h)
 
 -- ---- a crash in a command that refuses
-
--- of a host that tells its state the files are as before, where nothing is pending then
-abbrev KeepsFiles : Option State → Left → Type 0
-KeepsFiles o left = IfSome o (λ s. IsSettled s → left.files ≡ s.files)
 
 -- it never writes
 abbrev pub IsQuery : Option Form → Type 0
@@ -376,44 +389,41 @@ query_unwritten (Some forms.check) s now r left query same h = subst (λ (q : Re
 query_unwritten (Some forms.list_checkpoints) s now r left query (names, same) h = subst (λ (q : Request). LeftWriting q now left) (sym same) h
 query_unwritten None s now r left query never h = never
 
-query_keeps : (f : Option Form) (s : State) (left : Left) → IsQuery f → IsSettled s → LeftOf (form_asked f s) s left → left.files ≡ s.files
-query_keeps f s left query clean (part, front, inl may) = settled_files s part left clean may
-query_keeps f s left query clean (part, front, inr (r, given, h)) = absurd (query_unwritten f s (printed part s) r left query (requested f s r given) h)
+query_keeps : (f : Option Form) (s : State) (left : Left) → IsQuery f → LeftOf (form_asked f s) s left
+    → Image s.pending s.files left.files
+query_keeps f s left query (part, front, inl may) = may.files
+query_keeps f s left query (part, front, inr (r, given, h)) =
+    absurd (query_unwritten f s (printed part s) r left query (requested f s r given) h)
 
-form_keeps : (f : Option Form) (s : State) (left : Left) → IsQuery f → IsSettled s → LeftByForm f s left → left.files ≡ s.files
-form_keeps (Some (forms.change task budget)) s left never clean h = absurd never
-form_keeps (Some forms.migrate_checkpoints) s left never clean h = absurd never
-form_keeps other s left query clean h = query_keeps other s left query clean h
+form_keeps : (f : Option Form) (s : State) (left : Left) → IsQuery f → LeftByForm f s left
+    → Image s.pending s.files left.files
+form_keeps (Some (forms.change task budget)) s left never h = absurd never
+form_keeps (Some forms.migrate_checkpoints) s left never h = absurd never
+form_keeps other s left query h = query_keeps other s left query h
 
-words_keep : (words : List (List ℕ)) (f : Option Form) (o : Option State) (left : Left) → f ≡ form words → IsQuery f → LeftMeanwhile words o left → KeepsFiles o left
+words_keep : (words : List (List ℕ)) (f : Option Form) (o : Option State) (left : Left) → f ≡ form words → IsQuery f
+    → LeftMeanwhile words o left → LeftUnwritten o left
 words_keep words f None left is query h = tt
-words_keep words f (Some s) left is query h = λ clean. form_keeps f s left query clean (subst (λ (g : Option Form). LeftByForm g s left) (sym is) h)
+words_keep words f (Some s) left is query h =
+    form_keeps f s left query (subst (λ (g : Option Form). LeftByForm g s left) (sym is) h)
 
-early_keeps : (task : Task) (budget : ℕ) (o : Option State) (left : Left) → LeftToEarly (change_asked task budget) o left → KeepsFiles o left
+early_keeps : (task : Task) (budget : ℕ) (o : Option State) (left : Left)
+    → LeftToEarly (change_asked task budget) o left → LeftUnwritten o left
 early_keeps task budget None left h = tt
-early_keeps task budget (Some s) left (part, front, may) = λ clean. settled_files s part left clean may
-
-unwritten_keeps : (o : Option State) (left : Left) → LeftUnwritten o left → KeepsFiles o left
-unwritten_keeps None left h = tt
-unwritten_keeps (Some s) left h = λ clean. subst (λ p. Image p s.files left.files) clean h
+early_keeps task budget (Some s) left (part, front, may) = may.files
 
 -- ---- all of it
 
 module _ {H : Type 0} (moment : H → ℕ) (left_since : H → ℕ → Left → Type 0) where
   headline_of : (words : List (List ℕ)) (s : State) (after : Option State) (old new : H) (before later : Counts) (result : Outcome)
       → Answers words (Some s) after before later result → LeavesOnly moment left_since old new (LeftMeanwhile words (Some s))
-      → (IsRefusal result → LeavesOnly moment left_since old new (KeepsFiles (Some s)))
+      → (IsRefusal result → LeavesOnly moment left_since old new (LeftUnwritten (Some s)))
       → IsHeadline words s after result (left_since new (moment old))
   headline_of words s after old new before later result answers crash keeps = record {
     printed = λ task is. prints task (task_of_words task words is);
     no_order = no_order_is words s after before later result answers;
-    crash = λ clean left since.
-        record {
-          change = λ task is. changing task clean left since (change_of_words task words is);
-          other = other_by_words words s left (form_stands (form words) s left clean (crash.each left since));
-          points_are = points_by_words words s left.files (form_points (form words) s left clean (crash.each left since));
-        };
-    refused = λ any clean left since. (keeps any).each left since clean;
+    crash = λ left since. whole_of words s left (crash.each left since);
+    refused = λ any left since. (keeps any).each left since;
     quiet = λ any. quiet_is (asked words s) s answers.0 after answers.1 answers.2 before later result answers.3 any;
     finished = λ from is done. changes from (change_of_words (reach from) words is) done;
     rolled = λ name is done. rolls_back name s after (changes (rolled_back name) (change_of_words (reach (rolled_back name)) words is) done);
@@ -424,13 +434,6 @@ module _ {H : Type 0} (moment : H → ℕ) (left_since : H → ℕ → Left → 
           let h = subst (λ (f : Option Form). Leaves (form_asked f s) s after before later result) none answers in
           unknown_prints task s h.0 after before later h.1 h.2 result h.3
       prints task (inr e) = plans_print (form words) task s after before later result e answers
-
-      changing : (task : Task) → IsSettled s → (left : Left) → left_since new (moment old) left → (form words ≡ None) ⊎ ((budget : ℕ) × (form words ≡ Some (forms.change task budget)))
-          → IsUnacknowledged task s left ⊎ IsLastOrNext task s left
-      changing task clean left since (inl none) =
-          inl (unknown_before task s left clean (subst (λ (f : Option Form). LeftByForm f s left) none (crash.each left since)))
-      changing task clean left since (inr (budget, e)) =
-          subst (λ (f : Option Form). StandsAfter f s left) e (form_stands (form words) s left clean (crash.each left since))
 
       changes : (from : Target) → (form words ≡ None) ⊎ ((budget : ℕ) × (form words ≡ Some (forms.change (reach from) budget))) → result ≡ Done → StoresTarget from s after
       changes from (inl none) done =
@@ -445,7 +448,7 @@ module _ {H : Type 0} (moment : H → ℕ) (left_since : H → ℕ → Left → 
   -- of a host that may not tell its state
   headline_in : (words : List (List ℕ)) (o after : Option State) (old new : H) (before later : Counts) (result : Outcome)
       → Answers words o after before later result → LeavesOnly moment left_since old new (LeftMeanwhile words o)
-      → (IsRefusal result → LeavesOnly moment left_since old new (KeepsFiles o))
+      → (IsRefusal result → LeavesOnly moment left_since old new (LeftUnwritten o))
       → IfSome o (λ s. IsHeadline words s after result (left_since new (moment old)))
   headline_in words None after old new before later result answers crash keeps = tt
   headline_in words (Some s) after old new before later result answers crash keeps = headline_of words s after old new before later result answers crash keeps
@@ -456,7 +459,8 @@ module _ {H : Type 0} (moment : H → ℕ) (left_since : H → ℕ → Left → 
       → IfSome o (λ s. IsHeadline words s after result (left_since new (moment old)))
   headline words f o after old new before later result is query answers crash =
       headline_in words o after old new before later result answers crash
-      (λ any. weaker moment left_since old new (LeftMeanwhile words o) (KeepsFiles o) (λ left h. words_keep words f o left is query h) crash)
+      (λ any. weaker moment left_since old new (LeftMeanwhile words o) (LeftUnwritten o)
+      (λ left h. words_keep words f o left is query h) crash)
 
   -- of words whose command does a task
   pub change_headline : (words : List (List ℕ)) (task : Task) (budget : ℕ) (o after : Option State) (old new : H) (before later : Counts) (result : Outcome)
@@ -465,7 +469,8 @@ module _ {H : Type 0} (moment : H → ℕ) (left_since : H → ℕ → Left → 
       → IfSome o (λ s. IsHeadline words s after result (left_since new (moment old)))
   change_headline words task budget o after old new before later result answers crash early =
       headline_in words o after old new before later result answers crash
-      (λ any. weaker moment left_since old new (LeftToEarly (change_asked task budget) o) (KeepsFiles o) (λ left h. early_keeps task budget o left h) (early any))
+      (λ any. weaker moment left_since old new (LeftToEarly (change_asked task budget) o) (LeftUnwritten o)
+      (λ left h. early_keeps task budget o left h) (early any))
 
   -- of words whose command writes otherwise
   pub early_headline : (words : List (List ℕ)) (o after : Option State) (old new : H) (before later : Counts) (result : Outcome)
@@ -473,5 +478,4 @@ module _ {H : Type 0} (moment : H → ℕ) (left_since : H → ℕ → Left → 
       → (IsRefusal result → LeavesOnly moment left_since old new (LeftUnwritten o))
       → IfSome o (λ s. IsHeadline words s after result (left_since new (moment old)))
   early_headline words o after old new before later result answers crash early =
-      headline_in words o after old new before later result answers crash
-      (λ any. weaker moment left_since old new (LeftUnwritten o) (KeepsFiles o) (λ left h. unwritten_keeps o left h) (early any))
+      headline_in words o after old new before later result answers crash early

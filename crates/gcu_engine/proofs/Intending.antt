@@ -5,7 +5,6 @@ use Rattle.host_core.specs.Crashes.{Left, LeavesOnly}
 use Rattle.host_core.specs.State.{Files, State}
 use Rattle.conf_doc.specs.Texts.{file_text}
 use Rattle.conf_doc.specs.declared.configuration.Config.{Config}
-use Rattle.conf_store.specs.Changes.{IsSettled}
 use Rattle.conf_store.specs.Files.{intent_file}
 use Rattle.conf_store.specs.Puts.{IsSame}
 use Rattle.conf_store.specs.Stored.{stored}
@@ -32,7 +31,7 @@ use Rattle.gcu_engine.proofs.AcknowledgementCounts.{acked_is}
 use Rattle.writing_commands.proofs.ChangeEnds.{is_last_line}
 use Rattle.writing_commands.proofs.IntentRemovals.{begun_output}
 use Rattle.writing_commands.proofs.Closing.{at_first}
-use Rattle.gcu_engine.proofs.Headlines.{early_before, settled_files}
+use Rattle.gcu_engine.proofs.Headlines.{early_before}
 use Rattle.gcu_engine.proofs.PlanPrints.{same_change}
 use Rattle.gcu_engine.proofs.Requests.{change_given}
 use Rattle.gcu_engine.proofs.RightPlans.{IsWorkAsked, right_work}
@@ -108,10 +107,10 @@ module _ (task : Task) (s : State) (w : Work) (c : Change) (told : List ℕ) (as
 
 -- ---- of a command
 
-change_intent : (task : Task) (budget : ℕ) (s : State) (left : Left) → IsSettled s → LeftOfChange (change_asked task budget s) s left → HasIntent task s left
-change_intent task budget s left clean (inl early) =
-    inl (early_before task budget s left clean early, ap (λ (f : Files). get f intent_file) (settled_files s early.0 left clean early.2))
-change_intent task budget s left clean (inr (w, c, told, given, fits, h, kept)) =
+pub change_intent : (task : Task) (budget : ℕ) (s : State) (left : Left)
+    → LeftOfChange (change_asked task budget s) s left → HasIntent task s left
+change_intent task budget s left (inl early) = inl (early_before task budget s left early)
+change_intent task budget s left (inr (w, c, told, given, fits, h, kept)) =
     let g = change_given task budget s (request.change w) given in
     inr (intended_next task s w c told (subst (IsWorkAsked task s) (same_change g.0 w g.2) g.1) fits left h)
 
@@ -120,5 +119,5 @@ module _ {H : Type 0} (moment : H → ℕ) (left_since : H → ℕ → Left → 
   pub keeps_intent : (words : List (List ℕ)) (o : Option State) (old new : H) → LeavesOnly moment left_since old new (LeftMeanwhile words o)
       → IfSome o (λ s. intending.KeepsIntent words s (left_since new (moment old)))
   keeps_intent words None old new run = tt
-  keeps_intent words (Some s) old new run = λ task budget is clean left since.
-      change_intent task budget s left clean (subst (λ (f : Option Form). LeftByForm f s left) is (run.each left since))
+  keeps_intent words (Some s) old new run = λ task budget is left since.
+      change_intent task budget s left (subst (λ (f : Option Form). LeftByForm f s left) is (run.each left since))

@@ -13,7 +13,9 @@ mod PatchTexts
 mod PlanPrints
 mod Requests
 mod Resuming
+mod RightAnswers
 mod RightPlans
 mod RulesValues
 mod Scoping
+mod Settling
 mod OtherTables

@@ -137,8 +137,12 @@ preview_given path s r (inr (c, made, e)) = (c, request_is (request.preview c) r
 
 accept_given : (patch plan : List ℕ) (s : State) (r : Request) → (check_plan_asked patch plan s).Gives (Ok r) → (count : ℕ) × (request.accept_plan count ≡ r)
 accept_given patch plan s r (inl never) = absurd never
-accept_given patch plan s r (inr (p, read, inl never)) = absurd never
-accept_given patch plan s r (inr (p, read, inr (ms, held, (is_plan, same)))) = (length ms, sym same)
+accept_given patch plan s r (inr (u, gate, inl never)) = absurd never
+accept_given patch plan s r (inr (u, gate, inr (ctx, read, inl never))) = absurd never
+accept_given patch plan s r (inr (u, gate, inr (ctx, read, inr (start, is, inl never)))) = absurd never
+accept_given patch plan s r (inr (u, gate, inr (ctx, read, inr (start, is, inr (goal, made, inl never))))) = absurd never
+accept_given patch plan s r (inr (u, gate, inr (ctx, read, inr (start, is, inr (goal, made, inr (ms, held, (is_plan, same))))))) =
+    (length ms, sym same)
 
 list_given : (s : State) (r : Request) → (list_asked s).Gives (Ok r) → IsRequestOf (Some forms.list_checkpoints) s r
 list_given s r (inl never) = absurd never

@@ -41,8 +41,7 @@ pub record AreModelsIn (s : State) (models : ModelSet) : Type 0 where
   pub listed : Holds s (codes "models.list") paths_of paths
   pub files : List (List Declaration)
   pub hold : HoldFiles s paths files
-  pub are : (readers : Readers) → AreTrue readers
-      → models ≡ models_of (modules_of files) readers
+  pub are : (readers : Readers) → AreTrue readers → models ≡ models_of (modules_of files) readers
 
 -- the input at a path has bytes whose JSON value is this
 abbrev pub HoldsJson : State → List ℕ → Data → Type 0

@@ -11,11 +11,10 @@
 use Rattle.std.specs.Prelude.{◌≡◌, ◌≢◌, ◌≤◌, ◌⊎◌, ℕ, suc, List, [], ◌∷◌, ◌++◌, codes, length, Contains, Option, Some}
 use Rattle.std.specs.FinMap.{FinMap, empty, get, insert, remove}
 use Rattle.std.specs.List.{flat_map}
-use Rattle.host_core.specs.Crashes.{Left}
+use Rattle.host_core.specs.Crashes.{Image, Left}
 use Rattle.host_core.specs.Names.{name_cmp}
 use Rattle.host_core.specs.State.{Files, State}
 use Rattle.conf_doc.specs.declared.configuration.Config.{Config}
-use Rattle.conf_store.specs.Changes.{IsSettled}
 use Rattle.patch_core.specs.Indexes.{number}
 use Rattle.checkpoints.specs.Changes.{with_point, without_point}
 use Rattle.checkpoints.specs.Points.{points}
@@ -131,14 +130,15 @@ pub record HasNoOrder (words : List (List ℕ)) (s : State) : Type 0 where
 
 -- ---- a crash
 
--- nothing is acknowledged, and the folder stands for the same as before
+-- nothing is acknowledged, and each file is as before, or, where something was pending, as a crash might have left it
+-- when the command began
 pub record IsUnacknowledged (task : Task) (s : State) (left : Left) : Type 0 where
   pub part : List ℕ
   pub rest : List ℕ
   pub text : IsLastLine (part ++ rest)
       ⊎ ((right : IsRightWork task s) × (right.text ≡ part ++ rest))
   pub output : left.output ≡ s.output ++ part
-  pub stands : StandForSame s.files left.files
+  pub files : Image s.pending s.files left.files
 
 -- no whole acknowledgement: less than all of the next one, or a front of the last line
 abbrev pub IsNoneWhole : ℕ → List ℕ → Type 0
@@ -178,13 +178,13 @@ HasWholePoints words s files =
     (points files ≡ points s.files) ⊎ (AddsPoint words s files ⊎ RemovesPoint words s files)
 
 -- what a crash leaves: of a command that does a task what was there or one of its configurations, of another one
--- what the folder stood for
+-- what was there or what the folder stood for
 pub record IsWhole (words : List (List ℕ)) (s : State) (left : Left) : Type 0 where
   pub change : (task : Task) → IsChangeCommand task words
       → IsUnacknowledged task s left ⊎ IsLastOrNext task s left
   pub other : ((task : Task) → ¬ IsChangeCommand task words)
-      → StandForSame s.files left.files
-  pub points_are : HasWholePoints words s left.files
+      → Image s.pending s.files left.files ⊎ StandForSame s.files left.files
+  pub points_are : Image s.pending s.files left.files ⊎ HasWholePoints words s left.files
 
 -- ---- a finished change
 
@@ -215,16 +215,16 @@ pub record IsQuiet (s : State) (after : Option State) : Type 0 where
 
 -- ---- all of it
 
--- the promise, of a host in that state with nothing pending when the command begins, and of what a crash
--- leaves since then
+-- the promise, of a host in that state when the command begins, and of what a crash leaves since then. Where nothing
+-- is pending then, a crash that leaves the files as it might have left them then leaves them as they were.
 pub record IsHeadline (words : List (List ℕ)) (s : State) (after : Option State) (result : Outcome)
     (IsLeftSince : Left → Type 0) : Type 0 where
   pub printed : (task : Task) → IsTaskCommand task words → PrintsTask task s after
   pub no_order : result ≡ Unorderable → HasNoOrder words s
-  pub crash : IsSettled s → (left : Left) → IsLeftSince left → IsWhole words s left
+  pub crash : (left : Left) → IsLeftSince left → IsWhole words s left
   -- a crash in a command with another answer than those of 0, 4, 5 and 6 leaves the files from before
-  pub refused : IsRefusal result → IsSettled s
-      → (left : Left) → IsLeftSince left → left.files ≡ s.files
+  pub refused : IsRefusal result → (left : Left) → IsLeftSince left
+      → Image s.pending s.files left.files
   pub quiet : IsRefusal result → IsQuiet s after
   pub finished : (from : Target) → IsChangeCommand (reach from) words → result ≡ Done
       → StoresTarget from s after

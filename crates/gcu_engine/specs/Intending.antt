@@ -5,7 +5,6 @@ use Rattle.host_core.specs.Crashes.{Left}
 use Rattle.host_core.specs.State.{Files, State}
 use Rattle.conf_doc.specs.Texts.{file_text}
 use Rattle.conf_doc.specs.declared.configuration.Config.{Config}
-use Rattle.conf_store.specs.Changes.{IsSettled}
 use Rattle.conf_store.specs.Files.{intent_file}
 use Rattle.conf_store.specs.Stored.{stored}
 use Rattle.move_core.specs.Plans.{conf}
@@ -46,12 +45,12 @@ pub record IsIntended (task : Task) (s : State) (left : Left) : Type 0 where
   pub between : (config : Config) → stored left.files ≡ Ok config → config ≢ right.start
       → (done < length right.moves) ⊎ (config ≢ goal) → HoldsText goal left.files
 
--- nothing is done, and it is as at the beginning; or so far as some moves are done
+-- nothing is done, and it is as at the beginning with all other files; or so far as some moves are done
 abbrev pub HasIntent : Task → State → Left → Type 0
-HasIntent task s left = (IsUnacknowledged task s left × IsKept s left) ⊎ IsIntended task s left
+HasIntent task s left = IsUnacknowledged task s left ⊎ IsIntended task s left
 
 -- at each moment of a command that does a task a crash leaves it so
 abbrev pub KeepsIntent : List (List ℕ) → State → (Left → Type 0) → Type 0
 KeepsIntent words s IsLeftSince =
-    (task : Task) (budget : ℕ) → form words ≡ Some (change task budget) → IsSettled s
+    (task : Task) (budget : ℕ) → form words ≡ Some (change task budget)
     → (left : Left) → IsLeftSince left → HasIntent task s left

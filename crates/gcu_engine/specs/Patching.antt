@@ -97,8 +97,7 @@ IsPatched (op ∷ ops) d e = (next : Document) × IsResult op d next × IsPatche
 
 -- a JSON value has the members of the operation's document; its others play no part
 abbrev pub IsOperation : values.Data → Operation → Type 0
-IsOperation x op =
-    All (λ m. get m.0 x ≡ Some (value m.1)) (members_in (operation_document op))
+IsOperation x op = All (λ m. get m.0 x ≡ Some (value m.1)) (members_in (operation_document op))
 
 -- each element is the operation that stands in its place
 abbrev pub AreElements : values.Items → List Operation → Type 0

@@ -1,4 +1,4 @@
-//! Laws of what the headline says of inputs and folders, which no code runs.
+//! Laws of what the headline says of inputs and folders, and of the right answers to words, which no code runs.
 ghost use Rattle.std.specs.Prelude.{◌≡◌, ◌↔◌, ℕ, List, Ok, Some};
 ghost use Rattle.serde_json.specs.Data.{Data};
 ghost use Rattle.host_core.specs.State.{Files};
@@ -12,8 +12,12 @@ ghost use Rattle.conf_store.specs.Stored.{stored};
 ghost use Rattle.move_core.specs.RulesFile.{rules};
 ghost use Rattle.move_core.specs.declared.settings.Settings.{Settings};
 ghost use Rattle.gcu_engine.specs.Folder.{Stores};
+ghost use Rattle.gcu_engine.specs.OneAnswer.{RightAnswersAreOne};
 ghost use Rattle.gcu_engine.specs.Patching.{HoldOperations, IsPatched};
 ghost use Rattle.gcu_engine.specs.RulesValues.{IsSettings};
+
+use gcu_requests::asked_has_one_answer;
+use scope_commands::plans_of_scopes_are_one;
 
 /// The settings that are read of a rules file are those that its JSON value says.
 pub fn settings_read_are_said()
@@ -37,3 +41,12 @@ pub fn folders_read_are_said()
     ensures { (files : Files) (config : Configuration)
         → Stores files config ↔ (stored files ≡ Ok config) }
 {}
+
+/// Words have one right answer in each state, the first refusal or the request, whichever scopes they name: of a
+/// command over the files of one ASIC, and of a change of several scopes, too.
+pub fn right_answers_are_one()
+    ensures { RightAnswersAreOne }
+{
+    asked_has_one_answer();
+    plans_of_scopes_are_one();
+}

@@ -9,5 +9,7 @@ mod scoped;
 pub use conf_check::RuleName;
 pub use conf_store::StoredWhy;
 pub use gcu_output::{Outcome, PointWhy};
-pub use laws::{folders_read_are_said, patches_read_are_said, settings_read_are_said};
+pub use laws::{
+    folders_read_are_said, patches_read_are_said, right_answers_are_one, settings_read_are_said,
+};
 pub use run_command::run;

@@ -12,6 +12,7 @@ ghost use Rattle.gcu_engine.specs.Headline.{IsHeadline};
 ghost use Rattle.gcu_engine.specs.Intending.{KeepsIntent};
 ghost use Rattle.gcu_engine.specs.Resuming.{IsStoppedIn, Resumes};
 ghost use Rattle.gcu_engine.specs.Scoped.{RunsScoped};
+ghost use Rattle.gcu_engine.specs.Settling.{SettlesTasks};
 
 use crate::Outcome;
 use crate::run_form::run_form;
@@ -59,6 +60,11 @@ pub fn run<H: Host>(alloc: Global, words: &[Txt], kit: &mut Kit, host: &mut H) -
     // While a change is done `intent` holds its goal, unless nothing is written yet or all is.
     ensures intent { IsUnscoped words.now → IfSome (H.told host.old)
         (λ s. KeepsIntent words.now s (H.left_since host.new (H.moment host.old))) }
+    // Where something is pending, a change settles it first: what a crash leaves that it couldn't have left before
+    // is as with nothing pending.
+    ensures settles { IsUnscoped words.now → IfSome (H.told host.old)
+        (λ s. SettlesTasks words.now s (H.left_since host.old (H.moment host.old))
+        (H.left_since host.new (H.moment host.old))) }
     // What the host's calls keep is kept.
     ensures goes { H.goes_on host.old host.new }
     // The words alone tell whether they are a command.

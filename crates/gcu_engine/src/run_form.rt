@@ -14,6 +14,7 @@ ghost use Rattle.command_answers.specs.Crashes.{LeftMeanwhile};
 ghost use Rattle.gcu_engine.specs.Headline.{IsHeadline};
 ghost use Rattle.gcu_engine.specs.Intending.{KeepsIntent};
 ghost use Rattle.gcu_engine.specs.Resuming.{IsStoppedIn, Resumes};
+ghost use Rattle.gcu_engine.specs.Settling.{SettlesTasks};
 
 use crate::Outcome;
 use gcu_output::{say, show};
@@ -51,6 +52,10 @@ pub(crate) fn run_form<H: Host>(
     ensures intent { (words : List (List ℕ)) → form words ≡ form_view command.entry
         → IfSome (H.told host.old)
         (λ s. KeepsIntent words s (H.left_since host.new (H.moment host.old))) }
+    ensures settles { (words : List (List ℕ)) → form words ≡ form_view command.entry
+        → IfSome (H.told host.old)
+        (λ s. SettlesTasks words s (H.left_since host.old (H.moment host.old))
+        (H.left_since host.new (H.moment host.old))) }
     ensures goes { H.goes_on host.old host.new }
     ensures usage { result ≡ usage → form_view command.entry ≡ None }
     ensures only_usage { form_view command.entry ≡ None → TellsUsage result }

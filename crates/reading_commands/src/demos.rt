@@ -1,25 +1,18 @@
 //! `gcu demo SEED N`: how many steps a plan between two generated configurations has.
-ghost use Rattle.std.specs.Prelude.{◌≡◌, ◌≤◌, ◌++◌, IfErr, IfOk, IfSome, OnOk, string_bytes};
-ghost use Rattle.host_core.specs.Counts.{NoneFell, PrintMayRise};
-ghost use Rattle.host_core.specs.Crashes.{Elapses, LeavesOnly};
+ghost use Rattle.std.specs.Prelude.{◌≡◌, ◌≤◌, ◌++◌, IfOk, OnOk, string_bytes};
 ghost use Rattle.host_core.specs.Names.{longest_plain_name};
 ghost use Rattle.gcu_demo.specs.Demo.{most_ports};
-ghost use Rattle.gcu_output.specs.Printing.{LeftInText, IsSaid};
-ghost use Rattle.gcu_output.specs.Lines.{last_line, line_feed};
-ghost use Rattle.gcu_output.specs.declared.outcomes.Outcome.TheVariants.{Done as done, Usage as usage};
-ghost use Rattle.gcu_inputs.specs.Reads.{OnlyReads};
+ghost use Rattle.gcu_output.specs.Lines.{line_feed};
 ghost use Rattle.gcu_requests.specs.DemoAsked.{demo_asked};
-ghost use Rattle.command_answers.specs.Answers.{HasCause};
-ghost use Rattle.command_answers.specs.Commands.{AnswersTo, CompleteTo, LeftTo};
-ghost use Rattle.command_answers.specs.PlanCommands.{RefusesOrEnds, SaysSteps};
+ghost use Rattle.command_answers.specs.Frames.{Does, FindsText};
 ghost use Rattle.command_answers.specs.Summary.{counted, summary};
 
-use command_answers::find_plan;
-use gcu_output::{Outcome, print, say, say_memory};
+use command_answers::{answer_query, find_plan};
+use gcu_output::Outcome;
 use gcu_requests::prepare_demo;
 use gcu_words::Demo;
-use host_core::Host;
-use move_core::{Boxes, Kit, Plan};
+use host_core::{Host, Memory};
+use move_core::{Boxes, Kit};
 use std::alloc::{AllocError, Global};
 
 /// Says of how many steps a plan is between the configurations of a demonstration. Of the folder only `intent`
@@ -28,63 +21,43 @@ pub fn demo<H: Host>(alloc: Global, size: Demo, kit: &mut Kit, host: &mut H) -> 
     requires longest { longest_plain_name ≤ H.longest_name }
     requires kinds { ⟦<Kit as Boxes>⟧.HasKinds kit.old }
     ensures kinds { ⟦<Kit as Boxes>⟧.HasKinds kit.new }
-    ensures answers { AnswersTo (demo_asked size.seed size.ports)
-        (H.told host.old) (H.told host.new) (H.counts host.old) (H.counts host.new) result }
-    ensures cause { HasCause (H.counts host.old) (H.counts host.new) result }
-    ensures counts { NoneFell (H.counts host.old) (H.counts host.new) }
-    ensures crash { LeavesOnly H.moment H.left_since host.old host.new
-        (LeftTo (demo_asked size.seed size.ports) (H.told host.old)) }
-    ensures goes { H.goes_on host.old host.new }
-    ensures form { result ≡ usage → ⊥ }
-    ensures complete { CompleteTo (demo_asked size.seed size.ports)
-        (H.told host.old) (H.counts host.old) (H.counts host.new) result }
+    ensures does { Does H.Host (demo_asked size.seed size.ports) host.old host.new result }
 {
-    match find_steps(alloc, size, kit, host) {
-        Ok(plan) => show_summary(alloc, size.ports, plan.len(), host),
-        Err(outcome) => say(alloc, outcome, host),
-    }
+    let found = find_summary(alloc, size, kit, host);
+    answer_query(alloc, found, host)
 }
 
-/// A plan between the configurations of a demonstration.
-fn find_steps<H: Host>(
+/// How many there are of all.
+fn find_summary<H: Host>(
     alloc: Global,
     size: Demo,
     kit: &mut Kit,
     host: &mut H,
-) -> Result<Plan, Outcome>
+) -> Result<Vec<u8>, Outcome>
     requires longest { longest_plain_name ≤ H.longest_name }
     requires kinds { ⟦<Kit as Boxes>⟧.HasKinds kit.old }
     ensures kinds { ⟦<Kit as Boxes>⟧.HasKinds kit.new }
-    ensures says { IfSome (H.told host.old)
-        (λ s. SaysSteps size.ports (demo_asked size.seed size.ports s) s result) }
-    ensures reads { OnlyReads H.told H.counts H.moment H.left_since H.goes_on host.old host.new }
-    ensures cause { IfErr result (RefusesOrEnds (H.counts host.old) (H.counts host.new)) }
+    ensures finds { FindsText H.Host (demo_asked size.seed size.ports) host.old host.new result }
 {
     let planning = prepare_demo(alloc, size, host)?;
-    find_plan(alloc, kit, &planning)
+    let plan = find_plan(alloc, kit, &planning)?;
+    let text = summary_text(alloc, size.ports, plan.len())?;
+    Ok(text)
 }
 
-/// Prints how many there are of all, and the last line of Done.
-fn show_summary<H: Host>(alloc: Global, ports: u32, steps: usize, host: &mut H) -> Outcome
+/// The lines of all.
+fn summary_text(alloc: Global, ports: u32, steps: usize) -> Result<Vec<u8>, Memory>
     requires { ports ≤ most_ports }
-    ensures said { IsSaid done (summary ports steps ++ last_line done)
-        (H.told host.old) (H.told host.new) (H.counts host.old) (H.counts host.new) result }
-    ensures counts { PrintMayRise (H.counts host.old) (H.counts host.new) }
-    ensures time { Elapses H.moment H.left_since host.old host.new
-        (LeftInText (summary ports steps ++ last_line done) (H.told host.old)) }
-    ensures goes { H.goes_on host.old host.new }
+    ensures { IfOk result (λ b. b.items ≡ summary ports steps) }
 {
-    match summary_text(alloc, ports, steps) {
-        Ok(text) => print(Outcome::Done, text.as_bytes(), host),
-        Err(_) => say_memory(host),
-    }
+    let lines = summary_lines(alloc, ports, steps)?;
+    Ok(lines.into_bytes())
 }
 
-/// The whole output.
-#[tactic(auto, using(std::proofs::Common::append_assoc))]
-fn summary_text(alloc: Global, ports: u32, steps: usize) -> Result<String, AllocError>
+/// The same, as a text.
+fn summary_lines(alloc: Global, ports: u32, steps: usize) -> Result<String, AllocError>
     requires { ports ≤ most_ports }
-    ensures { IfOk result (λ s. string_bytes s ≡ summary ports steps ++ last_line done) }
+    ensures { IfOk result (λ s. string_bytes s ≡ summary ports steps) }
 {
     let vlans = 5 * ports / 8;
     let changes = 5 * ports / 4;
@@ -93,7 +66,6 @@ fn summary_text(alloc: Global, ports: u32, steps: usize) -> Result<String, Alloc
     push_count(alloc, &mut text, "vlans", vlans as usize)?;
     push_count(alloc, &mut text, "changes", changes as usize)?;
     push_count(alloc, &mut text, "steps", steps)?;
-    text.push_str("done\n")?;
     Ok(text)
 }
 

@@ -6,7 +6,6 @@ mod demos;
 mod dry_runs;
 mod plan_checking;
 mod point_listing;
-mod rehearsals;
 mod statuses;
 
 pub use checking::check;

@@ -1,44 +1,39 @@
 //! `gcu list-checkpoints`: the names of all checkpoints, with their numbers.
 ghost use Rattle.std.specs.Prelude.{◌≡◌, ◌≤◌, ◌++◌, IfErr, IfOk, OnOk, map, string_bytes};
-ghost use Rattle.host_core.specs.Counts.{NoneFell, PrintMayRise};
-ghost use Rattle.host_core.specs.Crashes.{Elapses, LeavesOnly};
 ghost use Rattle.host_core.specs.Names.{longest_plain_name};
 ghost use Rattle.checkpoints.specs.Answers.{numbered_view};
-ghost use Rattle.gcu_output.specs.Printing.{LeftInText, IsSaid};
-ghost use Rattle.gcu_output.specs.Lines.{last_line, line_feed};
-ghost use Rattle.gcu_output.specs.declared.outcomes.Outcome.TheVariants.{Done as done, Usage as usage};
+ghost use Rattle.gcu_output.specs.Lines.{line_feed};
 ghost use Rattle.gcu_inputs.specs.Preparing.{Finds, Refuses};
 ghost use Rattle.gcu_inputs.specs.Reads.{ReadsFiles};
 ghost use Rattle.gcu_requests.specs.Asked.{list_asked, numbers_asked};
 ghost use Rattle.gcu_requests.specs.Request.{list_checkpoints as list_of};
-ghost use Rattle.command_answers.specs.Answers.{HasCause};
-ghost use Rattle.command_answers.specs.Commands.{AnswersTo, CompleteTo, LeftTo};
+ghost use Rattle.command_answers.specs.Frames.{Does, FindsText};
 ghost use Rattle.command_answers.specs.PointLines.{named_number, point_lines};
 
 use checkpoints::{Numbered, PointError, numbers};
+use command_answers::answer_query;
 use gcu_inputs::test_uninterrupted;
-use gcu_output::{Outcome, print, say, say_memory};
+use gcu_output::Outcome;
 use host_core::{Host, Memory, Sequence};
 use std::alloc::{AllocError, Global};
 
 /// Prints the names of all checkpoints, one a line, each with its sequence number or `broken`.
 pub fn list_checkpoints<H: Host>(alloc: Global, host: &mut H) -> Outcome
     requires { longest_plain_name ≤ H.longest_name }
-    ensures answers { AnswersTo list_asked
-        (H.told host.old) (H.told host.new) (H.counts host.old) (H.counts host.new) result }
-    ensures cause { HasCause (H.counts host.old) (H.counts host.new) result }
-    ensures counts { NoneFell (H.counts host.old) (H.counts host.new) }
-    ensures crash { LeavesOnly H.moment H.left_since host.old host.new
-        (LeftTo list_asked (H.told host.old)) }
-    ensures goes { H.goes_on host.old host.new }
-    ensures form { result ≡ usage → ⊥ }
-    ensures complete { CompleteTo list_asked
-        (H.told host.old) (H.counts host.old) (H.counts host.new) result }
+    ensures { Does H.Host list_asked host.old host.new result }
 {
-    match find_numbers(alloc, host) {
-        Ok(all) => show_numbers(alloc, &all, host),
-        Err(outcome) => say(alloc, outcome, host),
-    }
+    let found = find_lines(alloc, host);
+    answer_query(alloc, found, host)
+}
+
+/// Their lines.
+fn find_lines<H: Host>(alloc: Global, host: &mut H) -> Result<Vec<u8>, Outcome>
+    requires { longest_plain_name ≤ H.longest_name }
+    ensures { FindsText H.Host list_asked host.old host.new result }
+{
+    let all = find_numbers(alloc, host)?;
+    let text = numbers_text(alloc, all.items())?;
+    Ok(text)
 }
 
 /// All checkpoints with their numbers, where no change was stopped before its end.
@@ -69,32 +64,14 @@ fn read_numbers<H: Host>(alloc: Global, host: &mut H) -> Result<Sequence<Numbere
     }
 }
 
-/// Prints checkpoints, one a line, and the last line of Done.
-fn show_numbers<H: Host>(alloc: Global, all: &Sequence<Numbered>, host: &mut H) -> Outcome
-    ensures said { IsSaid done (point_lines (map numbered_view all.now) ++ last_line done)
-        (H.told host.old) (H.told host.new) (H.counts host.old) (H.counts host.new) result }
-    ensures counts { PrintMayRise (H.counts host.old) (H.counts host.new) }
-    ensures time { Elapses H.moment H.left_since host.old host.new
-        (LeftInText (point_lines (map numbered_view all.now) ++ last_line done)
-        (H.told host.old)) }
-    ensures goes { H.goes_on host.old host.new }
-{
-    match shown(alloc, all.items()) {
-        Ok(text) => print(Outcome::Done, &text, host),
-        Err(Memory) => say_memory(host),
-    }
-}
-
-/// The whole output with checkpoints.
-fn shown(alloc: Global, all: &[Numbered]) -> Result<Vec<u8>, Memory>
-    ensures { IfOk result
-        (λ b. b.items ≡ point_lines (map numbered_view all.now) ++ last_line done) }
+/// Checkpoints, one a line.
+fn numbers_text(alloc: Global, all: &[Numbered]) -> Result<Vec<u8>, Memory>
+    ensures { IfOk result (λ b. b.items ≡ point_lines (map numbered_view all.now)) }
 {
     let mut text = Vec::new(alloc);
     for numbered in all {
         push_point(alloc, &mut text, numbered)?;
     }
-    push_line(&mut text, "done")?;
     Ok(text)
 }
 

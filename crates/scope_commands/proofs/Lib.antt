@@ -1,9 +1,11 @@
+pub mod OneAnswer
 pub mod ScopeIntents
 pub mod ScopeOrder
 pub mod ScopeReadiness
 pub mod ScopesDoing
 pub mod ScopesEnding
 pub mod ScopesFaults
+pub mod ScopesIdle
 pub mod ScopesPoints
 pub mod ScopesSolving
 pub mod Settling

@@ -21,6 +21,7 @@ use Rattle.scope_commands.specs.ScopeCrashes.{LeftDoingScopes, LeftOfScopes}
 use Rattle.scope_commands.specs.ScopeEndings.{AnswersScopes, EndsScopes}
 use Rattle.command_answers.specs.ScopeTexts.{plan_scopes_asked, scopes_solved, solved_asked}
 use Rattle.scope_commands.specs.ScopeWorks.{AreWorks, AreWorksFor, plan_of, refused_asked}
+use Rattle.scope_commands.specs.SeveralScopes.{IsLeftFrom}
 use Rattle.scope_commands.specs.SolvedScopes.{scope_plan}
 use Rattle.scope_commands.specs.declared.plan_scopes.ScopePlan as code
 use Rattle.command_answers.proofs.Answering.{refused_says}
@@ -78,7 +79,7 @@ each_solved s (p ∷ ps) [] never = absurd never
 each_solved s (p ∷ ps) (w ∷ works) each =
     inr (plan_of w, inr (w.change.moves, each.0.change.work.0, (λ i. Ok (sym each.0.scope i, w.change.moves))), inr (map plan_of works, each_solved s ps works each.1, refl))
 
-works_given : (path : List ℕ) (budget : ℕ) (s : State) (works : List ScopeWork) → AreWorks path budget s works
+pub works_given : (path : List ℕ) (budget : ℕ) (s : State) (works : List ScopeWork) → AreWorks path budget s works
     → (plan_scopes_asked path budget s).Gives (Ok (plan_scopes (map plan_of works)))
 works_given path budget s works are = inr (map plan_of works, inr (are.plannings, are.asked, each_solved s are.plannings works are.each), refl)
 
@@ -116,15 +117,16 @@ done_complete path budget (Some s) works old new result are cause goes = λ none
 
 -- what a crash leaves
 pub done_left : {H : Type 0} (told : H → Option State) (moment : H → ℕ) (left_since : H → ℕ → Left → Type 0) (path : List ℕ) (budget : ℕ) (old mid new : H) (works : List ScopeWork)
-    → ((left : Left) → left_since old (moment old) left → MayLeaveNow (told old) left) → IsStill told moment left_since old mid
+    → IsStill told moment left_since old mid
     → IfSome (told old) (λ s. AreWorks path budget s works) → IfSome (told mid) (λ s. LeavesSince moment left_since mid new s (LeftDoingScopes works s))
-    → (left : Left) → left_since new (moment old) left → LeftOfScopes path budget (told old) left
-done_left {H} told moment left_since path budget old mid new works now still are does left since = by (told old) refl
+    → (left : Left) → IsLeftFrom told moment left_since old new left → LeftOfScopes path budget (told old) left
+done_left {H} told moment left_since path budget old mid new works still are does left (t, (early, now), since) =
+    by (told old) refl
   where
-    here : (s : State) → told old ≡ Some s → (l : Left) → left_since mid (moment old) l → MayLeave s l
-    here s is l b = subst (λ p. MayLeaveNow p l) is (still.stays (moment old) (omega arith) now l b)
+    here : (s : State) → told old ≡ Some s → (l : Left) → left_since mid t l → MayLeave s l
+    here s is l b = subst (λ p. MayLeaveNow p l) is (still.stays t early now l b)
 
-    front : (s : State) → told old ≡ Some s → (l : Left) → left_since mid (moment old) l → IsFront l.output s.output
+    front : (s : State) → told old ≡ Some s → (l : Left) → left_since mid t l → IsFront l.output s.output
     front s is l b = ([], sym (here s is l b).output ∙ sym (append-nil l.output))
 
     by : (o : Option State) → told old ≡ o → LeftOfScopes path budget o left
@@ -134,4 +136,4 @@ done_left {H} told moment left_since path budget old mid new works now still are
         subst (λ p. IfSome p (λ v. LeavesSince moment left_since mid new v (LeftDoingScopes works v))) (still.tells ∙ is) does in
         let given : AreWorks path budget s works = subst (λ p. IfSome p (λ v. AreWorks path budget v works)) is are in
         ⊎_elim (λ b. inl ([], no_front (refused_asked path budget s) s, inl (with_none s left (here s is left b)))) (λ h. inr (works, given, h))
-        (run.before (moment old) still.later (front s is) left since)
+        (run.before t (omega (arith, early, still.later)) (front s is) left since)

@@ -24,7 +24,7 @@ use Rattle.scope_commands.specs.ScopeCrashes.{LeftDoingScopes, LeftOfScopes}
 use Rattle.scope_commands.specs.ScopeEndings.{AnswersScopes, EndsScopes, EndsWorks, IsLastOfAll}
 use Rattle.command_answers.specs.ScopeTexts.{plan_scopes_asked}
 use Rattle.scope_commands.specs.ScopeWorks.{refused_asked, works_text}
-use Rattle.scope_commands.specs.SeveralScopes.{PrintsOrDoes}
+use Rattle.scope_commands.specs.SeveralScopes.{IsLeftFrom, PrintsOrDoes}
 use Rattle.scope_commands.proofs.Settling.{settled_now}
 
 -- ---- where nothing is done
@@ -34,7 +34,7 @@ untouched_files asking s now (inl same) = ap (λ (t : State). t.files) same
 untouched_files asking s now (inr (reads, same)) = ap (λ (t : State). t.files) same
 
 -- the files that a crash leaves of a settled state are its own
-settled_files : (s : State) (left : Left) → s.pending ≡ settled → MayLeave s left → left.files ≡ s.files
+pub settled_files : (s : State) (left : Left) → s.pending ≡ settled → MayLeave s left → left.files ≡ s.files
 settled_files s left clean may = subst (λ p. Image p s.files left.files) clean may.files
 
 -- plans of scopes are requested, and nothing else
@@ -70,16 +70,18 @@ module _ (asking : Asking Request) (s : State) (only : (r : Request) → asking.
   leaves_files after old new e (now, output, is, prints) =
       subst (λ (o : Option State). IfSome o (λ t. t.files ≡ s.files)) (sym is) (prints_files now old new e output prints)
 
-  left_files : (left : Left) → s.pending ≡ settled → LeftOf asking s left → left.files ≡ s.files
+  pub left_files : (left : Left) → s.pending ≡ settled → LeftOf asking s left → left.files ≡ s.files
   left_files left clean (part, front, inl may) = settled_files (printed part s) left clean may
   left_files left clean (part, front, inr (r, given, writes)) =
       absurd (subst (λ (q : Request). LeftWriting q (printed part s) left) (only r given).1 writes)
 
-refused_only : (path : List ℕ) (budget : ℕ) (s : State) (r : Request) → (refused_asked path budget s).Gives (Ok r) → IsOfPlans r
+pub refused_only : (path : List ℕ) (budget : ℕ) (s : State) (r : Request) → (refused_asked path budget s).Gives (Ok r)
+    → IsOfPlans r
 refused_only path budget s r (inl never) = absurd never
 refused_only path budget s r (inr (plans, given, never)) = absurd never
 
-plans_only : (path : List ℕ) (budget : ℕ) (s : State) (r : Request) → (plan_scopes_asked path budget s).Gives (Ok r) → IsOfPlans r
+pub plans_only : (path : List ℕ) (budget : ℕ) (s : State) (r : Request) → (plan_scopes_asked path budget s).Gives (Ok r)
+    → IsOfPlans r
 plans_only path budget s r (inl never) = absurd never
 plans_only path budget s r (inr (plans, given, is)) = let same : request.plan_scopes plans ≡ r = cc in (plans, sym same)
 
@@ -183,9 +185,14 @@ module _ {H : Type 0} (told : H → Option State) (counts : H → Counts) (momen
   does_keep false h = done_keeps stay change.path change.budget (told between) (told new) (counts between) (counts new) e h.answers
 
   does_left : (b : Bool) → PrintsOrDoes told counts moment left_since b change between new e
-      → IfSome (told between) (λ s. (left : Left) → left_since new (moment between) left → KeepsPointsOfScopes s.files left.files)
-  does_left true h = plans_left stay change.path change.budget (told between) (left_since new (moment between)) (settled_now (told old) (told between) settles) h.crash
-  does_left false h = done_left stay change.path change.budget (told between) (left_since new (moment between)) (settled_now (told old) (told between) settles) h.crash
+      → IfSome (told between) (λ s. (left : Left) → IsLeftFrom told moment left_since between new left
+      → KeepsPointsOfScopes s.files left.files)
+  does_left true h =
+      plans_left stay change.path change.budget (told between) (IsLeftFrom told moment left_since between new)
+      (settled_now (told old) (told between) settles) h.crash
+  does_left false h =
+      done_left stay change.path change.budget (told between) (IsLeftFrom told moment left_since between new)
+      (settled_now (told old) (told between) settles) h.crash
 
   pub points_kept : PrintsOrDoes told counts moment left_since change.dry_run change between new e
       → IfSome (told old) (λ s. IfSome (told new) (λ t. KeepsPointsOfScopes s.files t.files))
@@ -193,7 +200,9 @@ module _ {H : Type 0} (told : H → Option State) (counts : H → Counts) (momen
       files_before (λ files. IfSome (told new) (λ t. KeepsPointsOfScopes files t.files)) (told old) (told between) settles (does_keep change.dry_run h)
 
   pub points_left : PrintsOrDoes told counts moment left_since change.dry_run change between new e
-      → IfSome (told old) (λ s. (left : Left) → left_since new (moment between) left → KeepsPointsOfScopes s.files left.files)
+      → IfSome (told old) (λ s. (left : Left) → IsLeftFrom told moment left_since between new left
+      → KeepsPointsOfScopes s.files left.files)
   points_left h =
-      files_before (λ files. (left : Left) → left_since new (moment between) left → KeepsPointsOfScopes files left.files) (told old) (told between) settles
+      files_before (λ files. (left : Left) → IsLeftFrom told moment left_since between new left
+      → KeepsPointsOfScopes files left.files) (told old) (told between) settles
       (does_left change.dry_run h)

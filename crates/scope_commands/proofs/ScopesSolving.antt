@@ -2,7 +2,7 @@
 use Rattle.std.proofs.Common.{◌≡◌, ◌<◌, inl, inr, ⊎_elim, ℕ, zero, suc, ◌+◌, List, [], ◌∷◌, ◌++◌, get_or, length, map, take, refl, sym, ap, ◌∙◌, subst, append_assoc, append-nil, arith, Option, Some, None, Result, Ok, Err, IfSome}
 use Rattle.std.proofs.lemmas.List.{map-append, take_more}
 use Rattle.host_core.specs.Counts.{Counts, NoneFell, PrintMayRise}
-use Rattle.host_core.specs.Crashes.{Elapses, Left, MayLeaveNow}
+use Rattle.host_core.specs.Crashes.{Elapses, Left}
 use Rattle.host_core.specs.State.{State}
 use Rattle.move_core.specs.Operations.{plan_text}
 use Rattle.move_core.specs.declared.contexts.Ctx.{Ctx}
@@ -23,6 +23,7 @@ use Rattle.command_answers.specs.Commands.{LeftTo}
 use Rattle.command_answers.specs.PlanCommands.{IsSolved, planning_between}
 use Rattle.command_answers.specs.Plannings.{IsPlanFor}
 use Rattle.command_answers.specs.ScopeTexts.{plan_scopes_asked, scope_line, scopes_solved, scopes_text, solved_asked}
+use Rattle.scope_commands.specs.SeveralScopes.{IsLeftFrom}
 use Rattle.scope_commands.specs.SolvedScopes.{scope_plan}
 use Rattle.scope_commands.specs.declared.plan_scopes.ScopePlan as code
 use Rattle.command_answers.proofs.Answering.{refused_says}
@@ -114,14 +115,14 @@ refusal_says (Some s) path budget e old new refuses h =
 
 -- nothing but a front of what is printed
 pub still_left : {H : Type 0} (told : H → Option State) (moment : H → ℕ) (left_since : H → ℕ → Left → Type 0) (asking : State → Asking Request) (old mid new : H)
-    (answer : Outcome) (text : List ℕ) → ((left : Left) → left_since old (moment old) left → MayLeaveNow (told old) left)
-    → IsStill told moment left_since old mid → Elapses moment left_since mid new (LeftInText text (told mid))
+    (answer : Outcome) (text : List ℕ) → IsStill told moment left_since old mid
+    → Elapses moment left_since mid new (LeftInText text (told mid))
     → IfSome (told old) (λ s. Says (asking s) s s answer text)
-    → (left : Left) → left_since new (moment old) left → LeftTo asking (told old) left
-still_left told moment left_since asking old mid new answer text now still time says left since =
-    ⊎_elim (λ before. left_here asking (told old) left (still.stays (moment old) (omega arith) now left before))
+    → (left : Left) → IsLeftFrom told moment left_since old new left → LeftTo asking (told old) left
+still_left told moment left_since asking old mid new answer text still time says left (t, (early, now), since) =
+    ⊎_elim (λ before. left_here asking (told old) left (still.stays t early now left before))
     (λ printing. said_left asking (told old) answer text says left (subst (λ (o : Option State). LeftInText text o left) still.tells printing))
-    (time.nothing_else (moment old) left still.later since)
+    (time.nothing_else t left (omega (arith, early, still.later)) since)
 
 -- no count falls while that is printed
 pub fell_on : (old mid new : Counts) → NoneFell old mid → PrintMayRise mid new → NoneFell old new

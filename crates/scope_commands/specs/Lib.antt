@@ -1,3 +1,4 @@
+pub mod OneAnswer
 pub mod ScopeCrashes
 pub mod ScopeEndings
 pub mod ScopeWorks

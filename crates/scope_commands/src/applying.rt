@@ -10,6 +10,7 @@ ghost use Rattle.command_answers.specs.Answers.{HasCause};
 ghost use Rattle.scope_commands.specs.SeveralScopes.{AppliesScopes, PrintsOrDoes};
 
 use crate::change_scopes::change_settled;
+use crate::laws::plans_of_scopes_are_one;
 use crate::plan_scopes::plan_settled;
 use gcu_output::{Outcome, say};
 use gcu_words::ScopesForm;
@@ -38,6 +39,7 @@ pub fn apply_scopes<H: Host>(
     match host.settle() {
         Ok(()) => {
             scopes_keep_points();
+            plans_of_scopes_are_one();
             apply_settled(alloc, change, kit, host)
         }
         Err(_) => say(alloc, Outcome::DiskFault { step: 0 }, host),

@@ -26,7 +26,7 @@ ghost use Rattle.scope_commands.specs.SolvedScopes.{scope_plan};
 
 use crate::plan_scopes::{ScopePlan, find_plans, plans_text};
 use change_apply::{ApplyFault, prepare as prepare_change};
-use gcu_output::{Outcome, say};
+use gcu_output::{DONE_LINE, Outcome, say};
 use gcu_requests::{ScopeEnds, ScopesPlanning, prepare_scopes};
 use gcu_words::ScopesForm;
 use host_core::{Host, Memory, Sequence, Txt};
@@ -251,7 +251,7 @@ fn do_works<H: Host>(ready: &ReadyScopes, host: &mut H) -> Outcome
     ensures form { result ≡ usage → ⊥ }
 {
     match run_scopes(host, &ready.changes) {
-        Ok(()) => end(Outcome::Done, b"done\n", ready.steps, host),
+        Ok(()) => end(Outcome::Done, DONE_LINE, ready.steps, host),
         Err(ApplyFault::Disk { step }) => {
             let line = ready.lines.disk_line(step);
             end(Outcome::DiskFault { step }, line, step, host)

@@ -18,7 +18,7 @@ ghost use Rattle.scope_commands.specs.SeveralScopes.{PrintsPlans};
 ghost use Rattle.scope_commands.specs.SolvedScopes.{scope_plan};
 
 use command_answers::plan_between;
-use gcu_output::{Outcome, print, say, say_memory};
+use gcu_output::{Outcome, say, say_memory, show_text};
 use gcu_requests::{ScopeEnds, ScopesPlanning, prepare_scopes, refuse_scope};
 use gcu_words::ScopesForm;
 use host_core::{Host, Memory, Sequence, Txt};
@@ -134,20 +134,10 @@ fn show_plans<H: Host>(alloc: Global, plans: &Sequence<ScopePlan>, host: &mut H)
         (LeftInText (scopes_text (map scope_plan plans.now) ++ last_line done) (H.told host.old)) }
     ensures goes { H.goes_on host.old host.new }
 {
-    match whole_text(alloc, plans) {
-        Ok(text) => print(Outcome::Done, &text, host),
+    match plans_text(alloc, plans) {
+        Ok(text) => show_text(text, host),
         Err(Memory) => say_memory(host),
     }
-}
-
-/// The whole output.
-fn whole_text(alloc: Global, plans: &Sequence<ScopePlan>) -> Result<Vec<u8>, Memory>
-    ensures { IfOk result (λ b.
-        b.items ≡ scopes_text (map scope_plan plans.now) ++ last_line done) }
-{
-    let mut text = plans_text(alloc, plans)?;
-    text.extend_from_slice(b"done\n")?;
-    Ok(text)
 }
 
 /// The text of all plans.

@@ -31,19 +31,23 @@ of_name name = request.delete_checkpoint name
 
 -- ---- what is found
 
-pub bad_name_found : (o : Option State) (name : List ℕ) → is_good_name name ≡ false → FindsUnit o (of_name name) (Err (BadName name)) (delete_asked name)
+pub bad_name_found : (o : Option State) (name : List ℕ) → is_good_name name ≡ false
+    → FindsUnit o (of_name name) (Err (BadName name)) (delete_asked name)
 bad_name_found None name bad = tt
 bad_name_found (Some s) name bad = rw bad (record { gives = inl refl; stands = tt })
 
-pub settling_fault_found : (o : Option State) (name : List ℕ) (step : ℕ) → is_good_name name ≡ true → FindsUnit o (of_name name) (Err (DiskFault step)) (delete_asked name)
+pub settling_fault_found : (o : Option State) (name : List ℕ) (step : ℕ) → is_good_name name ≡ true
+    → FindsUnit o (of_name name) (Err (DiskFault step)) (delete_asked name)
 settling_fault_found None name step good = tt
-settling_fault_found (Some s) name step good = rw good (record { gives = tt; stands = inr (name, refl, inl (inr refl)) })
+settling_fault_found (Some s) name step good =
+    rw good (record { gives = tt; stands = inr (name, refl, inl (inr refl)) })
 
 -- once it is settled
 abbrev behind : List ℕ → State → Asking Request
 behind name s = uninterrupted s >>> λ _. there_asked name s
 
-behind_found : (name : List ℕ) (s : State) (r : Result (Unit {0}) Outcome) → is_good_name name ≡ true → Found (λ (u : Unit {0}). of_name name) r (behind name s)
+behind_found : (name : List ℕ) (s : State) (r : Result (Unit {0}) Outcome) → is_good_name name ≡ true
+    → Found (λ (u : Unit {0}). of_name name) r (behind name s)
     → Found (λ (u : Unit {0}). of_name name) r (delete_asked name s)
 behind_found name s r good h =
     rw good
@@ -51,12 +55,15 @@ behind_found name s r good h =
     (then_found (λ u. u) (λ (u : Unit {0}). of_name name) tt r settles_first (λ _. behind name s) (record { gives = refl; stands = tt }) h))
 
 -- a change was stopped
-pub interrupted_found : (o mid : Option State) (name : List ℕ) (e : Outcome) → is_good_name name ≡ true → mid ≡ option_map (with_pending settled) o
+pub interrupted_found : (o mid : Option State) (name : List ℕ) (e : Outcome) → is_good_name name ≡ true
+    → mid ≡ option_map (with_pending settled) o
     → Finds {X = Unit {0}} mid (λ u. u) (Err e) uninterrupted → FindsUnit o (of_name name) (Err e) (delete_asked name)
 interrupted_found None mid name e good is h = tt
 interrupted_found (Some s) mid name e good is h =
-    let gate : Found {X = Unit {0}} (λ u. u) (Err e) (uninterrupted s) = subst (λ m. Finds {X = Unit {0}} m (λ u. u) (Err e) uninterrupted) is h in
-    behind_found name s (Err e) good (first_refused {X = Unit {0}} (λ u. u) (λ (u : Unit {0}). of_name name) e (uninterrupted s) (λ _. there_asked name s) gate)
+    let gate : Found {X = Unit {0}} (λ u. u) (Err e) (uninterrupted s) = subst
+    (λ m. Finds {X = Unit {0}} m (λ u. u) (Err e) uninterrupted) is h in
+    behind_found name s (Err e) good
+    (first_refused {X = Unit {0}} (λ u. u) (λ (u : Unit {0}). of_name name) e (uninterrupted s) (λ _. there_asked name s) gate)
 
 -- none was
 pub settled_found : (o mid : Option State) (name : List ℕ) (r : Result (Unit {0}) Outcome) → is_good_name name ≡ true
@@ -64,33 +71,42 @@ pub settled_found : (o mid : Option State) (name : List ℕ) (r : Result (Unit {
     → FindsUnit mid (of_name name) r (there_asked name) → FindsUnit o (of_name name) r (delete_asked name)
 settled_found None mid name r good is gate h = tt
 settled_found (Some s) mid name r good is gate h =
-    let passes : Found {X = Unit {0}} (λ u. u) (Ok tt) (uninterrupted s) = subst (λ m. Finds {X = Unit {0}} m (λ u. u) (Ok tt) uninterrupted) is gate in
-    let there : Found (λ (u : Unit {0}). of_name name) r (there_asked name s) = subst (λ m. FindsUnit m (of_name name) r (there_asked name)) is h in
-    behind_found name s r good (then_found {X = Unit {0}} (λ u. u) (λ (u : Unit {0}). of_name name) tt r (uninterrupted s) (λ _. there_asked name s) passes there)
+    let passes : Found {X = Unit {0}} (λ u. u) (Ok tt) (uninterrupted s) = subst
+    (λ m. Finds {X = Unit {0}} m (λ u. u) (Ok tt) uninterrupted) is gate in
+    let there : Found (λ (u : Unit {0}). of_name name) r (there_asked name s) = subst
+    (λ m. FindsUnit m (of_name name) r (there_asked name)) is h in
+    behind_found name s r good
+    (then_found {X = Unit {0}} (λ u. u) (λ (u : Unit {0}). of_name name) tt r (uninterrupted s) (λ _. there_asked name s) passes there)
 
 -- what is pending is settled where the name is good
 settling_read : (name : List ℕ) (s : State) → is_good_name name ≡ true → (delete_asked name s).Reads a_settling
 settling_read name s good = rw good (inr (name, refl, inl (inl refl)))
 
-pub settling_reads : (o : Option State) (name : List ℕ) → is_good_name name ≡ true → IfSome o (λ s. (delete_asked name s).Reads a_settling)
+pub settling_reads : (o : Option State) (name : List ℕ) → is_good_name name ≡ true
+    → IfSome o (λ s. (delete_asked name s).Reads a_settling)
 settling_reads None name good = tt
 settling_reads (Some s) name good = settling_read name s good
 
 -- ---- what may be deleted
 
 -- it is right to delete a checkpoint that is there
-deletion_given : (name : List ℕ) (s : State) (held : Held) → is_good_name name ≡ true → (uninterrupted s).Gives (Ok tt) → get (points s.files) name ≡ Some held
+deletion_given : (name : List ℕ) (s : State) (held : Held) → is_good_name name ≡ true → (uninterrupted s).Gives (Ok tt)
+    → get (points s.files) name ≡ Some held
     → (delete_asked name s).Gives (Ok (of_name name))
 deletion_given name s held good gate there =
-    rw good (inr (name, refl, inr (tt, refl, inr (tt, gate, ap (λ o. map_ok request.delete_checkpoint (there_answer name o)) there))))
+    rw good
+    (inr (name, refl, inr (tt, refl, inr (tt, gate, ap (λ o. map_ok request.delete_checkpoint (there_answer name o)) there))))
 
 -- it is right to delete it, or what holds where none is there
-pub may_delete : (o mid : Option State) (name : List ℕ) (Nothing : Type 0) → is_good_name name ≡ true → mid ≡ option_map (with_pending settled) o
+pub may_delete : (o mid : Option State) (name : List ℕ) (Nothing : Type 0) → is_good_name name ≡ true
+    → mid ≡ option_map (with_pending settled) o
     → Finds {X = Unit {0}} mid (λ u. u) (Ok tt) uninterrupted
-    → IfSome mid (λ t. get (points t.files) name ≡ None → Nothing) → IfSome o (λ s. (delete_asked name s).Gives (Ok (of_name name)) ⊎ Nothing)
+    → IfSome mid (λ t. get (points t.files) name ≡ None → Nothing)
+    → IfSome o (λ s. (delete_asked name s).Gives (Ok (of_name name)) ⊎ Nothing)
 may_delete None mid name Nothing good is gate absent = tt
 may_delete (Some s) mid name Nothing good is gate absent =
-    by (get (points s.files) name) refl (subst (λ m. IfSome m (λ t. get (points t.files) name ≡ None → Nothing)) is absent)
+    by (get (points s.files) name) refl
+    (subst (λ m. IfSome m (λ t. get (points t.files) name ≡ None → Nothing)) is absent)
   where
     passes : (uninterrupted s).Gives (Ok tt)
     passes = (subst (λ m. Finds {X = Unit {0}} m (λ u. u) (Ok tt) uninterrupted) is gate).gives

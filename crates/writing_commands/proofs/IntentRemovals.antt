@@ -25,7 +25,8 @@ closed_other f q apart = get_other intent_file None f q apart
 -- the folder stands for the same
 closed_stored : (f : Files) → stored (without_intent f) ≡ stored f
 closed_stored f =
-    same_stored f (without_intent f) (closed_other f folded_file folded_not_intent) (closed_other f config_file config_not_intent)
+    same_stored f (without_intent f) (closed_other f folded_file folded_not_intent)
+    (closed_other f config_file config_not_intent)
     (λ n. closed_other f (step_name n) (no_step_intent n))
 
 -- and has the same checkpoints

@@ -39,7 +39,8 @@ second_true true b e = e
 second_true false b e = absurd cc
 
 no_end : (b : ℕ) (rest : Bool) → (not (b == 10) && rest) ≡ true → b ≢ 10
-no_end b rest e is = let h : (not (10 == 10) && rest) ≡ true = subst (λ (n : ℕ). (not (n == 10) && rest) ≡ true) is e in cc
+no_end b rest e is =
+    let h : (not (10 == 10) && rest) ≡ true = subst (λ (n : ℕ). (not (n == 10) && rest) ≡ true) is e in cc
 
 word : (s : List ℕ) → is_plain s ≡ true → IsOneLine s
 word [] plain = tt
@@ -138,21 +139,39 @@ said_is_one_line Usage = word (codes "usage") refl
 said_is_one_line InputFault = word (codes "input fault") refl
 said_is_one_line (DiskFault step) = behind (codes "disk fault after ") refl (decimal step) (decimal_is_one_line step)
 said_is_one_line (PrintFault step) = behind (codes "print fault after ") refl (decimal step) (decimal_is_one_line step)
-said_is_one_line (ServiceFault step service) = behind (codes "service fault after ") refl (decimal step) (decimal_is_one_line step)
+said_is_one_line (ServiceFault step service) =
+    behind (codes "service fault after ") refl (decimal step) (decimal_is_one_line step)
 said_is_one_line (NoInput path) = behind (codes "no input ") refl (quoted path) (quoted_is_one_line path)
-said_is_one_line (TooBig path limit) = behind (codes "too big ") refl (quoted path ++ space ++ decimal limit) (spaced (quoted path) (decimal limit) (quoted_is_one_line path) (decimal_is_one_line limit))
+said_is_one_line (TooBig path limit) =
+    behind (codes "too big ") refl (quoted path ++ space ++ decimal limit)
+    (spaced (quoted path) (decimal limit) (quoted_is_one_line path) (decimal_is_one_line limit))
 said_is_one_line (BadJson path) = behind (codes "bad json ") refl (quoted path) (quoted_is_one_line path)
-said_is_one_line (BadConfig path place) = behind (codes "bad config ") refl (quoted path ++ space ++ quoted place) (spaced (quoted path) (quoted place) (quoted_is_one_line path) (quoted_is_one_line place))
-said_is_one_line (BadModels file line why) = behind (codes "bad models ") refl (quoted file ++ space ++ decimal line ++ space ++ model_why why) (spaced (quoted file ++ space ++ decimal line) (model_why why) (spaced (quoted file) (decimal line) (quoted_is_one_line file) (decimal_is_one_line line)) (model_why_is why))
+said_is_one_line (BadConfig path place) =
+    behind (codes "bad config ") refl (quoted path ++ space ++ quoted place)
+    (spaced (quoted path) (quoted place) (quoted_is_one_line path) (quoted_is_one_line place))
+said_is_one_line (BadModels file line why) =
+    behind (codes "bad models ") refl (quoted file ++ space ++ decimal line ++ space ++ model_why why)
+    (spaced (quoted file ++ space ++ decimal line) (model_why why) (spaced (quoted file) (decimal line) (quoted_is_one_line file) (decimal_is_one_line line)) (model_why_is why))
 said_is_one_line (BadRules why) = behind (codes "bad rules ") refl (rules_why why) (rules_why_is why)
-said_is_one_line (BadPatch index why) = behind (codes "bad patch ") refl (decimal index ++ space ++ patch_why why) (spaced (decimal index) (patch_why why) (decimal_is_one_line index) (patch_why_is why))
-said_is_one_line (PatchFailed index why) = behind (codes "patch failed ") refl (decimal index ++ space ++ fail_why why) (spaced (decimal index) (fail_why why) (decimal_is_one_line index) (fail_why_is why))
+said_is_one_line (BadPatch index why) =
+    behind (codes "bad patch ") refl (decimal index ++ space ++ patch_why why)
+    (spaced (decimal index) (patch_why why) (decimal_is_one_line index) (patch_why_is why))
+said_is_one_line (PatchFailed index why) =
+    behind (codes "patch failed ") refl (decimal index ++ space ++ fail_why why)
+    (spaced (decimal index) (fail_why why) (decimal_is_one_line index) (fail_why_is why))
 said_is_one_line (TargetShape place) = behind (codes "target shape ") refl (quoted place) (quoted_is_one_line place)
-said_is_one_line (NoCheckpoint name why) = behind (codes "no checkpoint ") refl (quoted name ++ space ++ point_why why) (spaced (quoted name) (point_why why) (quoted_is_one_line name) (point_why_is why))
-said_is_one_line (CheckpointExists name) = behind (codes "checkpoint exists ") refl (quoted name) (quoted_is_one_line name)
+said_is_one_line (NoCheckpoint name why) =
+    behind (codes "no checkpoint ") refl (quoted name ++ space ++ point_why why)
+    (spaced (quoted name) (point_why why) (quoted_is_one_line name) (point_why_is why))
+said_is_one_line (CheckpointExists name) =
+    behind (codes "checkpoint exists ") refl (quoted name) (quoted_is_one_line name)
 said_is_one_line (BadName name) = behind (codes "bad name ") refl (quoted name) (quoted_is_one_line name)
-said_is_one_line (CurrentInvalid place rule) = behind (codes "current invalid ") refl (quoted place ++ space ++ rule_name rule) (spaced (quoted place) (rule_name rule) (quoted_is_one_line place) (rule_name_is rule))
-said_is_one_line (TargetInvalid place rule) = behind (codes "target invalid ") refl (quoted place ++ space ++ rule_name rule) (spaced (quoted place) (rule_name rule) (quoted_is_one_line place) (rule_name_is rule))
+said_is_one_line (CurrentInvalid place rule) =
+    behind (codes "current invalid ") refl (quoted place ++ space ++ rule_name rule)
+    (spaced (quoted place) (rule_name rule) (quoted_is_one_line place) (rule_name_is rule))
+said_is_one_line (TargetInvalid place rule) =
+    behind (codes "target invalid ") refl (quoted place ++ space ++ rule_name rule)
+    (spaced (quoted place) (rule_name rule) (quoted_is_one_line place) (rule_name_is rule))
 said_is_one_line (NoModel table) = behind (codes "no model ") refl (quoted table) (quoted_is_one_line table)
 said_is_one_line (EmptyTable table) = behind (codes "empty table ") refl (quoted table) (quoted_is_one_line table)
 said_is_one_line Unorderable = word (codes "unorderable") refl
@@ -162,10 +181,16 @@ said_is_one_line Interrupted = word (codes "interrupted") refl
 said_is_one_line NoIntent = word (codes "no intent") refl
 said_is_one_line BadIntent = word (codes "bad intent") refl
 said_is_one_line SequenceFull = word (codes "sequence full") refl
-said_is_one_line (BadPlan path line) = behind (codes "bad plan ") refl (quoted path ++ space ++ decimal line) (spaced (quoted path) (decimal line) (quoted_is_one_line path) (decimal_is_one_line line))
-said_is_one_line (PlanRejected n why) = behind (codes "no plan ") refl (decimal n ++ space ++ no_why why) (spaced (decimal n) (no_why why) (decimal_is_one_line n) (no_why_is why))
+said_is_one_line (BadPlan path line) =
+    behind (codes "bad plan ") refl (quoted path ++ space ++ decimal line)
+    (spaced (quoted path) (decimal line) (quoted_is_one_line path) (decimal_is_one_line line))
+said_is_one_line (PlanRejected n why) =
+    behind (codes "no plan ") refl (decimal n ++ space ++ no_why why)
+    (spaced (decimal n) (no_why why) (decimal_is_one_line n) (no_why_is why))
 said_is_one_line (BadScope index) = behind (codes "bad scope ") refl (decimal index) (decimal_is_one_line index)
-said_is_one_line (ScopeRefused scope status) = behind (codes "scope ") refl (quoted scope ++ space ++ decimal status) (spaced (quoted scope) (decimal status) (quoted_is_one_line scope) (decimal_is_one_line status))
+said_is_one_line (ScopeRefused scope status) =
+    behind (codes "scope ") refl (quoted scope ++ space ++ decimal status)
+    (spaced (quoted scope) (decimal status) (quoted_is_one_line scope) (decimal_is_one_line status))
 said_is_one_line (BadScript line) = behind (codes "bad script ") refl (decimal line) (decimal_is_one_line line)
 
 -- ---- lines
@@ -174,7 +199,8 @@ no_feed : (s : List ℕ) → IsOneLine s → (front back : List ℕ) → s ≢ f
 no_feed [] h [] back e = absurd cc
 no_feed [] h (c ∷ front) back e = absurd cc
 no_feed (b ∷ s) h [] back e = let first : b ≡ 10 = cc in h.0 first
-no_feed (b ∷ s) h (c ∷ front) back e = let rest : s ≡ front ++ documents.line_feed ++ back = cc in no_feed s h.1 front back rest
+no_feed (b ∷ s) h (c ∷ front) back e =
+    let rest : s ≡ front ++ documents.line_feed ++ back = cc in no_feed s h.1 front back rest
 
 numbered : (n : ℕ) (rest : List ℕ) → IsOneLine rest → IsRefusalLine (numbered_line n rest)
 numbered n rest h = (
@@ -206,7 +232,8 @@ last_line_of Done line is any = inl is
 last_line_of (PrintFault step) line is never = absurd never
 last_line_of other line is any = inr (subst IsRefusalLine (sym is) (refused_is other))
 
-pub service_last_line : (step service : ℕ) (name line : List ℕ) → line ≡ service_line step service name → IsLastLine line
+pub service_last_line : (step service : ℕ) (name line : List ℕ) → line ≡ service_line step service name
+    → IsLastLine line
 service_last_line step service name line is =
     inr (subst IsRefusalLine (sym is)
     (numbered (number (ServiceFault step service)) (said (ServiceFault step service) ++ space ++ quoted name)

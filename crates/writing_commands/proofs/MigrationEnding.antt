@@ -29,12 +29,14 @@ IsLastIn news (Some began) told answer text = (now : State) × (told ≡ Some no
 -- ---- before the last line
 
 -- all is done
-pub all_last : (news : List NewFile) (o told : Option State) → Finishes news o told → IsLastIn news o told Done (last_line Done)
+pub all_last : (news : List NewFile) (o told : Option State) → Finishes news o told
+    → IsLastIn news o told Done (last_line Done)
 all_last news None told h = h
 all_last news (Some began) told h = (_, h.1, ((h.0, refl, h.2), refl))
 
 -- a fault of the disk stopped it
-pub stopped_last : (ready : ReadyMigration) → HasLines ready → (o told : Option State) (k : ℕ) → Stops ready.migration (Disk k) o told
+pub stopped_last : (ready : ReadyMigration) → HasLines ready → (o told : Option State) (k : ℕ)
+    → Stops ready.migration (Disk k) o told
     → IsLastIn ready.migration o told (DiskFault k) (line_at ready.faults k)
 stopped_last ready lines None told k h = h
 stopped_last ready lines (Some began) told k h =
@@ -45,9 +47,12 @@ stopped_last ready lines (Some began) told k h =
 
 -- the last line is printed, or a front of it
 pub ends_migration : (news : List NewFile) (o told after : Option State) (old mid new : Counts) (answer result : Outcome) (text : List ℕ) (step : ℕ) → step ≡ told_before news answer
-    → IsLastIn news o told answer text → HasCause old new answer → IsEnded answer text step told after mid new result → EndsMigration news o after old new result
-ends_migration news None told after old mid new answer result text step are last cause (inl whole) = whole.1 ∙ ap (option_map (printed text)) last
-ends_migration news None told after old mid new answer result text step are last cause (inr part) = part.1.3 ∙ ap (option_map (printed part.1.0)) last
+    → IsLastIn news o told answer text → HasCause old new answer → IsEnded answer text step told after mid new result
+    → EndsMigration news o after old new result
+ends_migration news None told after old mid new answer result text step are last cause (inl whole) =
+    whole.1 ∙ ap (option_map (printed text)) last
+ends_migration news None told after old mid new answer result text step are last cause (inr part) =
+    part.1.3 ∙ ap (option_map (printed part.1.0)) last
 ends_migration news (Some began) told after old mid new answer result text step are last cause (inl whole) =
     inl (last.0, text, subst (λ (a : Outcome). IsLastOf news began last.0 a text) (sym whole.0) last.2, whole.1 ∙ ap (option_map (printed text)) last.1)
 ends_migration news (Some began) told after old mid new answer result text step are last cause (inr part) =
@@ -63,7 +68,8 @@ ends_migration news (Some began) told after old mid new answer result text step 
     ))
 
 -- the line of a checkpoint is cut short
-pub cut_in_line : (news : List NewFile) (o told : Option State) (old new : Counts) (k : ℕ) → Stops news (Print k) o told → EndsMigration news o told old new (PrintFault k)
+pub cut_in_line : (news : List NewFile) (o told : Option State) (old new : Counts) (k : ℕ) → Stops news (Print k) o told
+    → EndsMigration news o told old new (PrintFault k)
 cut_in_line news None told old new k h = h
 cut_in_line news (Some began) told old new k h = inr (inr (h.0, k, h.2, refl, h.1))
 
@@ -77,25 +83,30 @@ abbrev pub told_ones : List NewFile → Outcome → List NewFile
 told_ones news (DiskFault k) = take k news
 told_ones news other = news
 
-pub ones_output : (news : List NewFile) (began now : State) (answer : Outcome) (text : List ℕ) → IsLastOf news began now answer text
+pub ones_output : (news : List NewFile) (began now : State) (answer : Outcome) (text : List ℕ)
+    → IsLastOf news began now answer text
     → now.output ≡ began.output ++ lines_text (told_ones news answer)
 ones_output news began now Done text h = ap (λ (t : State). t.output) (some_is now _ h.0.1)
 ones_output news began now (DiskFault k) text h = h.0.leads.output
 ones_output news began now other text never = absurd never
 
-line_is : (news : List NewFile) (began now : State) (answer : Outcome) (text : List ℕ) → IsLastOf news began now answer text → text ≡ last_line answer
+line_is : (news : List NewFile) (began now : State) (answer : Outcome) (text : List ℕ)
+    → IsLastOf news began now answer text → text ≡ last_line answer
 line_is news began now Done text h = h.1
 line_is news began now (DiskFault k) text h = h.1
 line_is news began now other text never = absurd never
 
 module _ {H : Type 0} (moment : H → ℕ) (left_since : H → ℕ → Left → Type 0) where
-  ends_in : (news : List NewFile) (began now : State) (answer : Outcome) (text : List ℕ) (old mid new : H) → IsLastOf news began now answer text
+  ends_in : (news : List NewFile) (began now : State) (answer : Outcome) (text : List ℕ) (old mid new : H)
+      → IsLastOf news began now answer text
       → ((left : Left) → moment old ≤ moment mid → MayLeave now left → left_since mid (moment old) left)
-      → LeavesOnly moment left_since old mid (IsLeft news began) → Elapses moment left_since mid new (MayLeaveInPrint text (Some now))
+      → LeavesOnly moment left_since old mid (IsLeft news began)
+      → Elapses moment left_since mid new (MayLeaveInPrint text (Some now))
       → LeavesOnly moment left_since old new (LeftMigrating news began)
   ends_in news began now answer text old mid new last here so_far time =
       runs.goes_on moment left_since old mid new (LeftMigrating news began) (MayLeaveInPrint text (Some now))
-      (runs.weaker moment left_since old mid (IsLeft news began) (LeftMigrating news began) (λ left h. inl h) so_far) time
+      (runs.weaker moment left_since old mid (IsLeft news began) (LeftMigrating news began) (λ left h. inl h) so_far)
+      time
       (λ left h.
       let ones = told_ones news answer in
       let so_many : now.output ≡ began.output ++ lines_text ones = ones_output news began now answer text last in
@@ -112,9 +123,11 @@ module _ {H : Type 0} (moment : H → ℕ) (left_since : H → ℕ → Left → 
       }))
 
   -- of a host that may not tell its state
-  pub ends_left : (news : List NewFile) (o told : Option State) (answer : Outcome) (text : List ℕ) (old mid new : H) → IsLastIn news o told answer text
+  pub ends_left : (news : List NewFile) (o told : Option State) (answer : Outcome) (text : List ℕ) (old mid new : H)
+      → IsLastIn news o told answer text
       → ((left : Left) → moment old ≤ moment mid → MayLeaveNow told left → left_since mid (moment old) left)
-      → IfSome o (λ s. LeavesOnly moment left_since old mid (IsLeft news s)) → Elapses moment left_since mid new (MayLeaveInPrint text told)
+      → IfSome o (λ s. LeavesOnly moment left_since old mid (IsLeft news s))
+      → Elapses moment left_since mid new (MayLeaveInPrint text told)
       → IfSome o (λ s. LeavesOnly moment left_since old new (LeftMigrating news s))
   ends_left news None told answer text old mid new last here so_far time = tt
   ends_left news (Some began) told answer text old mid new last here so_far time =

@@ -36,7 +36,8 @@ of_ready r = migrate_checkpoints r.migration
 pub found_ready : (o : Option State) (m : List NewFile) (r : ReadyMigration) → r.migration ≡ m
     → Finds {X = List NewFile} o migrate_checkpoints (Ok m) old_asked → Finds o of_ready (Ok r) old_asked
 found_ready None m r is found = tt
-found_ready (Some s) m r is found = record { gives = subst (λ n. (old_asked s).Gives (Ok (migrate_checkpoints n))) (sym is) found.gives; stands = tt }
+found_ready (Some s) m r is found =
+    record { gives = subst (λ n. (old_asked s).Gives (Ok (migrate_checkpoints n))) (sym is) found.gives; stands = tt }
 
 -- what is refused of them
 pub refused_ready : (o : Option State) (e : Outcome) → Finds {X = List NewFile} o migrate_checkpoints (Err e) old_asked
@@ -47,32 +48,43 @@ refused_ready (Some s) e found = record { gives = found.gives; stands = found.st
 -- ---- once all is settled
 
 -- what is pending tells nothing of the checkpoints
-settled_found : (s : State) (r : Result ReadyMigration Outcome) → Found of_ready r (migration_asked (with_pending settled s)) → Found of_ready r (migrate_asked s)
-settled_found s r there = then_found (λ u. u) of_ready tt r settles_first (λ _. migration_asked s) (record { gives = refl; stands = tt }) there
+settled_found : (s : State) (r : Result ReadyMigration Outcome)
+    → Found of_ready r (migration_asked (with_pending settled s)) → Found of_ready r (migrate_asked s)
+settled_found s r there =
+    then_found (λ u. u) of_ready tt r settles_first (λ _. migration_asked s) (record { gives = refl; stands = tt })
+    there
 
-pub gives_ready : (o mid : Option State) (r : Result ReadyMigration Outcome) → mid ≡ option_map (with_pending settled) o → Finds mid of_ready r migration_asked
+pub gives_ready : (o mid : Option State) (r : Result ReadyMigration Outcome) → mid ≡ option_map (with_pending settled) o
+    → Finds mid of_ready r migration_asked
     → IfOk r (λ x. IfSome o (λ s. (migrate_asked s).Gives (Ok (of_ready x))))
 gives_ready None mid (Ok x) is found = tt
-gives_ready (Some s) mid (Ok x) is found = (settled_found s (Ok x) (subst (λ m. Finds m of_ready (Ok x) migration_asked) is found)).gives
+gives_ready (Some s) mid (Ok x) is found =
+    (settled_found s (Ok x) (subst (λ m. Finds m of_ready (Ok x) migration_asked) is found)).gives
 gives_ready o mid (Err e) is found = tt
 
 -- each may be put afterwards
 pub due_ready : (mid new : Option State) (r : Result ReadyMigration Outcome) → new ≡ mid
-    → IfOk r (λ x. IfSome mid (λ s. All (λ n. IsDue n s.files) x.migration)) → IfOk r (λ x. IfSome new (λ s. All (λ n. IsDue n s.files) x.migration))
-due_ready mid new r same due = subst (λ t. IfOk r (λ x. IfSome t (λ s. All (λ n. IsDue n s.files) x.migration))) (sym same) due
+    → IfOk r (λ x. IfSome mid (λ s. All (λ n. IsDue n s.files) x.migration))
+    → IfOk r (λ x. IfSome new (λ s. All (λ n. IsDue n s.files) x.migration))
+due_ready mid new r same due =
+    subst (λ t. IfOk r (λ x. IfSome t (λ s. All (λ n. IsDue n s.files) x.migration))) (sym same) due
 
 -- or a refusal is left to be told
-pub left_ready : (o mid new : Option State) (r : Result ReadyMigration Outcome) (c d : Counts) → mid ≡ option_map (with_pending settled) o → new ≡ mid
+pub left_ready : (o mid new : Option State) (r : Result ReadyMigration Outcome) (c d : Counts)
+    → mid ≡ option_map (with_pending settled) o → new ≡ mid
     → Finds mid of_ready r migration_asked → IfErr r (Refuses c d) → IfErr r (IsReady migrate_asked o new)
 left_ready o mid new (Ok x) c d is same found refuses = tt
 left_ready None mid new (Err e) c d is same found refuses = same ∙ is
 left_ready (Some s) mid new (Err e) c d is same found refuses =
     let there = settled_found s (Err e) (subst (λ m. Finds m of_ready (Err e) migration_asked) is found) in
-    ready_settled migrate_asked (Some s) new e c d (migrate_checkpoints []) (same ∙ is) refuses (inl (inl refl)) (record { gives = there.gives; stands = there.stands })
+    ready_settled migrate_asked (Some s) new e c d (migrate_checkpoints []) (same ∙ is) refuses (inl (inl refl))
+    (record { gives = there.gives; stands = there.stands })
 
 -- nothing could be settled
-pub unsettled_ready : (o new : Option State) (c d : Counts) → new ≡ o → Refuses c d (DiskFault 0) → IsReady migrate_asked o new (DiskFault 0)
-unsettled_ready o new c d same refuses = ready_before migrate_asked o new (DiskFault 0) c d (migrate_checkpoints []) same refuses (fault_found o)
+pub unsettled_ready : (o new : Option State) (c d : Counts) → new ≡ o → Refuses c d (DiskFault 0)
+    → IsReady migrate_asked o new (DiskFault 0)
+unsettled_ready o new c d same refuses =
+    ready_before migrate_asked o new (DiskFault 0) c d (migrate_checkpoints []) same refuses (fault_found o)
   where
     fault_found : (o : Option State) → FindsUnit o (migrate_checkpoints []) (Err (DiskFault 0)) migrate_asked
     fault_found None = tt
@@ -90,7 +102,8 @@ refuses_since old mid new InputFault fell h = rose_from old.input mid.input new.
 refuses_since old mid new (DiskFault step) fell h = (h.0, rose_from old.disk mid.disk new.disk fell.disk h.1)
 refuses_since old mid new other fell h = h
 
-pub refused_since : {X : Type 0} (old mid new : Counts) (r : Result X Outcome) → NoneFell old mid → IfErr r (Refuses mid new) → IfErr r (Refuses old new)
+pub refused_since : {X : Type 0} (old mid new : Counts) (r : Result X Outcome) → NoneFell old mid
+    → IfErr r (Refuses mid new) → IfErr r (Refuses old new)
 refused_since old mid new (Ok x) fell h = tt
 refused_since old mid new (Err e) fell h = refuses_since old mid new e fell h
 
@@ -100,18 +113,21 @@ module _ (s : State) (news : List NewFile) (given : (migrate_asked s).Gives (Ok 
   abbrev began : State
   began = with_pending settled s
 
-  last_says : (now : State) (answer : Outcome) (text : List ℕ) → IsLastOf news began now answer text → Says (migrate_asked s) s now answer text
+  last_says : (now : State) (answer : Outcome) (text : List ℕ) → IsLastOf news began now answer text
+      → Says (migrate_asked s) s now answer text
   last_says now Done text h = (migrate_checkpoints news, given, h.0, h.1)
   last_says now (DiskFault k) text h = (inl (inr refl), inr (migrate_checkpoints news, given, h.0), h.1)
   last_says now other text never = absurd never
 
   -- so many lines are printed
-  counted : (now : State) (answer : Outcome) (text : List ℕ) → IsLastOf news began now answer text → AreTold (migrate_asked s) (told_before news answer) s now
+  counted : (now : State) (answer : Outcome) (text : List ℕ) → IsLastOf news began now answer text
+      → AreTold (migrate_asked s) (told_before news answer) s now
   counted now Done text h = (
     news,
     given,
     omega arith,
-    ones_output news began now Done text h ∙ ap (λ (told : List NewFile). s.output ++ lines_text told) (sym (take_all (length news) news (omega arith))),
+    ones_output news began now Done text h
+        ∙ ap (λ (told : List NewFile). s.output ++ lines_text told) (sym (take_all (length news) news (omega arith))),
   )
   counted now (DiskFault k) text h =
       let within : k < length news = slice_get_within news k h.0.next h.0.is in
@@ -120,7 +136,8 @@ module _ (s : State) (news : List NewFile) (given : (migrate_asked s).Gives (Ok 
 
   module _ (old new : Counts) (after : Option State) (result : Outcome) where
     said_leaves : IsSaidLast news began after result → Leaves (migrate_asked s) s after old new result
-    said_leaves h = (h.0, h.1, h.3, says_prints (migrate_asked s) s h.0 old new result h.1 (last_says h.0 result h.1 h.2))
+    said_leaves h =
+        (h.0, h.1, h.3, says_prints (migrate_asked s) s h.0 old new result h.1 (last_says h.0 result h.1 h.2))
 
     cut_leaves : IsCutLast news began after old new result → Leaves (migrate_asked s) s after old new result
     cut_leaves h =
@@ -129,7 +146,8 @@ module _ (s : State) (news : List NewFile) (given : (migrate_asked s).Gives (Ok 
 
     line_leaves : IsCutLine news began after result → Leaves (migrate_asked s) s after old new result
     line_leaves h =
-        let all : Some h.0 ≡ Some (printed [] h.0) = ap (λ (o : List ℕ). Some (record h.0 { output = o })) (sym (append-nil h.0.output)) in
+        let all : Some h.0 ≡ Some (printed [] h.0) = ap (λ (o : List ℕ). Some (record h.0 { output = o }))
+        (sym (append-nil h.0.output)) in
         (h.0, [], h.4 ∙ all, subst (λ x. Prints (migrate_asked s) s h.0 old new x []) (sym h.3) (inr (inr (news, given, h.2, refl))))
 
     ends_leaves : EndsMigration news (Some began) after old new result → Leaves (migrate_asked s) s after old new result
@@ -142,14 +160,17 @@ ends_since : (news : List NewFile) (o after : Option State) (old mid new : Count
     → EndsMigration news o after mid new result → EndsMigration news o after old new result
 ends_since news None after old mid new result fell h = h
 ends_since news (Some s) after old mid new result fell (inl h) = inl h
-ends_since news (Some s) after old mid new result fell (inr (inl h)) = inr (inl (h.0, h.1, h.2, h.3, h.4, cause_from old mid new h.1 fell h.5, h.6, h.7))
+ends_since news (Some s) after old mid new result fell (inr (inl h)) =
+    inr (inl (h.0, h.1, h.2, h.3, h.4, cause_from old mid new h.1 fell h.5, h.6, h.7))
 ends_since news (Some s) after old mid new result fell (inr (inr h)) = inr (inr h)
 
 -- what is done of a migration that is ready is answered
 pub migration_answers : (o told after : Option State) (news : List NewFile) (old mid new : Counts) (result : Outcome)
-    → IfSome o (λ s. (migrate_asked s).Gives (Ok (migrate_checkpoints news))) → told ≡ option_map (with_pending settled) o
+    → IfSome o (λ s. (migrate_asked s).Gives (Ok (migrate_checkpoints news)))
+    → told ≡ option_map (with_pending settled) o
     → EndsMigration news told after mid new result → NoneFell old mid → AnswersTo migrate_asked o after old new result
-migration_answers None told after news old mid new result given is ends fell = subst (λ t. EndsMigration news t after mid new result) is ends
+migration_answers None told after news old mid new result given is ends fell =
+    subst (λ t. EndsMigration news t after mid new result) is ends
 migration_answers (Some s) told after news old mid new result given is ends fell =
     ends_leaves s news given old new after result
     (ends_since news (Some (with_pending settled s)) after old mid new result fell (subst (λ t. EndsMigration news t after mid new result) is ends))
@@ -161,17 +182,21 @@ module _ {H : Type 0} (moment : H → ℕ) (left_since : H → ℕ → Left → 
   early None left h = tt
   early (Some s) left h = inl h
 
-  pub early_leaves : (o : Option State) (old new : H) → LeavesOnly moment left_since old new (LeftTo migrate_asked o) → LeavesOnly moment left_since old new (LeftToMigration migrate_asked o)
-  early_leaves o old new run = runs.weaker moment left_since old new (LeftTo migrate_asked o) (LeftToMigration migrate_asked o) (early o) run
+  pub early_leaves : (o : Option State) (old new : H) → LeavesOnly moment left_since old new (LeftTo migrate_asked o)
+      → LeavesOnly moment left_since old new (LeftToMigration migrate_asked o)
+  early_leaves o old new run =
+      runs.weaker moment left_since old new (LeftTo migrate_asked o) (LeftToMigration migrate_asked o) (early o) run
 
-  pub migration_leaves : (o told : Option State) (news : List NewFile) (old mid new : H) → IfSome o (λ s. (migrate_asked s).Gives (Ok (migrate_checkpoints news)))
+  pub migration_leaves : (o told : Option State) (news : List NewFile) (old mid new : H)
+      → IfSome o (λ s. (migrate_asked s).Gives (Ok (migrate_checkpoints news)))
       → told ≡ option_map (with_pending settled) o → LeavesOnly moment left_since old mid (LeftTo migrate_asked o)
       → IfSome told (λ s. LeavesOnly moment left_since mid new (LeftMigrating news s)) → moment mid ≤ moment new
       → LeavesOnly moment left_since old new (LeftToMigration migrate_asked o)
   migration_leaves None told news old mid new given is so_far does later =
       record { later = omega (arith, so_far.later, later); each = λ left since. tt; before = λ t left le since. inr tt }
   migration_leaves (Some s) told news old mid new given is so_far does later =
-      runs.joins moment left_since old mid new (LeftToMigration migrate_asked (Some s)) (early_leaves (Some s) old mid so_far)
+      runs.joins moment left_since old mid new (LeftToMigration migrate_asked (Some s))
+      (early_leaves (Some s) old mid so_far)
       (runs.weaker moment left_since mid new (LeftMigrating news (with_pending settled s)) (LeftToMigration migrate_asked (Some s))
       (λ left h. inr (news, given, h))
       (subst (λ t. IfSome t (λ s. LeavesOnly moment left_since mid new (LeftMigrating news s))) is does))

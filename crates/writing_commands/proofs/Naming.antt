@@ -1,9 +1,9 @@
 -- What is said of a task that isn't refused by a name is said of the words that name it.
-use Rattle.std.proofs.Common.{◌≡◌, ◌∙◌, inl, inr, ℕ, List, ◌++◌, refl, sym, ap, Bool, true, false, if◌then◌else◌, Option, Some, None, Result, Ok, Err, IfSome}
+use Rattle.std.proofs.Common.{◌≡◌, ◌⊎◌, ◌∙◌, ⊎_elim, inl, inr, ℕ, List, ◌++◌, refl, sym, ap, Bool, true, false, if◌then◌else◌, Option, Some, None, Result, Ok, Err, IfSome, option_map}
 use Rattle.host_core.specs.Answers.{Gives, map_ok}
 use Rattle.host_core.specs.Counts.{Counts}
 use Rattle.host_core.specs.Crashes.{Left, LeavesOnly}
-use Rattle.host_core.specs.State.{State}
+use Rattle.host_core.specs.State.{State, settled, with_pending}
 use Rattle.host_core.proofs.Runs as runs
 use Rattle.checkpoints.specs.Names.{is_good_name}
 use Rattle.gcu_words.specs.Targets.{Target, patched, replaced, resumed, rolled_back}
@@ -19,12 +19,14 @@ use Rattle.gcu_requests.specs.WorkAsked.{change_asked, settled_asked, task_answe
 use Rattle.command_answers.specs.Answers.{Complete, IsStopped, IsUntouched, Prints, Says}
 use Rattle.command_answers.specs.Commands.{AnswersTo, CompleteTo}
 use Rattle.command_answers.specs.Commands.{LeftToChange, LeftToEarly}
+use Rattle.writing_commands.specs.Doing.{LeavesSettled}
 use Rattle.gcu_inputs.proofs.Finding.{first_refused, found_always}
 use Rattle.command_answers.proofs.Answering.{refused_says}
 
 -- ---- names
 
-named_by : (b : Bool) (name : List ℕ) (x : Target) → map_ok rolled_back (if b then Ok name else Err (BadName name)) ≡ Ok x → x ≡ rolled_back name
+named_by : (b : Bool) (name : List ℕ) (x : Target)
+    → map_ok rolled_back (if b then Ok name else Err (BadName name)) ≡ Ok x → x ≡ rolled_back name
 named_by true name x e = let same : rolled_back name ≡ x = cc in sym same
 named_by false name x e = absurd cc
 
@@ -63,7 +65,8 @@ pub record Widens (a b : Asking Request) : Type 0 where
   pub reads : (s : Source) → a.Reads s → b.Reads s
   pub gives : (r : Result Request Outcome) → a.Gives r → b.Gives r
 
-pub widened : (word : Task) (budget : ℕ) (s : State) → task_answer word ≡ Ok word → Widens (settled_asked word budget s) (change_asked word budget s)
+pub widened : (word : Task) (budget : ℕ) (s : State) → task_answer word ≡ Ok word
+    → Widens (settled_asked word budget s) (change_asked word budget s)
 widened word budget s named = record {
   reads = λ q reads. inr (word, named, reads);
   gives = λ r gives. inr (word, named, gives);
@@ -90,17 +93,21 @@ module _ (a b : Asking Request) (w : Widens a b) (before now : State) where
   says_wider other output h = (w.gives _ h.0, untouched_wider h.1, h.2)
 
   module _ (old new : Counts) where
-    prints_wider : (e : Outcome) (output : List ℕ) → Prints a before now old new e output → Prints b before now old new e output
+    prints_wider : (e : Outcome) (output : List ℕ) → Prints a before now old new e output
+        → Prints b before now old new e output
     prints_wider (PrintFault step) output (inl (inl acked, (other, rest, cause, says))) =
         inl (inl acked, (other, rest, cause, says_wider other (output ++ rest) says))
     prints_wider (PrintFault step) output (inl (inr (news, given, within, lines), (other, rest, cause, says))) =
         inl (inr (news, w.gives _ given, within, lines), (other, rest, cause, says_wider other (output ++ rest) says))
     prints_wider (PrintFault step) output (inr (inl (p, given, cut))) = inr (inl (p, w.gives _ given, cut))
-    prints_wider (PrintFault step) output (inr (inr (news, given, cut, none))) = inr (inr (news, w.gives _ given, cut, none))
+    prints_wider (PrintFault step) output (inr (inr (news, given, cut, none))) =
+        inr (inr (news, w.gives _ given, cut, none))
     prints_wider other output says = says_wider other output says
 
-pub answers_wider : (word : Task) (budget : ℕ) (before after : Option State) (old new : Counts) (result : Outcome) → task_answer word ≡ Ok word
-    → AnswersTo (settled_asked word budget) before after old new result → AnswersTo (change_asked word budget) before after old new result
+pub answers_wider : (word : Task) (budget : ℕ) (before after : Option State) (old new : Counts) (result : Outcome)
+    → task_answer word ≡ Ok word
+    → AnswersTo (settled_asked word budget) before after old new result
+    → AnswersTo (change_asked word budget) before after old new result
 answers_wider word budget None after old new result named h = h
 answers_wider word budget (Some s) after old new result named (now, output, is, prints) =
     (now, output, is, prints_wider (settled_asked word budget s) (change_asked word budget s) (widened word budget s named) s now old new result output prints)
@@ -111,7 +118,8 @@ early_left_wider : (word : Task) (budget : ℕ) (o : Option State) (left : Left)
     → LeftToEarly (settled_asked word budget) o left → LeftToEarly (change_asked word budget) o left
 early_left_wider word budget None left named h = tt
 early_left_wider word budget (Some s) left named (part, inl (now, answer, rest, says, same), may) =
-    let wider = says_wider (settled_asked word budget s) (change_asked word budget s) (widened word budget s named) s now answer (part ++ rest) says in
+    let wider = says_wider (settled_asked word budget s) (change_asked word budget s) (widened word budget s named) s
+    now answer (part ++ rest) says in
     (part, inl (now, answer, rest, wider, same), may)
 early_left_wider word budget (Some s) left named (part, inr (w, c, text, rest, given, fits, is), may) =
     (part, inr (w, c, text, rest, (widened word budget s named).gives _ given, fits, is), may)
@@ -124,16 +132,32 @@ left_wider word budget (Some s) left named (inr (w, c, text, given, fits, left_i
     inr (w, c, text, (widened word budget s named).gives _ given, fits, left_is, points_are)
 
 pub early_wider : {H : Type 0} (moment : H → ℕ) (left_since : H → ℕ → Left → Type 0) (word : Task) (budget : ℕ) (o : Option State) (old new : H) → task_answer word ≡ Ok word
-    → LeavesOnly moment left_since old new (LeftToEarly (settled_asked word budget) o) → LeavesOnly moment left_since old new (LeftToEarly (change_asked word budget) o)
+    → LeavesOnly moment left_since old new (LeftToEarly (settled_asked word budget) o)
+    → LeavesOnly moment left_since old new (LeftToEarly (change_asked word budget) o)
 early_wider moment left_since word budget o old new named run =
-    runs.weaker moment left_since old new (LeftToEarly (settled_asked word budget) o) (LeftToEarly (change_asked word budget) o)
+    runs.weaker moment left_since old new (LeftToEarly (settled_asked word budget) o)
+    (LeftToEarly (change_asked word budget) o)
     (λ left h. early_left_wider word budget o left named h) run
 
 pub leaves_wider : {H : Type 0} (moment : H → ℕ) (left_since : H → ℕ → Left → Type 0) (word : Task) (budget : ℕ) (o : Option State) (old new : H) → task_answer word ≡ Ok word
-    → LeavesOnly moment left_since old new (LeftToChange (settled_asked word budget) o) → LeavesOnly moment left_since old new (LeftToChange (change_asked word budget) o)
+    → LeavesOnly moment left_since old new (LeftToChange (settled_asked word budget) o)
+    → LeavesOnly moment left_since old new (LeftToChange (change_asked word budget) o)
 leaves_wider moment left_since word budget o old new named run =
-    runs.weaker moment left_since old new (LeftToChange (settled_asked word budget) o) (LeftToChange (change_asked word budget) o)
+    runs.weaker moment left_since old new (LeftToChange (settled_asked word budget) o)
+    (LeftToChange (change_asked word budget) o)
     (λ left h. left_wider word budget o left named h) run
+
+pub settles_wider : {H : Type 0} (moment : H → ℕ) (left_since : H → ℕ → Left → Type 0) (word : Task) (budget : ℕ) (o : Option State) (old new : H) → task_answer word ≡ Ok word
+    → LeavesOnly moment left_since old new (LeftToEarly (settled_asked word budget) o)
+    ⊎ LeavesSettled moment left_since old new o (LeftToChange (settled_asked word budget))
+    → LeavesOnly moment left_since old new (LeftToEarly (change_asked word budget) o)
+    ⊎ LeavesSettled moment left_since old new o (LeftToChange (change_asked word budget))
+settles_wider moment left_since word budget o old new named (inl run) =
+    inl (early_wider moment left_since word budget o old new named run)
+settles_wider moment left_since word budget o old new named (inr run) =
+    inr (λ t left early since.
+    ⊎_elim (λ before. inl before) (λ done. inr (left_wider word budget (option_map (with_pending settled) o) left named
+    done)) (run t left early since))
 
 -- ---- where nothing failed
 
@@ -141,9 +165,11 @@ complete_one : (word : Task) (budget : ℕ) (s : State) (result : Outcome) → t
     → Complete (settled_asked word budget s) result → Complete (change_asked word budget s) result
 complete_one word budget s result named (inl memory) = inl memory
 complete_one word budget s result named (inr (inl given)) = inr (inl ((widened word budget s named).gives _ given))
-complete_one word budget s result named (inr (inr (r, given, ends))) = inr (inr (r, (widened word budget s named).gives _ given, ends))
+complete_one word budget s result named (inr (inr (r, given, ends))) =
+    inr (inr (r, (widened word budget s named).gives _ given, ends))
 
-pub complete_wider : (word : Task) (budget : ℕ) (o : Option State) (old new : Counts) (result : Outcome) → task_answer word ≡ Ok word
+pub complete_wider : (word : Task) (budget : ℕ) (o : Option State) (old new : Counts) (result : Outcome)
+    → task_answer word ≡ Ok word
     → CompleteTo (settled_asked word budget) o old new result → CompleteTo (change_asked word budget) o old new result
 complete_wider word budget None old new result named h = tt
 complete_wider word budget (Some s) old new result named h = λ rose. complete_one word budget s result named (h rose)

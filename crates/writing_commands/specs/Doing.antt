@@ -1,5 +1,5 @@
 -- What the parts of a command that does a task give and leave.
-use Rattle.std.specs.Prelude.{◌≡◌, ◌<◌, ◌⊎◌, ℕ, List, [], ◌∷◌, ◌++◌, Bool, true, false, IsSome, length, map, Option, Some, None, Result, Ok, Err, option_map, ⊤}
+use Rattle.std.specs.Prelude.{◌≡◌, ◌<◌, ◌≤◌, ◌⊎◌, ℕ, List, [], ◌∷◌, ◌++◌, Bool, true, false, IsSome, length, map, Option, Some, None, Result, Ok, Err, option_map, ⊤}
 use Rattle.std.specs.FinMap.{get}
 use Rattle.host_core.specs.Counts.{Counts, Rose}
 use Rattle.host_core.specs.Crashes.{Left, MayLeaveInPrint}
@@ -135,3 +135,10 @@ EndsChange text c before after old new result =
 abbrev pub LeftDoing : List ℕ → Change → State → Left → Type 0
 LeftDoing text c s left =
     MayLeaveInPrint text (Some s) left ⊎ LeftChanged c (printed text s) left
+
+-- a crash leaves what it might have left before, or what P says of the same host with nothing pending
+abbrev pub LeavesSettled : {H : Type 0} → (H → ℕ) → (H → ℕ → Left → Type 0) → H → H
+    → Option State → (Option State → Left → Type 0) → Type 0
+LeavesSettled moment left_since old new o P =
+    (t : ℕ) (left : Left) → t ≤ moment old → left_since new t left
+    → left_since old t left ⊎ P (option_map (with_pending settled) o) left

@@ -1,9 +1,9 @@
 //! `gcu apply-patch PATCH`, `gcu replace FILE`, `gcu rollback NAME` and `gcu resume`: a plan printed and then
 //! done, step by step. `gcu sessions SCRIPT` does so what `operate.rt` makes ready.
-ghost use Rattle.std.specs.Prelude.{◌≡◌, ◌≤◌, ◌<◌, false, true, IfErr, IfOk, IfSome, length, map, option_map};
+ghost use Rattle.std.specs.Prelude.{◌≡◌, ◌≤◌, ◌<◌, ◌⊎◌, false, true, IfErr, IfOk, IfSome, length, map, option_map};
 ghost use Rattle.std.specs.List.{AllPass};
 ghost use Rattle.host_core.specs.Counts.{NoneFell, PrintMayRise};
-ghost use Rattle.host_core.specs.Crashes.{Elapses, LeavesOnly, MayLeaveInPrint};
+ghost use Rattle.host_core.specs.Crashes.{Elapses, LeavesOnly, MayLeaveInPrint, MayLeaveNow};
 ghost use Rattle.host_core.specs.Names.{longest_plain_name};
 ghost use Rattle.host_core.specs.State.{settled, with_pending};
 ghost use Rattle.conf_store.specs.Changes.{IsSettled};
@@ -24,7 +24,7 @@ ghost use Rattle.command_answers.specs.Answers.{HasCause, IsRefusal};
 ghost use Rattle.command_answers.specs.Commands.{AnswersTo, CompleteTo, IsReady};
 ghost use Rattle.command_answers.specs.Crashes.{LeftChanged, LeftSince};
 ghost use Rattle.command_answers.specs.Commands.{LeftToChange, LeftToEarly};
-ghost use Rattle.writing_commands.specs.Doing.{ClosesAs, EndsChange, EndsFrom, EndsWork, HasBytes, IsEnded, IsKept, IsPrepared, IsReadyIn, LeftDoing, change_by, is_over};
+ghost use Rattle.writing_commands.specs.Doing.{ClosesAs, EndsChange, EndsFrom, EndsWork, HasBytes, IsEnded, IsKept, IsPrepared, IsReadyIn, LeavesSettled, LeftDoing, change_by, is_over};
 ghost use Rattle.command_answers.specs.PlanCommands.{RefusesOrEnds};
 ghost use Rattle.command_answers.specs.Plannings.{IsPlanFor};
 
@@ -34,7 +34,7 @@ use change_apply::{ApplyFault, Ready, close, prepare as prepare_change, run};
 use checkpoints::points_are_in_other_files;
 use command_answers::find_plan;
 use conf_store::Stored;
-use gcu_output::{Outcome, say};
+use gcu_output::{DONE_LINE, Outcome, say};
 use gcu_requests::{Planning, prepare, test_task};
 use gcu_words::{Source, Target, Task};
 use host_core::{Host, Memory, Sequence};
@@ -78,6 +78,12 @@ pub fn change<H: Host>(
     // After a refusal a crash leaves what was there while nothing was written.
     ensures early { IsRefusal result → LeavesOnly H.moment H.left_since host.old host.new
         (LeftToEarly (change_asked (task_view task.entry) budget) (H.told host.old)) }
+    // Nothing is written; or what is pending is settled first, and what a crash leaves that it couldn't have left
+    // before is left of the same host with nothing pending.
+    ensures settles { LeavesOnly H.moment H.left_since host.old host.new
+        (LeftToEarly (change_asked (task_view task.entry) budget) (H.told host.old))
+        ⊎ LeavesSettled H.moment H.left_since host.old host.new (H.told host.old)
+        (LeftToChange (change_asked (task_view task.entry) budget)) }
     ensures goes { H.goes_on host.old host.new }
     ensures form { result ≡ usage → ⊥ }
     ensures complete { CompleteTo (change_asked (task_view task.entry) budget)
@@ -112,6 +118,10 @@ fn change_named<H: Host>(
         (LeftToChange (settled_asked (task_view task.entry) budget) (H.told host.old)) }
     ensures early { IsRefusal result → LeavesOnly H.moment H.left_since host.old host.new
         (LeftToEarly (settled_asked (task_view task.entry) budget) (H.told host.old)) }
+    ensures settles { LeavesOnly H.moment H.left_since host.old host.new
+        (LeftToEarly (settled_asked (task_view task.entry) budget) (H.told host.old))
+        ⊎ LeavesSettled H.moment H.left_since host.old host.new (H.told host.old)
+        (LeftToChange (settled_asked (task_view task.entry) budget)) }
     ensures goes { H.goes_on host.old host.new }
     ensures form { result ≡ usage → ⊥ }
     ensures complete { CompleteTo (settled_asked (task_view task.entry) budget)
@@ -145,6 +155,10 @@ fn make_ready<H: Host>(
     ensures bytes { IfOk result HasBytes }
     ensures told { IfOk result (λ _.
         H.told host.new ≡ option_map (with_pending settled) (H.told host.old)) }
+    ensures there { IfOk result (λ ready. IfSome (H.told host.new) (λ s.
+        IsReadyIn (work_asked (task_view task.entry) budget s) s ready)) }
+    ensures time { IfOk result (λ _. Elapses H.moment H.left_since host.old host.new
+        (MayLeaveNow (H.told host.new))) }
     ensures left { IfErr result (IsReady (settled_asked (task_view task.entry) budget)
         (H.told host.old) (H.told host.new)) }
     ensures kept { IfErr result (λ _. IsKept (H.told host.old) (H.told host.new)) }
@@ -239,32 +253,11 @@ fn ready_change(
     ensures bytes { IfOk result HasBytes }
     ensures err { IfErr result (λ e. e ≡ no_memory) }
 {
-    match ready_plan(alloc, planning, plan, closes) {
-        Ok(ready) => Ok(ready),
-        Err(Memory) => Err(Outcome::Memory),
-    }
-}
-
-/// The same, with every byte that it writes and prints.
-fn ready_plan(
-    alloc: Global,
-    planning: &Planning,
-    plan: &Plan,
-    closes: bool,
-) -> Result<ReadyChange, Memory>
-    requires ready { IsReadyToSearch planning.now }
-    requires most { planning.now.budget ≤ most_budget }
-    requires found { IsPlanFor (planning_of planning.now) plan.now }
-    ensures change { IfOk result (λ r.
-        r.ready ≡ change_by planning.now.ctx.settings planning.now.stored plan.now) }
-    ensures text { IfOk result (λ r. r.text.items ≡ text_of plan.now) }
-    ensures closes { IfOk result (λ r. r.closes ≡ closes) }
-    ensures bytes { IfOk result HasBytes }
-{
     listed_moves_are_defined();
     let text = plan_text(alloc, plan)?;
     let settings = &planning.ctx.settings;
-    ready_bytes(alloc, settings, &planning.stored, plan, text, closes)
+    let ready = ready_bytes(alloc, settings, &planning.stored, plan, text, closes)?;
+    Ok(ready)
 }
 
 /// Makes every byte of a change that does some moves: what it writes, and what it prints behind a text.
@@ -409,7 +402,7 @@ fn do_steps<H: Host>(change: &ReadyChange, host: &mut H) -> Outcome
     ensures form { result ≡ usage → ⊥ }
 {
     match run(host, &change.ready) {
-        Ok(()) => end(Outcome::Done, b"done\n", change.steps, host),
+        Ok(()) => end(Outcome::Done, DONE_LINE, change.steps, host),
         Err(ApplyFault::Disk { step }) => {
             let line = change.lines.disk_line(step);
             end(Outcome::DiskFault { step }, line, step, host)

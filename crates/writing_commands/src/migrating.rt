@@ -23,7 +23,7 @@ use checkpoints::{
     MigrateFault, Migration, PointError, migrate, migration_lines, prepare_migration,
 };
 use gcu_inputs::test_uninterrupted;
-use gcu_output::{Outcome, tell};
+use gcu_output::{DONE_LINE, Outcome, tell};
 use host_core::{Host, Memory, Names};
 use std::alloc::Global;
 
@@ -164,7 +164,7 @@ fn do_migration<H: Host>(ready: &ReadyMigration, host: &mut H) -> Outcome
     ensures form { result ≡ usage → ⊥ }
 {
     match migrate(host, &ready.migration, &ready.told) {
-        Ok(()) => end(Outcome::Done, b"done\n", ready.migration.len(), host),
+        Ok(()) => end(Outcome::Done, DONE_LINE, ready.migration.len(), host),
         Err(MigrateFault::Disk { step }) => {
             let line = ready.fault_line(step);
             end(Outcome::DiskFault { step }, line, step, host)

@@ -12,7 +12,7 @@ ghost use Rattle.command_answers.specs.PlanCommands.{RefusesOrEnds};
 use crate::changing::{ReadyChange, ready_bytes};
 use gcu_output::Outcome;
 use gcu_requests::{Operating, prepare_script};
-use host_core::{Host, Memory, Txt};
+use host_core::{Host, Txt};
 use move_core::{Boxes, Kit, listed_moves_are_defined};
 use operators::{Operated, moves_of, operate};
 use std::alloc::Global;
@@ -48,20 +48,6 @@ fn ready_commits(alloc: Global, kit: &mut Kit, operating: Operating) -> Result<R
     ensures bytes { IfOk result HasBytes }
     ensures err { IfErr result (λ e. e ≡ no_memory) }
 {
-    match ready_run(alloc, kit, operating) {
-        Ok(ready) => Ok(ready),
-        Err(Memory) => Err(Outcome::Memory),
-    }
-}
-
-/// The same, with every byte that it writes and prints.
-fn ready_run(alloc: Global, kit: &mut Kit, operating: Operating) -> Result<ReadyChange, Memory>
-    requires kinds { ⟦<Kit as Boxes>⟧.HasKinds kit.old }
-    requires ready { IsReadyToOperate operating }
-    ensures kinds { ⟦<Kit as Boxes>⟧.HasKinds kit.new }
-    ensures run { IfOk result (IsReadyRun operating) }
-    ensures bytes { IfOk result HasBytes }
-{
     listed_moves_are_defined();
     let Operated {
         stored,
@@ -69,5 +55,6 @@ fn ready_run(alloc: Global, kit: &mut Kit, operating: Operating) -> Result<Ready
         text,
     } = operate(alloc, kit, operating)?;
     let plan = moves_of(alloc, world.commits())?;
-    ready_bytes(alloc, &world.ctx().settings, &stored, &plan, text, false)
+    let ready = ready_bytes(alloc, &world.ctx().settings, &stored, &plan, text, false)?;
+    Ok(ready)
 }

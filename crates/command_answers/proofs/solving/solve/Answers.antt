@@ -1,3 +1,4 @@
+-- A plan for a target, or what is refused, or that there is none.
 use Rattle.std.proofs.lemmas.Result.{err_from_is_err_and}
 use Rattle.gcu_words.specs.Views.{target_view}
 use Rattle.std.proofs.Common.{Ok, Err}
@@ -36,14 +37,17 @@ returns-in_err-planning-clause-says g c =
 pub returns-in_err-planning-clause-cause : goal.returns-in_err-planning-clause-cause
 returns-in_err-planning-clause-cause g c =
     let p = err_from_is_err_and c.from_residual-in_err-planning.result c.from_residual-in_err-planning.ensures.1 in
-    rw (p.1, p.2) (refuses_ends (g.H.Host.counts c.args.host.now) (g.H.Host.counts c.prepare.new.host) c.in_err-planning.field-0.0 c.in_err-planning.ensures.cause)
+    rw (p.1, p.2)
+    (refuses_ends (g.H.Host.counts c.args.host.now) (g.H.Host.counts c.prepare.new.host) c.in_err-planning.field-0.0 c.in_err-planning.ensures.cause)
 
 -- a plan is searched for
 pub returns-clause-says : goal.returns-clause-says
 returns-clause-says g c =
-    plan_says (g.H.Host.told c.args.host.now) (dry_run_asked (reach (target_view c.args.target)) c.args.budget) c.in_ok-planning.planning c.find_plan.result
+    plan_says (g.H.Host.told c.args.host.now) (dry_run_asked (reach (target_view c.args.target)) c.args.budget)
+    c.in_ok-planning.planning c.find_plan.result
     (named_found (g.H.Host.told c.args.host.now) (target_view c.args.target) c.args.budget tt (Ok c.in_ok-planning.planning) c.in_ok-test_target.ensures.answer c.in_ok-planning.ensures.answer) c.find_plan.ensures.answer
 
 pub returns-clause-cause : goal.returns-clause-cause
 returns-clause-cause g c =
-    solved_ends c.in_ok-planning.planning c.find_plan.result (g.H.Host.counts c.args.host.now) (g.H.Host.counts c.prepare.new.host) c.find_plan.ensures.answer
+    solved_ends c.in_ok-planning.planning c.find_plan.result (g.H.Host.counts c.args.host.now)
+    (g.H.Host.counts c.prepare.new.host) c.find_plan.ensures.answer

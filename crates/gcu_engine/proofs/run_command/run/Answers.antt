@@ -18,6 +18,9 @@ returns-in-Some-clause-headline g c none = absurd (none.0 _ c.in-Some.ensures.fo
 pub returns-in-Some-clause-intent : goal.returns-in-Some-clause-intent
 returns-in-Some-clause-intent g c none = absurd (none.0 _ c.in-Some.ensures.form.0 c.in-Some.ensures.form.1)
 
+pub returns-in-Some-clause-settles : goal.returns-in-Some-clause-settles
+returns-in-Some-clause-settles g c none = absurd (none.0 _ c.in-Some.ensures.form.0 c.in-Some.ensures.form.1)
+
 pub returns-in-Some-clause-complete : goal.returns-in-Some-clause-complete
 returns-in-Some-clause-complete g c none = absurd (none.0 _ c.in-Some.ensures.form.0 c.in-Some.ensures.form.1)
 
@@ -49,6 +52,10 @@ returns-in-Some-read_scopes_form-clause-headline g c none = absurd (is_there _ _
 pub returns-in-Some-read_scopes_form-clause-intent : goal.returns-in-Some-read_scopes_form-clause-intent
 returns-in-Some-read_scopes_form-clause-intent g c none = absurd (is_there _ _ c.in-Some-read_scopes_form.ensures none.1)
 
+pub returns-in-Some-read_scopes_form-clause-settles : goal.returns-in-Some-read_scopes_form-clause-settles
+returns-in-Some-read_scopes_form-clause-settles g c none =
+    absurd (is_there _ _ c.in-Some-read_scopes_form.ensures none.1)
+
 pub returns-in-Some-read_scopes_form-clause-complete : goal.returns-in-Some-read_scopes_form-clause-complete
 returns-in-Some-read_scopes_form-clause-complete g c none = absurd (is_there _ _ c.in-Some-read_scopes_form.ensures none.1)
 
@@ -77,6 +84,10 @@ returns-in-None-read_scopes_form-clause-headline g c none = c.run_form.ensures.h
 
 pub returns-in-None-read_scopes_form-clause-intent : goal.returns-in-None-read_scopes_form-clause-intent
 returns-in-None-read_scopes_form-clause-intent g c none = c.run_form.ensures.intent c.args.words.now (sym c.read_form.ensures.form)
+
+pub returns-in-None-read_scopes_form-clause-settles : goal.returns-in-None-read_scopes_form-clause-settles
+returns-in-None-read_scopes_form-clause-settles g c none =
+    c.run_form.ensures.settles c.args.words.now (sym c.read_form.ensures.form)
 
 pub returns-in-None-read_scopes_form-clause-complete : goal.returns-in-None-read_scopes_form-clause-complete
 returns-in-None-read_scopes_form-clause-complete g c none = c.run_form.ensures.complete c.args.words.now (sym c.read_form.ensures.form)

@@ -15,6 +15,7 @@ use Rattle.command_answers.proofs.Elapsing.{changes_by, command_leaves, command_
 use Rattle.command_answers.proofs.Answering.{answers_by, said_answers, done_completes, said_completes, no_form_says, preview_says, preview_refuses, refused_cause}
 use Rattle.gcu_engine.proofs.Intending.{keeps_intent}
 use Rattle.gcu_engine.proofs.Resuming.{never_resumes, resumes}
+use Rattle.gcu_engine.proofs.Settling.{never_settles, settles}
 use Rattle.gcu_engine.proofs.run_form.run_form.Goals as goal
 
 -- words of a command whose form is that
@@ -166,16 +167,16 @@ returns-in-DeleteCheckpoint-clause-complete g c words is =
 pub returns-in-Plan-clause-answers : goal.returns-in-Plan-clause-answers
 returns-in-Plan-clause-answers g c words is =
     answers_by words _ (g.H.Host.told c.args.host.now) (g.H.Host.told c.dry_run.new.host) (g.H.Host.counts c.args.host.now) (g.H.Host.counts c.dry_run.new.host) c.dry_run.result
-    (of words c.args.command _ is c.in-Plan.is) c.dry_run.ensures.answers
+    (of words c.args.command _ is c.in-Plan.is) c.dry_run.ensures.does.answers
 
 pub returns-in-Plan-clause-crash : goal.returns-in-Plan-clause-crash
 returns-in-Plan-clause-crash g c words is =
-    leaves_by g.H.Host.moment g.H.Host.left_since words _ c.args.host.now c.dry_run.new.host (g.H.Host.told c.args.host.now) (of words c.args.command _ is c.in-Plan.is) (λ s left h. h) c.dry_run.ensures.crash
+    leaves_by g.H.Host.moment g.H.Host.left_since words _ c.args.host.now c.dry_run.new.host (g.H.Host.told c.args.host.now) (of words c.args.command _ is c.in-Plan.is) (λ s left h. h) c.dry_run.ensures.does.crash
 
 pub returns-in-Plan-clause-complete : goal.returns-in-Plan-clause-complete
 returns-in-Plan-clause-complete g c words is =
     complete_by words _ (g.H.Host.told c.args.host.now) (g.H.Host.counts c.args.host.now) (g.H.Host.counts c.dry_run.new.host) c.dry_run.result
-    (of words c.args.command _ is c.in-Plan.is) c.dry_run.ensures.complete
+    (of words c.args.command _ is c.in-Plan.is) c.dry_run.ensures.does.complete
 
 pub returns-in-Change-clause-answers : goal.returns-in-Change-clause-answers
 returns-in-Change-clause-answers g c words is =
@@ -222,16 +223,16 @@ returns-in-Abandon-clause-complete g c words is =
 pub returns-in-Demo-clause-answers : goal.returns-in-Demo-clause-answers
 returns-in-Demo-clause-answers g c words is =
     answers_by words _ (g.H.Host.told c.args.host.now) (g.H.Host.told c.demo.new.host) (g.H.Host.counts c.args.host.now) (g.H.Host.counts c.demo.new.host) c.demo.result
-    (of words c.args.command _ is c.in-Demo.is) c.demo.ensures.answers
+    (of words c.args.command _ is c.in-Demo.is) c.demo.ensures.does.answers
 
 pub returns-in-Demo-clause-crash : goal.returns-in-Demo-clause-crash
 returns-in-Demo-clause-crash g c words is =
-    leaves_by g.H.Host.moment g.H.Host.left_since words _ c.args.host.now c.demo.new.host (g.H.Host.told c.args.host.now) (of words c.args.command _ is c.in-Demo.is) (λ s left h. h) c.demo.ensures.crash
+    leaves_by g.H.Host.moment g.H.Host.left_since words _ c.args.host.now c.demo.new.host (g.H.Host.told c.args.host.now) (of words c.args.command _ is c.in-Demo.is) (λ s left h. h) c.demo.ensures.does.crash
 
 pub returns-in-Demo-clause-complete : goal.returns-in-Demo-clause-complete
 returns-in-Demo-clause-complete g c words is =
     complete_by words _ (g.H.Host.told c.args.host.now) (g.H.Host.counts c.args.host.now) (g.H.Host.counts c.demo.new.host) c.demo.result
-    (of words c.args.command _ is c.in-Demo.is) c.demo.ensures.complete
+    (of words c.args.command _ is c.in-Demo.is) c.demo.ensures.does.complete
 
 pub returns-in-CheckPlan-clause-answers : goal.returns-in-CheckPlan-clause-answers
 returns-in-CheckPlan-clause-answers g c words is =
@@ -377,6 +378,79 @@ pub returns-in-CheckPlan-clause-intent : goal.returns-in-CheckPlan-clause-intent
 returns-in-CheckPlan-clause-intent g c words is =
     keeps_intent g.H.Host.moment g.H.Host.left_since words (g.H.Host.told c.args.host.now) c.args.host.now c.check_plan.new.host (returns-in-CheckPlan-clause-crash g c words is)
 
+-- ---- what is pending
+
+pub returns-in-Unknown-clause-settles : goal.returns-in-Unknown-clause-settles
+returns-in-Unknown-clause-settles g c words is =
+    never_settles g.H.Host.moment g.H.Host.left_since words c.args.host.now c.refuse_words.new.host _
+    (g.H.Host.told c.args.host.now) (of words c.args.command _ is c.in-Unknown.is) tt
+
+pub returns-in-Ok-clause-settles : goal.returns-in-Ok-clause-settles
+returns-in-Ok-clause-settles g c words is =
+    never_settles g.H.Host.moment g.H.Host.left_since words c.args.host.now c.show.new.host _
+    (g.H.Host.told c.args.host.now) (of words c.args.command _ is c.in-Preview.is) tt
+
+pub returns-in-Err-clause-settles : goal.returns-in-Err-clause-settles
+returns-in-Err-clause-settles g c words is =
+    never_settles g.H.Host.moment g.H.Host.left_since words c.args.host.now c.say.new.host _
+    (g.H.Host.told c.args.host.now) (of words c.args.command _ is c.in-Preview.is) tt
+
+pub returns-in-Check-clause-settles : goal.returns-in-Check-clause-settles
+returns-in-Check-clause-settles g c words is =
+    never_settles g.H.Host.moment g.H.Host.left_since words c.args.host.now c.check.new.host _
+    (g.H.Host.told c.args.host.now) (of words c.args.command _ is c.in-Check.is) tt
+
+pub returns-in-ListCheckpoints-clause-settles : goal.returns-in-ListCheckpoints-clause-settles
+returns-in-ListCheckpoints-clause-settles g c words is =
+    never_settles g.H.Host.moment g.H.Host.left_since words c.args.host.now c.list_checkpoints.new.host _
+    (g.H.Host.told c.args.host.now) (of words c.args.command _ is c.in-ListCheckpoints.is) tt
+
+pub returns-in-MigrateCheckpoints-clause-settles : goal.returns-in-MigrateCheckpoints-clause-settles
+returns-in-MigrateCheckpoints-clause-settles g c words is =
+    never_settles g.H.Host.moment g.H.Host.left_since words c.args.host.now c.migrate_checkpoints.new.host _
+    (g.H.Host.told c.args.host.now) (of words c.args.command _ is c.in-MigrateCheckpoints.is) tt
+
+pub returns-in-SaveCheckpoint-clause-settles : goal.returns-in-SaveCheckpoint-clause-settles
+returns-in-SaveCheckpoint-clause-settles g c words is =
+    never_settles g.H.Host.moment g.H.Host.left_since words c.args.host.now c.save_checkpoint.new.host _
+    (g.H.Host.told c.args.host.now) (of words c.args.command _ is c.in-SaveCheckpoint.is) tt
+
+pub returns-in-DeleteCheckpoint-clause-settles : goal.returns-in-DeleteCheckpoint-clause-settles
+returns-in-DeleteCheckpoint-clause-settles g c words is =
+    never_settles g.H.Host.moment g.H.Host.left_since words c.args.host.now c.delete_checkpoint.new.host _
+    (g.H.Host.told c.args.host.now) (of words c.args.command _ is c.in-DeleteCheckpoint.is) tt
+
+pub returns-in-Plan-clause-settles : goal.returns-in-Plan-clause-settles
+returns-in-Plan-clause-settles g c words is =
+    never_settles g.H.Host.moment g.H.Host.left_since words c.args.host.now c.dry_run.new.host _
+    (g.H.Host.told c.args.host.now) (of words c.args.command _ is c.in-Plan.is) tt
+
+pub returns-in-Status-clause-settles : goal.returns-in-Status-clause-settles
+returns-in-Status-clause-settles g c words is =
+    never_settles g.H.Host.moment g.H.Host.left_since words c.args.host.now c.status.new.host _
+    (g.H.Host.told c.args.host.now) (of words c.args.command _ is c.in-Status.is) tt
+
+pub returns-in-Abandon-clause-settles : goal.returns-in-Abandon-clause-settles
+returns-in-Abandon-clause-settles g c words is =
+    never_settles g.H.Host.moment g.H.Host.left_since words c.args.host.now c.abandon.new.host _
+    (g.H.Host.told c.args.host.now) (of words c.args.command _ is c.in-Abandon.is) tt
+
+pub returns-in-Demo-clause-settles : goal.returns-in-Demo-clause-settles
+returns-in-Demo-clause-settles g c words is =
+    never_settles g.H.Host.moment g.H.Host.left_since words c.args.host.now c.demo.new.host _
+    (g.H.Host.told c.args.host.now) (of words c.args.command _ is c.in-Demo.is) tt
+
+pub returns-in-CheckPlan-clause-settles : goal.returns-in-CheckPlan-clause-settles
+returns-in-CheckPlan-clause-settles g c words is =
+    never_settles g.H.Host.moment g.H.Host.left_since words c.args.host.now c.check_plan.new.host _
+    (g.H.Host.told c.args.host.now) (of words c.args.command _ is c.in-CheckPlan.is) tt
+
+pub returns-in-Change-clause-settles : goal.returns-in-Change-clause-settles
+returns-in-Change-clause-settles g c words is =
+    settles g.H.Host.moment g.H.Host.left_since words c.args.host.now c.change.new.host (task_view c.in-Change.task)
+    c.in-Change.options.budget (g.H.Host.told c.args.host.now)
+    (of words c.args.command _ is c.in-Change.is) c.change.ensures.settles
+
 -- ---- a change that was stopped
 
 pub returns-in-Unknown-clause-resumes : goal.returns-in-Unknown-clause-resumes
@@ -491,3 +565,77 @@ returns-in-Demo-clause-only_usage g c none = told_usage c.args.command _ c.demo.
 
 pub returns-in-CheckPlan-clause-only_usage : goal.returns-in-CheckPlan-clause-only_usage
 returns-in-CheckPlan-clause-only_usage g c none = told_usage c.args.command _ c.check_plan.result c.in-CheckPlan.is refl none
+
+-- ---- the commands that only read, of which each says all in one record
+
+pub returns-in-Check-clause-cause : goal.returns-in-Check-clause-cause
+returns-in-Check-clause-cause g c = c.check.ensures.cause
+
+pub returns-in-Check-clause-counts : goal.returns-in-Check-clause-counts
+returns-in-Check-clause-counts g c = c.check.ensures.counts
+
+pub returns-in-Check-clause-goes : goal.returns-in-Check-clause-goes
+returns-in-Check-clause-goes g c = c.check.ensures.goes
+
+pub returns-in-Check-clause-usage : goal.returns-in-Check-clause-usage
+returns-in-Check-clause-usage g c said = absurd (c.check.ensures.form said)
+
+pub returns-in-ListCheckpoints-clause-cause : goal.returns-in-ListCheckpoints-clause-cause
+returns-in-ListCheckpoints-clause-cause g c = c.list_checkpoints.ensures.cause
+
+pub returns-in-ListCheckpoints-clause-counts : goal.returns-in-ListCheckpoints-clause-counts
+returns-in-ListCheckpoints-clause-counts g c = c.list_checkpoints.ensures.counts
+
+pub returns-in-ListCheckpoints-clause-goes : goal.returns-in-ListCheckpoints-clause-goes
+returns-in-ListCheckpoints-clause-goes g c = c.list_checkpoints.ensures.goes
+
+pub returns-in-ListCheckpoints-clause-usage : goal.returns-in-ListCheckpoints-clause-usage
+returns-in-ListCheckpoints-clause-usage g c said = absurd (c.list_checkpoints.ensures.form said)
+
+pub returns-in-Plan-clause-cause : goal.returns-in-Plan-clause-cause
+returns-in-Plan-clause-cause g c = c.dry_run.ensures.does.cause
+
+pub returns-in-Plan-clause-counts : goal.returns-in-Plan-clause-counts
+returns-in-Plan-clause-counts g c = c.dry_run.ensures.does.counts
+
+pub returns-in-Plan-clause-goes : goal.returns-in-Plan-clause-goes
+returns-in-Plan-clause-goes g c = c.dry_run.ensures.does.goes
+
+pub returns-in-Plan-clause-usage : goal.returns-in-Plan-clause-usage
+returns-in-Plan-clause-usage g c said = absurd (c.dry_run.ensures.does.form said)
+
+pub returns-in-Status-clause-cause : goal.returns-in-Status-clause-cause
+returns-in-Status-clause-cause g c = c.status.ensures.cause
+
+pub returns-in-Status-clause-counts : goal.returns-in-Status-clause-counts
+returns-in-Status-clause-counts g c = c.status.ensures.counts
+
+pub returns-in-Status-clause-goes : goal.returns-in-Status-clause-goes
+returns-in-Status-clause-goes g c = c.status.ensures.goes
+
+pub returns-in-Status-clause-usage : goal.returns-in-Status-clause-usage
+returns-in-Status-clause-usage g c said = absurd (c.status.ensures.form said)
+
+pub returns-in-Demo-clause-cause : goal.returns-in-Demo-clause-cause
+returns-in-Demo-clause-cause g c = c.demo.ensures.does.cause
+
+pub returns-in-Demo-clause-counts : goal.returns-in-Demo-clause-counts
+returns-in-Demo-clause-counts g c = c.demo.ensures.does.counts
+
+pub returns-in-Demo-clause-goes : goal.returns-in-Demo-clause-goes
+returns-in-Demo-clause-goes g c = c.demo.ensures.does.goes
+
+pub returns-in-Demo-clause-usage : goal.returns-in-Demo-clause-usage
+returns-in-Demo-clause-usage g c said = absurd (c.demo.ensures.does.form said)
+
+pub returns-in-CheckPlan-clause-cause : goal.returns-in-CheckPlan-clause-cause
+returns-in-CheckPlan-clause-cause g c = c.check_plan.ensures.cause
+
+pub returns-in-CheckPlan-clause-counts : goal.returns-in-CheckPlan-clause-counts
+returns-in-CheckPlan-clause-counts g c = c.check_plan.ensures.counts
+
+pub returns-in-CheckPlan-clause-goes : goal.returns-in-CheckPlan-clause-goes
+returns-in-CheckPlan-clause-goes g c = c.check_plan.ensures.goes
+
+pub returns-in-CheckPlan-clause-usage : goal.returns-in-CheckPlan-clause-usage
+returns-in-CheckPlan-clause-usage g c said = absurd (c.check_plan.ensures.form said)

@@ -1,14 +1,5 @@
-use Rattle.std.proofs.Common.{codes}
-use Rattle.gcu_demo.specs.Demo.{vlans_with}
-use Rattle.gcu_output.specs.Lines.{last_line, line_feed}
-use Rattle.gcu_output.specs.declared.outcomes.Outcome.TheVariants.{Done}
-use Rattle.command_answers.specs.Summary.{changes_with, counted}
-use Rattle.reading_commands.proofs.SummaryTexts.{lines_joined}
+use Rattle.std.proofs.Common.{ℕ, Global, Vec, ap, ◌∙◌}
 use Rattle.reading_commands.proofs.demos.summary_text.Goals as goal
 
--- the lines stand one behind the other
 pub returns : goal.returns
-returns c =
-    rw (c.in_ok-push_str.ensures.bytes, c.in_ok-push_count-4.ensures, c.in_ok-push_count-3.ensures, c.in_ok-push_count-2.ensures, c.in_ok-push_count.ensures, c.new-text.ensures.bytes)
-    (lines_joined (counted (codes "ports") c.args.ports) (counted (codes "vlans") (vlans_with c.args.ports)) (counted (codes "changes") (changes_with c.args.ports))
-    (counted (codes "steps") c.args.steps) line_feed (last_line Done))
+returns c = ap (λ (v : Vec ℕ Global). v.items) c.into_bytes.ensures.value ∙ c.in_ok-lines.ensures

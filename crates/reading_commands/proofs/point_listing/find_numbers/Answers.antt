@@ -17,7 +17,8 @@ returns-in_err-test_uninterrupted-clause-answer g c =
 -- none was
 pub returns-clause-answer : goal.returns-clause-answer
 returns-clause-answer g c =
-    gate_open (λ all. list_checkpoints (map numbered_view all)) (g.H.Host.told c.args.host.now) uninterrupted numbers_asked c.read_numbers.result c.in_ok-test_uninterrupted.ensures.answer
+    gate_open (λ all. list_checkpoints (map numbered_view all)) (g.H.Host.told c.args.host.now) uninterrupted
+    numbers_asked c.read_numbers.result c.in_ok-test_uninterrupted.ensures.answer
     (rw c.test_uninterrupted.ensures.reads.state at c.read_numbers.ensures.answer)
 
 -- ---- time

@@ -5,7 +5,8 @@ use Rattle.reading_commands.proofs.point_listing.line_of.Goals as goal
 
 pub returns-in-Some : goal.returns-in-Some
 returns-in-Some c =
-    subst (λ (o : Option ℕ). IfOk c.format.result (λ t. string_bytes t ≡ named_number (c.args.numbered.now.name, o))) (sym c.in-Some.is)
+    subst (λ (o : Option ℕ). IfOk c.format.result (λ t. string_bytes t ≡ named_number (c.args.numbered.now.name, o)))
+    (sym c.in-Some.is)
     (IfOk-weaker c.format.result _ _ (λ s h. let g = rw c.as_str-name.ensures.text at h in simp append_assoc g) c.format.ensures.ok)
 
 pub returns-in-None : goal.returns-in-None

@@ -1,4 +1,4 @@
-use Rattle.std.proofs.Common.{inl, inr, ℕ, refl, sym, ap, subst}
+use Rattle.std.proofs.Common.{inl, inr, ℕ, refl, sym, ap, subst, arith}
 use Rattle.host_core.specs.Counts.{Counts, Rose}
 use Rattle.host_core.specs.Crashes.{Elapses, MayLeaveNow}
 use Rattle.gcu_output.specs.Lines.{last_line}
@@ -9,8 +9,9 @@ use Rattle.command_answers.proofs.Answering.{said_to}
 use Rattle.command_answers.proofs.Causes.{disk_fell, said_cause}
 use Rattle.writing_commands.proofs.Changes.{cause_from}
 use Rattle.command_answers.proofs.Elapsing.{asking_leaves_behind}
+use Rattle.scope_commands.proofs.ScopesIdle.{files_kept}
 use Rattle.scope_commands.proofs.ScopesPoints.{points_kept, points_left}
-use Rattle.scope_commands.proofs.Settling.{settled_now, settling_says}
+use Rattle.scope_commands.proofs.Settling.{settled_now, settling_says, still_before}
 use Rattle.scope_commands.proofs.applying.apply_scopes.Goals as goal
 
 -- ---- nothing is pending
@@ -25,11 +26,19 @@ returns-in-Ok-clause-applies g c =
       settles = c.in-Ok.ensures.ok;
       time = c.settle.ensures.time;
       counted = c.settle.ensures.counts;
+      starts = (omega arith, λ left since. g.met.H.Host.only_now c.settle.new.self left since);
+      begins = still_before g.H.Host.told g.H.Host.moment g.H.Host.left_since c.args.host.now c.settle.new.self
+          (λ left since. g.met.H.Host.only_now c.args.host.now left since) c.in-Ok.ensures.ok c.settle.ensures.time;
       does = c.apply_settled.ensures.does;
       points = points_kept g.H.Host.told g.H.Host.counts g.H.Host.moment g.H.Host.left_since c.scopes_keep_points.ensures (scopes_view c.args.change)
           c.args.host.now c.settle.new.self c.apply_settled.new.host c.apply_settled.result c.in-Ok.ensures.ok c.apply_settled.ensures.does;
       points_left = points_left g.H.Host.told g.H.Host.counts g.H.Host.moment g.H.Host.left_since c.scopes_keep_points.ensures (scopes_view c.args.change)
           c.args.host.now c.settle.new.self c.apply_settled.new.host c.apply_settled.result c.in-Ok.ensures.ok c.apply_settled.ensures.does;
+      kept =
+          files_kept g.H.Host.told g.H.Host.counts g.H.Host.moment g.H.Host.left_since c.plans_of_scopes_are_one.ensures
+          (scopes_view c.args.change)
+          c.args.host.now c.settle.new.self c.apply_settled.new.host c.apply_settled.result c.in-Ok.ensures.ok
+          c.apply_settled.ensures.does;
     })
 
 pub returns-in-Ok-clause-cause : goal.returns-in-Ok-clause-cause

@@ -9,6 +9,7 @@ use Rattle.command_answers.proofs.Completing.{completes}
 use Rattle.scope_commands.proofs.ScopesDoing.{done_answers, done_complete, done_left, fell_further, refused_answers, refused_complete, refused_left}
 use Rattle.scope_commands.proofs.ScopeIntents.{are_closed}
 use Rattle.scope_commands.proofs.ScopeReadiness.{are_ready}
+use Rattle.scope_commands.proofs.ScopesIdle.{refused_keeps}
 use Rattle.scope_commands.proofs.ScopesSolving.{fell_on, still_left}
 use Rattle.scope_commands.proofs.change_scopes.change_settled.Goals as goal
 
@@ -44,7 +45,8 @@ returns-in-Ok-clause-does g c =
           c.in-Ok.ensures.still.tells c.in-Ok.ensures.works c.do_scopes.ensures.answers c.make_ready.ensures.counts;
       later = omega (arith, c.in-Ok.ensures.still.later, c.do_scopes.ensures.later);
       crash = done_left g.H.Host.told g.H.Host.moment g.H.Host.left_since path budget c.args.host.now c.make_ready.new.host c.do_scopes.new.host works
-          (λ left since. g.met.H.Host.only_now c.args.host.now left since) c.in-Ok.ensures.still c.in-Ok.ensures.works c.do_scopes.ensures.any_moment;
+          c.in-Ok.ensures.still c.in-Ok.ensures.works c.do_scopes.ensures.any_moment;
+      refused = λ any. absurd (c.do_scopes.ensures.works any);
       complete = done_complete path budget (g.H.Host.told c.args.host.now) works (g.H.Host.counts c.args.host.now) (g.H.Host.counts c.do_scopes.new.host) c.do_scopes.result
           c.in-Ok.ensures.works (returns-in-Ok-clause-cause g c) c.do_scopes.ensures.works;
       none_fell = fell_further (g.H.Host.counts c.args.host.now) (g.H.Host.counts c.make_ready.new.host) (g.H.Host.counts c.do_scopes.new.host) c.make_ready.ensures.counts c.do_scopes.ensures.counts;
@@ -70,13 +72,16 @@ returns-in-Err-clause-does g c =
     let answers = said_to asking (g.H.Host.told c.args.host.now) (g.H.Host.told c.say.new.host) (g.H.Host.counts c.args.host.now) (g.H.Host.counts c.make_ready.new.host) (g.H.Host.counts c.say.new.host)
     c.in-Err.outcome (last_line c.in-Err.outcome) c.say.result (rw c.in-Err.ensures.still.tells at c.say.ensures.said) c.say.ensures.counts
     (refused_cause (g.H.Host.counts c.args.host.now) (g.H.Host.counts c.make_ready.new.host) c.in-Err.outcome c.in-Err.ensures.cause) says in
+    let unwritten = still_left g.H.Host.told g.H.Host.moment g.H.Host.left_since asking c.args.host.now
+    c.make_ready.new.host c.say.new.host
+    c.in-Err.outcome (last_line c.in-Err.outcome) c.in-Err.ensures.still c.say.ensures.time says in
     record {
       answers = refused_answers path budget (g.H.Host.told c.args.host.now) (g.H.Host.told c.say.new.host) (g.H.Host.counts c.args.host.now) (g.H.Host.counts c.say.new.host) c.say.result answers;
       later = omega (arith, c.in-Err.ensures.still.later, c.say.ensures.time.later);
-      crash = λ left since.
-          refused_left path budget (g.H.Host.told c.args.host.now) left
-          (still_left g.H.Host.told g.H.Host.moment g.H.Host.left_since asking c.args.host.now c.make_ready.new.host c.say.new.host
-          c.in-Err.outcome (last_line c.in-Err.outcome) (λ left since. g.met.H.Host.only_now c.args.host.now left since) c.in-Err.ensures.still c.say.ensures.time says left since);
+      crash = λ left since. refused_left path budget (g.H.Host.told c.args.host.now) left (unwritten left since);
+      refused =
+          λ any left since. refused_keeps path budget (g.H.Host.told c.args.host.now) left c.requires.clean
+          (unwritten left since);
       complete = refused_complete path budget (g.H.Host.told c.args.host.now) (g.H.Host.counts c.args.host.now) (g.H.Host.counts c.say.new.host) c.say.result
           (completes asking (g.H.Host.told c.args.host.now) (g.H.Host.told c.say.new.host) (g.H.Host.counts c.args.host.now) (g.H.Host.counts c.say.new.host) c.say.result
           (returns-in-Err-clause-cause g c) answers);

@@ -30,7 +30,7 @@ returns-in-Ok-clause-prints g c =
       answers = answers;
       later = omega (arith, c.in-Ok.ensures.still.later, c.show_plans.ensures.time.later);
       crash = still_left g.H.Host.told g.H.Host.moment g.H.Host.left_since asking c.args.host.now c.solve_scopes.new.host c.show_plans.new.host
-          Done text (λ left since. g.met.H.Host.only_now c.args.host.now left since) c.in-Ok.ensures.still c.show_plans.ensures.time says;
+          Done text c.in-Ok.ensures.still c.show_plans.ensures.time says;
       complete = completes asking (g.H.Host.told c.args.host.now) (g.H.Host.told c.show_plans.new.host) (g.H.Host.counts c.args.host.now) (g.H.Host.counts c.show_plans.new.host) c.show_plans.result
           (returns-in-Ok-clause-cause g c) answers;
       none_fell = fell_on (g.H.Host.counts c.args.host.now) (g.H.Host.counts c.solve_scopes.new.host) (g.H.Host.counts c.show_plans.new.host) c.solve_scopes.ensures.counts c.show_plans.ensures.counts;
@@ -47,7 +47,7 @@ returns-in-Err-clause-prints g c =
       answers = answers;
       later = omega (arith, c.in-Err.ensures.still.later, c.say.ensures.time.later);
       crash = still_left g.H.Host.told g.H.Host.moment g.H.Host.left_since asking c.args.host.now c.solve_scopes.new.host c.say.new.host
-          c.in-Err.outcome (last_line c.in-Err.outcome) (λ left since. g.met.H.Host.only_now c.args.host.now left since) c.in-Err.ensures.still c.say.ensures.time says;
+          c.in-Err.outcome (last_line c.in-Err.outcome) c.in-Err.ensures.still c.say.ensures.time says;
       complete = completes asking (g.H.Host.told c.args.host.now) (g.H.Host.told c.say.new.host) (g.H.Host.counts c.args.host.now) (g.H.Host.counts c.say.new.host) c.say.result
           (returns-in-Err-clause-cause g c) answers;
       none_fell = fell_on (g.H.Host.counts c.args.host.now) (g.H.Host.counts c.solve_scopes.new.host) (g.H.Host.counts c.say.new.host) c.solve_scopes.ensures.counts c.say.ensures.counts;

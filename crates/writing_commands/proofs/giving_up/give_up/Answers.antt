@@ -1,3 +1,4 @@
+-- A change given up, or what is refused, at each call.
 use Rattle.std.proofs.Common.{◌≡◌, inr, Ok, refl, ◌∙◌, sym, subst}
 use Rattle.std.proofs.lemmas.Result.{err_from_is_err_and}
 use Rattle.host_core.specs.Crashes.{Elapses, LeavesOnly, MayLeaveNow}
@@ -19,12 +20,14 @@ use Rattle.writing_commands.proofs.giving_up.give_up.Goals as goal
 pub returns-in-Err-clause-left : goal.returns-in-Err-clause-left
 returns-in-Err-clause-left g c =
     ready_before abandon_asked (g.H.Host.told c.args.host.now) (g.H.Host.told c.settle.new.self) (DiskFault 0)
-    (g.H.Host.counts c.args.host.now) (g.H.Host.counts c.settle.new.self) request.abandon c.in-Err.ensures.err (refl, c.in-Err.ensures.cause)
+    (g.H.Host.counts c.args.host.now) (g.H.Host.counts c.settle.new.self) request.abandon c.in-Err.ensures.err
+    (refl, c.in-Err.ensures.cause)
     (settling_fault_found (g.H.Host.told c.args.host.now) 0)
 
 pub returns-in-Err-clause-crash : goal.returns-in-Err-clause-crash
 returns-in-Err-clause-crash g c =
-    asking_goes_on g.H.Host.moment g.H.Host.left_since abandon_asked (g.H.Host.told c.args.host.now) (g.H.Host.told c.settle.new.self) c.args.host.now c.settle.new.self c.in-Err.ensures.err
+    asking_goes_on g.H.Host.moment g.H.Host.left_since abandon_asked (g.H.Host.told c.args.host.now)
+    (g.H.Host.told c.settle.new.self) c.args.host.now c.settle.new.self c.in-Err.ensures.err
     (λ left since. g.met.H.Host.only_now c.args.host.now left since) c.settle.ensures.time
 
 -- ---- where no change was stopped
@@ -34,13 +37,15 @@ returns-in_err-test_interrupted-in-Ok-clause-left g c =
     let p = err_from_is_err_and c.from_residual.result c.from_residual.ensures.1 in
     rw (p.1, p.2)
     (ready_settled abandon_asked (g.H.Host.told c.args.host.now) (g.H.Host.told c.test_interrupted.new.host) c.in_err-test_interrupted-in-Ok.field-0.0
-    (g.H.Host.counts c.settle.new.self) (g.H.Host.counts c.test_interrupted.new.host) request.abandon (c.test_interrupted.ensures.reads.state ∙ c.in-Ok.ensures.ok) c.in_err-test_interrupted-in-Ok.ensures.cause
+    (g.H.Host.counts c.settle.new.self) (g.H.Host.counts c.test_interrupted.new.host) request.abandon
+    (c.test_interrupted.ensures.reads.state ∙ c.in-Ok.ensures.ok) c.in_err-test_interrupted-in-Ok.ensures.cause
     (settling_reads (g.H.Host.told c.args.host.now))
     (none_found (g.H.Host.told c.args.host.now) (g.H.Host.told c.settle.new.self) c.in_err-test_interrupted-in-Ok.field-0.0 c.in-Ok.ensures.ok c.in_err-test_interrupted-in-Ok.ensures.answer))
 
 pub returns-in_err-test_interrupted-in-Ok-clause-crash : goal.returns-in_err-test_interrupted-in-Ok-clause-crash
 returns-in_err-test_interrupted-in-Ok-clause-crash g c =
-    asking_settles g.H.Host.moment g.H.Host.left_since abandon_asked (g.H.Host.told c.args.host.now) (g.H.Host.told c.settle.new.self) c.args.host.now c.test_interrupted.new.host c.in-Ok.ensures.ok
+    asking_settles g.H.Host.moment g.H.Host.left_since abandon_asked (g.H.Host.told c.args.host.now)
+    (g.H.Host.told c.settle.new.self) c.args.host.now c.test_interrupted.new.host c.in-Ok.ensures.ok
     (λ left since. g.met.H.Host.only_now c.args.host.now left since)
     (elapses_both g.H.Host.moment g.H.Host.left_since c.args.host.now c.settle.new.self c.test_interrupted.new.host (MayLeaveNow (g.H.Host.told c.settle.new.self)) c.settle.ensures.time c.test_interrupted.ensures.reads.time)
 
@@ -55,14 +60,17 @@ returns-in_err-test_interrupted-in-Ok-clause-early g c =
 
 pub remove_intent-requires-clause-ready : goal.remove_intent-requires-clause-ready
 remove_intent-requires-clause-ready g c =
-    may_remove (g.H.Host.told c.args.host.now) (g.H.Host.told c.test_interrupted.new.host) (c.test_interrupted.ensures.reads.state ∙ c.in-Ok.ensures.ok)
+    may_remove (g.H.Host.told c.args.host.now) (g.H.Host.told c.test_interrupted.new.host)
+    (c.test_interrupted.ensures.reads.state ∙ c.in-Ok.ensures.ok)
     (subst (λ o. Finds {X = Unit {0}} o (λ u. u) (Ok tt) interrupted) (sym c.test_interrupted.ensures.reads.state) c.in_ok-test_interrupted-in-Ok.ensures.answer)
 
 pub returns-in_ok-test_interrupted-in-Ok-clause-left : goal.returns-in_ok-test_interrupted-in-Ok-clause-left
 returns-in_ok-test_interrupted-in-Ok-clause-left g c =
     let is = c.test_interrupted.ensures.reads.state ∙ c.in-Ok.ensures.ok in
-    let gate = subst (λ o. Finds {X = Unit {0}} o (λ u. u) (Ok tt) interrupted) (sym c.test_interrupted.ensures.reads.state) c.in_ok-test_interrupted-in-Ok.ensures.answer in
-    ready_written abandon_asked (g.H.Host.told c.args.host.now) (g.H.Host.told c.test_interrupted.new.host) (g.H.Host.told c.remove_intent.new.host)
+    let gate = subst (λ o. Finds {X = Unit {0}} o (λ u. u) (Ok tt) interrupted)
+    (sym c.test_interrupted.ensures.reads.state) c.in_ok-test_interrupted-in-Ok.ensures.answer in
+    ready_written abandon_asked (g.H.Host.told c.args.host.now) (g.H.Host.told c.test_interrupted.new.host)
+    (g.H.Host.told c.remove_intent.new.host)
     request.abandon IsClosed IsClosedOrNot abandoning c.remove_intent.result
     (g.H.Host.counts c.test_interrupted.new.host) (g.H.Host.counts c.remove_intent.new.host) is
     c.remove_intent.ensures.ok c.remove_intent.ensures.err c.remove_intent.ensures.cause
@@ -73,11 +81,16 @@ returns-in_ok-test_interrupted-in-Ok-clause-left g c =
 pub returns-in_ok-test_interrupted-in-Ok-clause-crash : goal.returns-in_ok-test_interrupted-in-Ok-clause-crash
 returns-in_ok-test_interrupted-in-Ok-clause-crash g c =
     let is = c.test_interrupted.ensures.reads.state ∙ c.in-Ok.ensures.ok in
-    let gate = subst (λ o. Finds {X = Unit {0}} o (λ u. u) (Ok tt) interrupted) (sym c.test_interrupted.ensures.reads.state) c.in_ok-test_interrupted-in-Ok.ensures.answer in
-    let so_far = elapses_both g.H.Host.moment g.H.Host.left_since c.args.host.now c.settle.new.self c.test_interrupted.new.host (MayLeaveNow (g.H.Host.told c.settle.new.self)) c.settle.ensures.time c.test_interrupted.ensures.reads.time in
-    writes_within g.H.Host.moment g.H.Host.left_since abandon_asked (g.H.Host.told c.args.host.now) (g.H.Host.told c.test_interrupted.new.host)
+    let gate = subst (λ o. Finds {X = Unit {0}} o (λ u. u) (Ok tt) interrupted)
+    (sym c.test_interrupted.ensures.reads.state) c.in_ok-test_interrupted-in-Ok.ensures.answer in
+    let so_far = elapses_both g.H.Host.moment g.H.Host.left_since c.args.host.now c.settle.new.self
+    c.test_interrupted.new.host (MayLeaveNow (g.H.Host.told c.settle.new.self)) c.settle.ensures.time
+    c.test_interrupted.ensures.reads.time in
+    writes_within g.H.Host.moment g.H.Host.left_since abandon_asked (g.H.Host.told c.args.host.now)
+    (g.H.Host.told c.test_interrupted.new.host)
     request.abandon IsClosed IsClosedOrNot abandoning is
-    c.args.host.now c.test_interrupted.new.host c.remove_intent.new.host (λ left since. g.met.H.Host.only_now c.args.host.now left since)
+    c.args.host.now c.test_interrupted.new.host c.remove_intent.new.host
+    (λ left since. g.met.H.Host.only_now c.args.host.now left since)
     (subst (λ o. Elapses g.H.Host.moment g.H.Host.left_since c.args.host.now c.test_interrupted.new.host (MayLeaveNow o)) (sym c.test_interrupted.ensures.reads.state) so_far)
     c.remove_intent.ensures.any_moment
     (given (g.H.Host.told c.args.host.now) (g.H.Host.told c.test_interrupted.new.host)

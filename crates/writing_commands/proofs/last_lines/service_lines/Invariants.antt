@@ -9,5 +9,6 @@ use Rattle.writing_commands.proofs.last_lines.service_lines.Given as goal
 abbrev pub invariant-loop-step : goal.invariant-loop-step
 invariant-loop-step l = record {
   many : length l.lines ≡ l.step;
-  so_far : (j : ℕ) (rs : List Restart) → j < l.step → slice_get (map (restarts_of l.settings) l.services) j ≡ Some rs → slice_get l.lines j ≡ Some (lines_for j rs);
+  so_far : (j : ℕ) (rs : List Restart) → j < l.step → slice_get (map (restarts_of l.settings) l.services) j ≡ Some rs
+      → slice_get l.lines j ≡ Some (lines_for j rs);
 }

@@ -1,3 +1,4 @@
+-- What is pending settled, and a migration made ready, or what is refused.
 use Rattle.std.proofs.Common.{◌≡◌, inl, inr, option_map, refl, ◌∙◌}
 use Rattle.host_core.specs.Crashes.{MayLeaveNow}
 use Rattle.host_core.specs.State.{settled, with_pending}
@@ -14,55 +15,71 @@ use Rattle.writing_commands.proofs.migrating.make_ready.Goals as goal
 
 pub returns-in-Ok-clause-ready : goal.returns-in-Ok-clause-ready
 returns-in-Ok-clause-ready g c =
-    gives_ready (g.H.Host.told c.args.host.now) (g.H.Host.told c.settle.new.self) c.ready_settled.result c.in-Ok.ensures.ok c.ready_settled.ensures.answer
+    gives_ready (g.H.Host.told c.args.host.now) (g.H.Host.told c.settle.new.self) c.ready_settled.result
+    c.in-Ok.ensures.ok c.ready_settled.ensures.answer
 
 pub returns-in-Ok-clause-due : goal.returns-in-Ok-clause-due
 returns-in-Ok-clause-due g c =
-    due_ready (g.H.Host.told c.settle.new.self) (g.H.Host.told c.ready_settled.new.host) c.ready_settled.result c.ready_settled.ensures.reads.state c.ready_settled.ensures.due
+    due_ready (g.H.Host.told c.settle.new.self) (g.H.Host.told c.ready_settled.new.host) c.ready_settled.result
+    c.ready_settled.ensures.reads.state c.ready_settled.ensures.due
 
 pub returns-in-Ok-clause-told : goal.returns-in-Ok-clause-told
 returns-in-Ok-clause-told g c =
-    of_ok c.ready_settled.result (g.H.Host.told c.ready_settled.new.host ≡ option_map (with_pending settled) (g.H.Host.told c.args.host.now)) (c.ready_settled.ensures.reads.state ∙ c.in-Ok.ensures.ok)
+    of_ok c.ready_settled.result
+    (g.H.Host.told c.ready_settled.new.host ≡ option_map (with_pending settled) (g.H.Host.told c.args.host.now))
+    (c.ready_settled.ensures.reads.state ∙ c.in-Ok.ensures.ok)
 
 pub returns-in-Ok-clause-left : goal.returns-in-Ok-clause-left
 returns-in-Ok-clause-left g c =
-    left_ready (g.H.Host.told c.args.host.now) (g.H.Host.told c.settle.new.self) (g.H.Host.told c.ready_settled.new.host) c.ready_settled.result
-    (g.H.Host.counts c.settle.new.self) (g.H.Host.counts c.ready_settled.new.host) c.in-Ok.ensures.ok c.ready_settled.ensures.reads.state c.ready_settled.ensures.answer c.ready_settled.ensures.cause
+    left_ready (g.H.Host.told c.args.host.now) (g.H.Host.told c.settle.new.self)
+    (g.H.Host.told c.ready_settled.new.host) c.ready_settled.result
+    (g.H.Host.counts c.settle.new.self) (g.H.Host.counts c.ready_settled.new.host) c.in-Ok.ensures.ok
+    c.ready_settled.ensures.reads.state c.ready_settled.ensures.answer c.ready_settled.ensures.cause
 
 pub returns-in-Ok-clause-cause : goal.returns-in-Ok-clause-cause
 returns-in-Ok-clause-cause g c =
-    refused_since (g.H.Host.counts c.args.host.now) (g.H.Host.counts c.settle.new.self) (g.H.Host.counts c.ready_settled.new.host) c.ready_settled.result
-    (disk_fell (g.H.Host.counts c.args.host.now) (g.H.Host.counts c.settle.new.self) c.settle.ensures.counts) c.ready_settled.ensures.cause
+    refused_since (g.H.Host.counts c.args.host.now) (g.H.Host.counts c.settle.new.self)
+    (g.H.Host.counts c.ready_settled.new.host) c.ready_settled.result
+    (disk_fell (g.H.Host.counts c.args.host.now) (g.H.Host.counts c.settle.new.self) c.settle.ensures.counts)
+    c.ready_settled.ensures.cause
 
 pub returns-in-Ok-clause-crash : goal.returns-in-Ok-clause-crash
 returns-in-Ok-clause-crash g c =
-    asking_settles g.H.Host.moment g.H.Host.left_since migrate_asked (g.H.Host.told c.args.host.now) (g.H.Host.told c.settle.new.self) c.args.host.now c.ready_settled.new.host c.in-Ok.ensures.ok
+    asking_settles g.H.Host.moment g.H.Host.left_since migrate_asked (g.H.Host.told c.args.host.now)
+    (g.H.Host.told c.settle.new.self) c.args.host.now c.ready_settled.new.host c.in-Ok.ensures.ok
     (λ left since. g.met.H.Host.only_now c.args.host.now left since)
     (elapses_both g.H.Host.moment g.H.Host.left_since c.args.host.now c.settle.new.self c.ready_settled.new.host (MayLeaveNow (g.H.Host.told c.settle.new.self)) c.settle.ensures.time c.ready_settled.ensures.reads.time)
 
 pub returns-in-Ok-clause-early : goal.returns-in-Ok-clause-early
 returns-in-Ok-clause-early g c =
-    unwritten_reads g.H.Host.moment g.H.Host.left_since (g.H.Host.told c.args.host.now) (g.H.Host.told c.settle.new.self) c.args.host.now c.ready_settled.new.host (inr c.in-Ok.ensures.ok) (λ left since. g.met.H.Host.only_now c.args.host.now left since)
+    unwritten_reads g.H.Host.moment g.H.Host.left_since (g.H.Host.told c.args.host.now)
+    (g.H.Host.told c.settle.new.self) c.args.host.now c.ready_settled.new.host (inr c.in-Ok.ensures.ok)
+    (λ left since. g.met.H.Host.only_now c.args.host.now left since)
     (elapses_both g.H.Host.moment g.H.Host.left_since c.args.host.now c.settle.new.self c.ready_settled.new.host (MayLeaveNow (g.H.Host.told c.settle.new.self)) c.settle.ensures.time c.ready_settled.ensures.reads.time)
 
 pub returns-in-Ok-clause-goes : goal.returns-in-Ok-clause-goes
 returns-in-Ok-clause-goes g c =
-    g.met.H.Host.continues c.args.host.now c.settle.new.self c.ready_settled.new.host c.settle.ensures.goes c.ready_settled.ensures.reads.goes
+    g.met.H.Host.continues c.args.host.now c.settle.new.self c.ready_settled.new.host c.settle.ensures.goes
+    c.ready_settled.ensures.reads.goes
 
 -- ---- nothing is settled
 
 pub returns-in-Err-clause-left : goal.returns-in-Err-clause-left
 returns-in-Err-clause-left g c =
-    unsettled_ready (g.H.Host.told c.args.host.now) (g.H.Host.told c.settle.new.self) (g.H.Host.counts c.args.host.now) (g.H.Host.counts c.settle.new.self) c.in-Err.ensures.err (refl, c.in-Err.ensures.cause)
+    unsettled_ready (g.H.Host.told c.args.host.now) (g.H.Host.told c.settle.new.self) (g.H.Host.counts c.args.host.now)
+    (g.H.Host.counts c.settle.new.self) c.in-Err.ensures.err (refl, c.in-Err.ensures.cause)
 
 pub returns-in-Err-clause-cause : goal.returns-in-Err-clause-cause
 returns-in-Err-clause-cause g c = (refl, c.in-Err.ensures.cause)
 
 pub returns-in-Err-clause-crash : goal.returns-in-Err-clause-crash
 returns-in-Err-clause-crash g c =
-    asking_goes_on g.H.Host.moment g.H.Host.left_since migrate_asked (g.H.Host.told c.args.host.now) (g.H.Host.told c.settle.new.self) c.args.host.now c.settle.new.self c.in-Err.ensures.err
+    asking_goes_on g.H.Host.moment g.H.Host.left_since migrate_asked (g.H.Host.told c.args.host.now)
+    (g.H.Host.told c.settle.new.self) c.args.host.now c.settle.new.self c.in-Err.ensures.err
     (λ left since. g.met.H.Host.only_now c.args.host.now left since) c.settle.ensures.time
 
 pub returns-in-Err-clause-early : goal.returns-in-Err-clause-early
 returns-in-Err-clause-early g c =
-    unwritten_reads g.H.Host.moment g.H.Host.left_since (g.H.Host.told c.args.host.now) (g.H.Host.told c.settle.new.self) c.args.host.now c.settle.new.self (inl c.in-Err.ensures.err) (λ left since. g.met.H.Host.only_now c.args.host.now left since) c.settle.ensures.time
+    unwritten_reads g.H.Host.moment g.H.Host.left_since (g.H.Host.told c.args.host.now)
+    (g.H.Host.told c.settle.new.self) c.args.host.now c.settle.new.self (inl c.in-Err.ensures.err)
+    (λ left since. g.met.H.Host.only_now c.args.host.now left since) c.settle.ensures.time

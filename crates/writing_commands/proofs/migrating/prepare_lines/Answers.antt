@@ -7,7 +7,8 @@ use Rattle.writing_commands.proofs.migrating.prepare_lines.Goals as goal
 pub returns-in_err-migration-clause-answer : goal.returns-in_err-migration-clause-answer
 returns-in_err-migration-clause-answer g c =
     let p = err_from_is_err_and c.from_residual.result c.from_residual.ensures.1 in
-    rw (p.1, p.2) (refused_ready (g.H.Host.told c.args.host.now) c.in_err-migration.field-0.0 c.in_err-migration.ensures.answer)
+    rw (p.1, p.2)
+    (refused_ready (g.H.Host.told c.args.host.now) c.in_err-migration.field-0.0 c.in_err-migration.ensures.answer)
 
 pub returns-in_err-ready-clause-answer : goal.returns-in_err-ready-clause-answer
 returns-in_err-ready-clause-answer g c =
@@ -16,4 +17,5 @@ returns-in_err-ready-clause-answer g c =
 
 pub returns-clause-answer : goal.returns-clause-answer
 returns-clause-answer g c =
-    found_ready (g.H.Host.told c.args.host.now) c.in_ok-migration.migration c.in_ok-ready.ready c.in_ok-ready.ensures.same c.in_ok-migration.ensures.answer
+    found_ready (g.H.Host.told c.args.host.now) c.in_ok-migration.migration c.in_ok-ready.ready
+    c.in_ok-ready.ensures.same c.in_ok-migration.ensures.answer

@@ -15,7 +15,8 @@ returns-in_err-test_uninterrupted-clause-answer g c =
 -- none was
 pub returns-clause-answer : goal.returns-clause-answer
 returns-clause-answer g c =
-    gate_open of_ready (g.H.Host.told c.args.host.now) uninterrupted old_asked c.prepare_lines.result c.in_ok-test_uninterrupted.ensures.answer
+    gate_open of_ready (g.H.Host.told c.args.host.now) uninterrupted old_asked c.prepare_lines.result
+    c.in_ok-test_uninterrupted.ensures.answer
     (rw c.test_uninterrupted.ensures.reads.state at c.prepare_lines.ensures.answer)
 
 pub returns-clause-due : goal.returns-clause-due

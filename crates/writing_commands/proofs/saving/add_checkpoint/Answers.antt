@@ -1,3 +1,4 @@
+-- A checkpoint saved, or what is refused, at each call.
 use Rattle.std.proofs.Common.{◌≡◌, inr, true, false, Ok, Err, rules, refl, subst, sym, ◌∙◌}
 use Rattle.std.proofs.lemmas.Result.{err_from_is_err_and}
 use Rattle.host_core.specs.Crashes.{Elapses, LeavesOnly, MayLeaveNow}
@@ -33,39 +34,49 @@ returns-in_err-name-clause-left g c =
 
 pub returns-in_err-name-clause-crash : goal.returns-in_err-name-clause-crash
 returns-in_err-name-clause-crash g c =
-    asking_begins g.H.Host.moment g.H.Host.left_since (save_asked c.args.name.now) (g.H.Host.told c.args.host.now) c.args.host.now (λ left since. g.met.H.Host.only_now c.args.host.now left since)
+    asking_begins g.H.Host.moment g.H.Host.left_since (save_asked c.args.name.now) (g.H.Host.told c.args.host.now)
+    c.args.host.now (λ left since. g.met.H.Host.only_now c.args.host.now left since)
 
 pub returns-in_err-name-clause-early : goal.returns-in_err-name-clause-early
 returns-in_err-name-clause-early g c =
-    let p = err_from_is_err_and c.from_residual.result c.from_residual.ensures.1 in rw (p.1, p.2) (unwritten_begins g.H.Host.moment g.H.Host.left_since (g.H.Host.told c.args.host.now) c.args.host.now (λ left since. g.met.H.Host.only_now c.args.host.now left since))
+    let p = err_from_is_err_and c.from_residual.result c.from_residual.ensures.1 in
+    rw (p.1, p.2)
+    (unwritten_begins g.H.Host.moment g.H.Host.left_since (g.H.Host.told c.args.host.now) c.args.host.now (λ left since. g.met.H.Host.only_now c.args.host.now left since))
 
 pub returns-then-not-is_good_name-clause-left : goal.returns-then-not-is_good_name-clause-left
 returns-then-not-is_good_name-clause-left g c =
     let bad : is_good_name c.args.name.now ≡ false = search rules in
-    ready_before (save_asked c.args.name.now) (g.H.Host.told c.args.host.now) (g.H.Host.told c.args.host.now) (BadName c.in_ok-name.name)
+    ready_before (save_asked c.args.name.now) (g.H.Host.told c.args.host.now) (g.H.Host.told c.args.host.now)
+    (BadName c.in_ok-name.name)
     (g.H.Host.counts c.args.host.now) (g.H.Host.counts c.args.host.now) check refl tt
     (subst (λ n. FindsUnit (g.H.Host.told c.args.host.now) check (Err (BadName n)) (save_asked c.args.name.now)) (sym c.in_ok-name.ensures)
     (bad_name_found (g.H.Host.told c.args.host.now) c.args.name.now check bad))
 
 pub returns-then-not-is_good_name-clause-crash : goal.returns-then-not-is_good_name-clause-crash
 returns-then-not-is_good_name-clause-crash g c =
-    asking_begins g.H.Host.moment g.H.Host.left_since (save_asked c.args.name.now) (g.H.Host.told c.args.host.now) c.args.host.now (λ left since. g.met.H.Host.only_now c.args.host.now left since)
+    asking_begins g.H.Host.moment g.H.Host.left_since (save_asked c.args.name.now) (g.H.Host.told c.args.host.now)
+    c.args.host.now (λ left since. g.met.H.Host.only_now c.args.host.now left since)
 
 pub returns-then-not-is_good_name-clause-early : goal.returns-then-not-is_good_name-clause-early
-returns-then-not-is_good_name-clause-early g c = unwritten_begins g.H.Host.moment g.H.Host.left_since (g.H.Host.told c.args.host.now) c.args.host.now (λ left since. g.met.H.Host.only_now c.args.host.now left since)
+returns-then-not-is_good_name-clause-early g c =
+    unwritten_begins g.H.Host.moment g.H.Host.left_since (g.H.Host.told c.args.host.now) c.args.host.now
+    (λ left since. g.met.H.Host.only_now c.args.host.now left since)
 
 -- ---- where nothing is settled
 
 pub returns-in-Err-clause-left : goal.returns-in-Err-clause-left
 returns-in-Err-clause-left g c =
     let good : is_good_name c.args.name.now ≡ true = search rules in
-    ready_before (save_asked c.args.name.now) (g.H.Host.told c.args.host.now) (g.H.Host.told c.settle.new.self) (DiskFault 0)
-    (g.H.Host.counts c.args.host.now) (g.H.Host.counts c.settle.new.self) check c.in-Err.ensures.err (refl, c.in-Err.ensures.cause)
+    ready_before (save_asked c.args.name.now) (g.H.Host.told c.args.host.now) (g.H.Host.told c.settle.new.self)
+    (DiskFault 0)
+    (g.H.Host.counts c.args.host.now) (g.H.Host.counts c.settle.new.self) check c.in-Err.ensures.err
+    (refl, c.in-Err.ensures.cause)
     (settling_fault_found (g.H.Host.told c.args.host.now) c.args.name.now check 0 good)
 
 pub returns-in-Err-clause-crash : goal.returns-in-Err-clause-crash
 returns-in-Err-clause-crash g c =
-    asking_goes_on g.H.Host.moment g.H.Host.left_since (save_asked c.args.name.now) (g.H.Host.told c.args.host.now) (g.H.Host.told c.settle.new.self) c.args.host.now c.settle.new.self c.in-Err.ensures.err
+    asking_goes_on g.H.Host.moment g.H.Host.left_since (save_asked c.args.name.now) (g.H.Host.told c.args.host.now)
+    (g.H.Host.told c.settle.new.self) c.args.host.now c.settle.new.self c.in-Err.ensures.err
     (λ left since. g.met.H.Host.only_now c.args.host.now left since) c.settle.ensures.time
 
 -- ---- where there is no valid configuration
@@ -73,22 +84,26 @@ returns-in-Err-clause-crash g c =
 pub returns-in_err-config-in-Ok-clause-left : goal.returns-in_err-config-in-Ok-clause-left
 returns-in_err-config-in-Ok-clause-left g c =
     let good : is_good_name c.args.name.now ≡ true = search rules in
-    let p = err_from_is_err_and c.from_residual-in_err-config-in-Ok.result c.from_residual-in_err-config-in-Ok.ensures.1 in
+    let p = err_from_is_err_and c.from_residual-in_err-config-in-Ok.result
+    c.from_residual-in_err-config-in-Ok.ensures.1 in
     rw (p.1, p.2)
     (ready_settled (save_asked c.args.name.now) (g.H.Host.told c.args.host.now) (g.H.Host.told c.judge_stored.new.host) c.in_err-config-in-Ok.field-0.0
-    (g.H.Host.counts c.settle.new.self) (g.H.Host.counts c.judge_stored.new.host) check (c.judge_stored.ensures.reads.state ∙ c.in-Ok.ensures.ok) c.in_err-config-in-Ok.ensures.cause
+    (g.H.Host.counts c.settle.new.self) (g.H.Host.counts c.judge_stored.new.host) check
+    (c.judge_stored.ensures.reads.state ∙ c.in-Ok.ensures.ok) c.in_err-config-in-Ok.ensures.cause
     (settling_reads (g.H.Host.told c.args.host.now) c.args.name.now good)
     (not_valid_found (g.H.Host.told c.args.host.now) (g.H.Host.told c.settle.new.self) c.args.name.now check c.in_err-config-in-Ok.field-0.0 good c.in-Ok.ensures.ok c.in_err-config-in-Ok.ensures.answer))
 
 pub returns-in_err-config-in-Ok-clause-crash : goal.returns-in_err-config-in-Ok-clause-crash
 returns-in_err-config-in-Ok-clause-crash g c =
-    asking_settles g.H.Host.moment g.H.Host.left_since (save_asked c.args.name.now) (g.H.Host.told c.args.host.now) (g.H.Host.told c.settle.new.self) c.args.host.now c.judge_stored.new.host c.in-Ok.ensures.ok
+    asking_settles g.H.Host.moment g.H.Host.left_since (save_asked c.args.name.now) (g.H.Host.told c.args.host.now)
+    (g.H.Host.told c.settle.new.self) c.args.host.now c.judge_stored.new.host c.in-Ok.ensures.ok
     (λ left since. g.met.H.Host.only_now c.args.host.now left since)
     (elapses_both g.H.Host.moment g.H.Host.left_since c.args.host.now c.settle.new.self c.judge_stored.new.host (MayLeaveNow (g.H.Host.told c.settle.new.self)) c.settle.ensures.time c.judge_stored.ensures.reads.time)
 
 pub returns-in_err-config-in-Ok-clause-early : goal.returns-in_err-config-in-Ok-clause-early
 returns-in_err-config-in-Ok-clause-early g c =
-    let p = err_from_is_err_and c.from_residual-in_err-config-in-Ok.result c.from_residual-in_err-config-in-Ok.ensures.1 in
+    let p = err_from_is_err_and c.from_residual-in_err-config-in-Ok.result
+    c.from_residual-in_err-config-in-Ok.ensures.1 in
     rw (p.1, p.2)
     (unless_fault (LeavesOnly g.H.Host.moment g.H.Host.left_since c.args.host.now c.judge_stored.new.host (LeftUnwritten (g.H.Host.told c.args.host.now))) (unwritten_reads g.H.Host.moment g.H.Host.left_since (g.H.Host.told c.args.host.now) (g.H.Host.told c.settle.new.self) c.args.host.now c.judge_stored.new.host (inr c.in-Ok.ensures.ok)
     (λ left since. g.met.H.Host.only_now c.args.host.now left since) (elapses_both g.H.Host.moment g.H.Host.left_since c.args.host.now c.settle.new.self c.judge_stored.new.host (MayLeaveNow (g.H.Host.told c.settle.new.self)) c.settle.ensures.time c.judge_stored.ensures.reads.time)) c.in_err-config-in-Ok.field-0.0)
@@ -100,10 +115,14 @@ returns-in_ok-config-in-Ok-clause-left g c =
     let good : is_good_name c.args.name.now ≡ true = search rules in
     let config = c.in_ok-config-in-Ok.config in
     let is = c.judge_stored.ensures.reads.state ∙ c.in-Ok.ensures.ok in
-    let valid = subst (λ o. Finds {X = Config} o (λ x. check) (Ok config) check_asked) (sym c.judge_stored.ensures.reads.state) c.in_ok-config-in-Ok.ensures.answer in
-    let stood = subst (λ o. Finds {X = Config} o (λ x. config) (Ok config) stored_asked) (sym c.judge_stored.ensures.reads.state) c.in_ok-config-in-Ok.ensures.stored in
-    ready_written (save_asked c.args.name.now) (g.H.Host.told c.args.host.now) (g.H.Host.told c.judge_stored.new.host) (g.H.Host.told c.save_config.new.host)
-    (save_checkpoint c.args.name.now config) (IsSaved c.args.name.now config) (IsSavedOrNot c.args.name.now config) (saving c.args.name.now config) c.save_config.result
+    let valid = subst (λ o. Finds {X = Config} o (λ x. check) (Ok config) check_asked)
+    (sym c.judge_stored.ensures.reads.state) c.in_ok-config-in-Ok.ensures.answer in
+    let stood = subst (λ o. Finds {X = Config} o (λ x. config) (Ok config) stored_asked)
+    (sym c.judge_stored.ensures.reads.state) c.in_ok-config-in-Ok.ensures.stored in
+    ready_written (save_asked c.args.name.now) (g.H.Host.told c.args.host.now) (g.H.Host.told c.judge_stored.new.host)
+    (g.H.Host.told c.save_config.new.host)
+    (save_checkpoint c.args.name.now config) (IsSaved c.args.name.now config) (IsSavedOrNot c.args.name.now config)
+    (saving c.args.name.now config) c.save_config.result
     (g.H.Host.counts c.judge_stored.new.host) (g.H.Host.counts c.save_config.new.host) is
     c.save_config.ensures.ok c.save_config.ensures.err c.save_config.ensures.cause
     (saving_found (g.H.Host.told c.args.host.now) (g.H.Host.told c.judge_stored.new.host) c.args.name.now config c.save_config.result good is valid stood c.save_config.ensures.answer)
@@ -119,12 +138,19 @@ returns-in_ok-config-in-Ok-clause-crash g c =
     let good : is_good_name c.args.name.now ≡ true = search rules in
     let config = c.in_ok-config-in-Ok.config in
     let is = c.judge_stored.ensures.reads.state ∙ c.in-Ok.ensures.ok in
-    let valid = subst (λ o. Finds {X = Config} o (λ x. check) (Ok config) check_asked) (sym c.judge_stored.ensures.reads.state) c.in_ok-config-in-Ok.ensures.answer in
-    let stood = subst (λ o. Finds {X = Config} o (λ x. config) (Ok config) stored_asked) (sym c.judge_stored.ensures.reads.state) c.in_ok-config-in-Ok.ensures.stored in
-    let so_far = elapses_both g.H.Host.moment g.H.Host.left_since c.args.host.now c.settle.new.self c.judge_stored.new.host (MayLeaveNow (g.H.Host.told c.settle.new.self)) c.settle.ensures.time c.judge_stored.ensures.reads.time in
-    writes_within g.H.Host.moment g.H.Host.left_since (save_asked c.args.name.now) (g.H.Host.told c.args.host.now) (g.H.Host.told c.judge_stored.new.host)
-    (save_checkpoint c.args.name.now config) (IsSaved c.args.name.now config) (IsSavedOrNot c.args.name.now config) (saving c.args.name.now config) is
-    c.args.host.now c.judge_stored.new.host c.save_config.new.host (λ left since. g.met.H.Host.only_now c.args.host.now left since)
+    let valid = subst (λ o. Finds {X = Config} o (λ x. check) (Ok config) check_asked)
+    (sym c.judge_stored.ensures.reads.state) c.in_ok-config-in-Ok.ensures.answer in
+    let stood = subst (λ o. Finds {X = Config} o (λ x. config) (Ok config) stored_asked)
+    (sym c.judge_stored.ensures.reads.state) c.in_ok-config-in-Ok.ensures.stored in
+    let so_far = elapses_both g.H.Host.moment g.H.Host.left_since c.args.host.now c.settle.new.self
+    c.judge_stored.new.host (MayLeaveNow (g.H.Host.told c.settle.new.self)) c.settle.ensures.time
+    c.judge_stored.ensures.reads.time in
+    writes_within g.H.Host.moment g.H.Host.left_since (save_asked c.args.name.now) (g.H.Host.told c.args.host.now)
+    (g.H.Host.told c.judge_stored.new.host)
+    (save_checkpoint c.args.name.now config) (IsSaved c.args.name.now config) (IsSavedOrNot c.args.name.now config)
+    (saving c.args.name.now config) is
+    c.args.host.now c.judge_stored.new.host c.save_config.new.host
+    (λ left since. g.met.H.Host.only_now c.args.host.now left since)
     (subst (λ o. Elapses g.H.Host.moment g.H.Host.left_since c.args.host.now c.judge_stored.new.host (MayLeaveNow o)) (sym c.judge_stored.ensures.reads.state) so_far)
     c.save_config.ensures.any_moment
     (may_save (g.H.Host.told c.args.host.now) (g.H.Host.told c.judge_stored.new.host) c.args.name.now config
@@ -138,10 +164,13 @@ returns-in_ok-config-in-Ok-clause-crash g c =
 pub returns-in_ok-config-in-Ok-clause-early : goal.returns-in_ok-config-in-Ok-clause-early
 returns-in_ok-config-in-Ok-clause-early g c =
     let settled_told = g.H.Host.told c.settle.new.self in
-    let so_far = elapses_both g.H.Host.moment g.H.Host.left_since c.args.host.now c.settle.new.self c.judge_stored.new.host (MayLeaveNow (g.H.Host.told c.settle.new.self)) c.settle.ensures.time c.judge_stored.ensures.reads.time in
+    let so_far = elapses_both g.H.Host.moment g.H.Host.left_since c.args.host.now c.settle.new.self
+    c.judge_stored.new.host (MayLeaveNow (g.H.Host.told c.settle.new.self)) c.settle.ensures.time
+    c.judge_stored.ensures.reads.time in
     unless_weaker (OnlyReads g.H.Host.told g.H.Host.counts g.H.Host.moment g.H.Host.left_since g.H.Host.goes_on c.judge_stored.new.host c.save_config.new.host) (LeavesOnly g.H.Host.moment g.H.Host.left_since c.args.host.now c.save_config.new.host (LeftUnwritten (g.H.Host.told c.args.host.now)))
     (λ reads.
-    unwritten_reads g.H.Host.moment g.H.Host.left_since (g.H.Host.told c.args.host.now) settled_told c.args.host.now c.save_config.new.host (inr c.in-Ok.ensures.ok) (λ left since. g.met.H.Host.only_now c.args.host.now left since)
+    unwritten_reads g.H.Host.moment g.H.Host.left_since (g.H.Host.told c.args.host.now) settled_told c.args.host.now
+    c.save_config.new.host (inr c.in-Ok.ensures.ok) (λ left since. g.met.H.Host.only_now c.args.host.now left since)
     (elapses_both g.H.Host.moment g.H.Host.left_since c.args.host.now c.judge_stored.new.host c.save_config.new.host (MayLeaveNow settled_told) so_far
     (subst (λ o. Elapses g.H.Host.moment g.H.Host.left_since c.judge_stored.new.host c.save_config.new.host (MayLeaveNow o)) c.judge_stored.ensures.reads.state reads.time)))
     c.save_config.result c.save_config.ensures.early

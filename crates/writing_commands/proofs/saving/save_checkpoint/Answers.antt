@@ -1,3 +1,4 @@
+-- The last line of a checkpoint saved, or not.
 use Rattle.gcu_output.specs.Printing.{outcome_of}
 use Rattle.gcu_requests.specs.Asked.{save_asked}
 use Rattle.command_answers.proofs.Causes.{ended_cause}
@@ -8,23 +9,30 @@ use Rattle.writing_commands.proofs.Writing.{comes_first, outcome_cause, told_ans
 use Rattle.writing_commands.proofs.saving.save_checkpoint.Goals as goal
 
 pub tell-requires : goal.tell-requires
-tell-requires g c = comes_first (g.H.Host.counts c.args.host.now) (g.H.Host.counts c.add_checkpoint-done.new.host) c.add_checkpoint-done.result c.add_checkpoint-done.ensures.cause
+tell-requires g c =
+    comes_first (g.H.Host.counts c.args.host.now) (g.H.Host.counts c.add_checkpoint-done.new.host)
+    c.add_checkpoint-done.result c.add_checkpoint-done.ensures.cause
 
 pub returns-clause-cause : goal.returns-clause-cause
 returns-clause-cause g c =
-    ended_cause (g.H.Host.counts c.args.host.now) (g.H.Host.counts c.add_checkpoint-done.new.host) (g.H.Host.counts c.tell.new.host) c.add_checkpoint-done.ensures.counts c.tell.ensures.counts
-    c.add_checkpoint-done.result (g.H.Host.told c.add_checkpoint-done.new.host) (g.H.Host.told c.tell.new.host) c.tell.result c.add_checkpoint-done.ensures.cause c.tell.ensures.told
+    ended_cause (g.H.Host.counts c.args.host.now) (g.H.Host.counts c.add_checkpoint-done.new.host)
+    (g.H.Host.counts c.tell.new.host) c.add_checkpoint-done.ensures.counts c.tell.ensures.counts
+    c.add_checkpoint-done.result (g.H.Host.told c.add_checkpoint-done.new.host) (g.H.Host.told c.tell.new.host)
+    c.tell.result c.add_checkpoint-done.ensures.cause c.tell.ensures.told
 
 pub returns-clause-answers : goal.returns-clause-answers
 returns-clause-answers g c =
-    told_answers (save_asked c.args.name.now) (g.H.Host.told c.args.host.now) (g.H.Host.told c.add_checkpoint-done.new.host) (g.H.Host.told c.tell.new.host)
-    (g.H.Host.counts c.args.host.now) (g.H.Host.counts c.add_checkpoint-done.new.host) (g.H.Host.counts c.tell.new.host) (outcome_of c.add_checkpoint-done.result) c.tell.result
+    told_answers (save_asked c.args.name.now) (g.H.Host.told c.args.host.now)
+    (g.H.Host.told c.add_checkpoint-done.new.host) (g.H.Host.told c.tell.new.host)
+    (g.H.Host.counts c.args.host.now) (g.H.Host.counts c.add_checkpoint-done.new.host) (g.H.Host.counts c.tell.new.host)
+    (outcome_of c.add_checkpoint-done.result) c.tell.result
     c.add_checkpoint-done.ensures.left c.tell.ensures.told c.tell.ensures.counts
     (outcome_cause (g.H.Host.counts c.args.host.now) (g.H.Host.counts c.add_checkpoint-done.new.host) c.add_checkpoint-done.result c.add_checkpoint-done.ensures.cause)
 
 pub returns-clause-crash : goal.returns-clause-crash
 returns-clause-crash g c =
-    asking_prints g.H.Host.moment g.H.Host.left_since (save_asked c.args.name.now) c.args.host.now c.add_checkpoint-done.new.host c.tell.new.host
+    asking_prints g.H.Host.moment g.H.Host.left_since (save_asked c.args.name.now) c.args.host.now
+    c.add_checkpoint-done.new.host c.tell.new.host
     (g.H.Host.told c.args.host.now) (g.H.Host.told c.add_checkpoint-done.new.host)
     (outcome_of c.add_checkpoint-done.result) c.add_checkpoint-done.ensures.left
     c.add_checkpoint-done.ensures.crash
@@ -32,11 +40,16 @@ returns-clause-crash g c =
 
 pub returns-clause-early : goal.returns-clause-early
 returns-clause-early g c = λ refusal.
-    unwritten_tells g.H.Host.moment g.H.Host.left_since (save_asked c.args.name.now) (g.H.Host.told c.args.host.now) (g.H.Host.told c.add_checkpoint-done.new.host) (g.H.Host.told c.tell.new.host) c.add_checkpoint-done.result
-    (g.H.Host.counts c.args.host.now) (g.H.Host.counts c.add_checkpoint-done.new.host) (g.H.Host.counts c.add_checkpoint-done.new.host) (g.H.Host.counts c.tell.new.host) c.tell.result
-    c.args.host.now c.add_checkpoint-done.new.host c.tell.new.host c.add_checkpoint-done.ensures.left c.add_checkpoint-done.ensures.cause c.add_checkpoint-done.ensures.early c.tell.ensures.told c.tell.ensures.time refusal
+    unwritten_tells g.H.Host.moment g.H.Host.left_since (save_asked c.args.name.now) (g.H.Host.told c.args.host.now)
+    (g.H.Host.told c.add_checkpoint-done.new.host) (g.H.Host.told c.tell.new.host) c.add_checkpoint-done.result
+    (g.H.Host.counts c.args.host.now) (g.H.Host.counts c.add_checkpoint-done.new.host)
+    (g.H.Host.counts c.add_checkpoint-done.new.host) (g.H.Host.counts c.tell.new.host) c.tell.result
+    c.args.host.now c.add_checkpoint-done.new.host c.tell.new.host c.add_checkpoint-done.ensures.left
+    c.add_checkpoint-done.ensures.cause c.add_checkpoint-done.ensures.early c.tell.ensures.told c.tell.ensures.time
+    refusal
 
 pub returns-clause-complete : goal.returns-clause-complete
 returns-clause-complete g c =
-    completes (save_asked c.args.name.now) (g.H.Host.told c.args.host.now) (g.H.Host.told c.tell.new.host) (g.H.Host.counts c.args.host.now) (g.H.Host.counts c.tell.new.host) c.tell.result
+    completes (save_asked c.args.name.now) (g.H.Host.told c.args.host.now) (g.H.Host.told c.tell.new.host)
+    (g.H.Host.counts c.args.host.now) (g.H.Host.counts c.tell.new.host) c.tell.result
     (returns-clause-cause g c) (returns-clause-answers g c)
