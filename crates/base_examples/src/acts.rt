@@ -2,8 +2,10 @@
 ghost use Rattle.std.specs.Prelude.{◌≡◌, IfOk};
 ghost use Rattle.host_core.specs.State.{settled};
 
+use crate::calls::{has_come_out, is_call_as_said};
+use crate::crashes::{faults_behind_load, is_left_whole, is_write_as_said};
 use crate::hosts::pick_of;
-use example_rows::Fail;
+use example_rows::{Fail, faults_at, has, host_with};
 use host_core::MemHost;
 use serde_json::Value;
 use std::alloc::Global;
@@ -11,61 +13,74 @@ use std::alloc::Global;
 /// What a crash may be asked to leave.
 const PICKS: [&str; 4] = ["Gone", "Bytes", "Before", "After"];
 
-/// What the rows of a table do on a host.
-pub trait Act {
-    /// The host of a row, before its call.
-    fn host_before(&self, alloc: Global, row: &Value) -> Result<MemHost, Fail>
-        ensures { IfOk result (λ m. m.state.pending ≡ settled) };
-
-    /// Makes the call, and tells whether its answer, and what it has done, are those of the row.
-    fn does(&self, alloc: Global, row: &Value, host: &mut MemHost) -> Result<bool, Fail>
-        requires { host.old.state.pending ≡ settled };
-
-    /// Whether a crash with that pick has left what the row says.
-    fn is_left(
-        &self,
-        alloc: Global,
-        row: &Value,
-        pick: &str,
-        host: &mut MemHost,
-    ) -> Result<bool, Fail>;
-}
-
-/// Whether the call of a row does what the row says, and leaves it after a crash with each pick.
-pub fn does_as_said<A: Act>(alloc: Global, act: &A, row: &Value) -> Result<bool, Fail> {
-    let mut as_said = does_alone(alloc, act, row)?;
+/// A row tells a host, what is done on it, which is one of its calls or a write of a configuration, and what a crash
+/// leaves with each pick: whether that is so.
+pub fn does_as_said(alloc: Global, row: &Value) -> Result<bool, Fail> {
+    let mut as_said = does_alone(alloc, row)?;
     for pick in PICKS {
-        as_said = as_said && leaves(alloc, act, row, pick)?;
+        as_said = as_said && leaves(alloc, row, pick)?;
     }
     Ok(as_said)
 }
 
-fn does_alone<A: Act>(alloc: Global, act: &A, row: &Value) -> Result<bool, Fail> {
-    let mut host = act.host_before(alloc, row)?;
-    let does = act.does(alloc, row, &mut host);
+/// Whether a row writes a configuration, and so tells which one is stored.
+fn is_write(row: &Value) -> bool {
+    has(row, "before")
+}
+
+/// The host of a row, before its call.
+fn host_before(alloc: Global, row: &Value) -> Result<MemHost, Fail>
+    ensures { IfOk result (λ m. m.state.pending ≡ settled) }
+{
+    let faults = if is_write(row) {
+        faults_behind_load(alloc, row)?
+    } else {
+        faults_at(alloc, row)?
+    };
+    host_with(alloc, row, faults)
+}
+
+/// Makes the call, and tells whether its answer, and what it has done, are those of the row.
+fn does(alloc: Global, row: &Value, host: &mut MemHost) -> Result<bool, Fail>
+    requires { host.old.state.pending ≡ settled }
+{
+    if is_write(row) {
+        is_write_as_said(alloc, row, host)
+    } else {
+        is_call_as_said(alloc, row, host)
+    }
+}
+
+fn does_alone(alloc: Global, row: &Value) -> Result<bool, Fail> {
+    let mut host = host_before(alloc, row)?;
+    let does = does(alloc, row, &mut host);
     drop(host);
     does
 }
 
 /// Whether a crash with that pick after the call leaves what the row says.
-fn leaves<A: Act>(alloc: Global, act: &A, row: &Value, pick: &str) -> Result<bool, Fail> {
-    let mut after = host_after(alloc, act, row, pick)?;
-    let left = act.is_left(alloc, row, pick, &mut after);
+fn leaves(alloc: Global, row: &Value, pick: &str) -> Result<bool, Fail> {
+    let mut after = host_after(alloc, row, pick)?;
+    let left = if is_write(row) {
+        is_left_whole(alloc, row, pick, &mut after)
+    } else {
+        has_come_out(alloc, row, pick, &mut after)
+    };
     drop(after);
     left
 }
 
 /// The host of a row after its call and a crash with that pick.
-fn host_after<A: Act>(alloc: Global, act: &A, row: &Value, pick: &str) -> Result<MemHost, Fail> {
+fn host_after(alloc: Global, row: &Value, pick: &str) -> Result<MemHost, Fail> {
     let pick = pick_of(alloc, row, pick)?;
-    let host = host_done(alloc, act, row)?;
+    let host = host_done(alloc, row)?;
     Ok(host.crash(alloc, &pick)?)
 }
 
 /// The host of a row after its call.
-fn host_done<A: Act>(alloc: Global, act: &A, row: &Value) -> Result<MemHost, Fail> {
-    let mut host = act.host_before(alloc, row)?;
-    match act.does(alloc, row, &mut host) {
+fn host_done(alloc: Global, row: &Value) -> Result<MemHost, Fail> {
+    let mut host = host_before(alloc, row)?;
+    match does(alloc, row, &mut host) {
         Ok(_) => Ok(host),
         Err(fail) => {
             drop(host);

@@ -3,14 +3,14 @@ ghost use Rattle.std.specs.Prelude.{◌≡◌, ◌≤◌, length};
 ghost use Rattle.host_core.specs.Names.{longest_file_name};
 ghost use Rattle.host_core.specs.State.{settled};
 
-use crate::acts::{Act, does_as_said};
-use crate::hosts::{LONGEST_NAME, answer_text, files_of, name_at};
+use crate::answers::{file_told, input_told, names_told, told};
+use crate::hosts::{LONGEST_NAME, files_of, name_at};
 use crate::views::act_in_scope;
 use example_rows::{
-    Fail, Table, are_names, faults_at, has, host_with, is_text, items_at, names_in, number_at,
-    says, text_at, text_bytes, value_at,
+    Fail, are_names, has, is_text, items_at, names_in, number_at, says, text_at, text_bytes,
+    value_at,
 };
-use host_core::{Failed, Host, HostError, Input, MemHost, Names};
+use host_core::{Failed, Host, MemHost};
 use serde_json::Value;
 use std::alloc::Global;
 
@@ -20,34 +20,11 @@ use std::alloc::Global;
 /// of which `Bytes` are the `torn` ones. What was printed is the `output`, and the `restarts` are those
 /// that were requested. Where there is a `scope`, the call is one of the host that it shows, with a plain
 /// `name`.
-pub struct Calls;
-
-impl Table for Calls {
-    fn is_as_said(&self, alloc: Global, row: &Value) -> Result<bool, Fail> {
-        does_as_said(alloc, self, row)
-    }
-}
-
-impl Act for Calls {
-    fn host_before(&self, alloc: Global, row: &Value) -> Result<MemHost, Fail> {
-        let faults = faults_at(alloc, row)?;
-        host_with(alloc, row, faults)
-    }
-
-    fn does(&self, alloc: Global, row: &Value, host: &mut MemHost) -> Result<bool, Fail> {
-        let answered = is_answer(alloc, row, host)?;
-        Ok(answered && has_come_out(alloc, row, "reads", host)?)
-    }
-
-    fn is_left(
-        &self,
-        alloc: Global,
-        row: &Value,
-        pick: &str,
-        host: &mut MemHost,
-    ) -> Result<bool, Fail> {
-        has_come_out(alloc, row, pick, host)
-    }
+pub fn is_call_as_said(alloc: Global, row: &Value, host: &mut MemHost) -> Result<bool, Fail>
+    requires { host.old.state.pending ≡ settled }
+{
+    let answered = is_answer(alloc, row, host)?;
+    Ok(answered && has_come_out(alloc, row, "reads", host)?)
 }
 
 /// Makes the calls, and tells whether the last one answered as the row says.
@@ -63,7 +40,12 @@ fn is_answer(alloc: Global, row: &Value, host: &mut MemHost) -> Result<bool, Fai
 }
 
 /// Whether the output, the restarts and the files under a name are those of the row.
-fn has_come_out(alloc: Global, row: &Value, name: &str, host: &mut MemHost) -> Result<bool, Fail> {
+pub fn has_come_out(
+    alloc: Global,
+    row: &Value,
+    name: &str,
+    host: &mut MemHost,
+) -> Result<bool, Fail> {
     let same_restarts = are_names(items_at(row, "restarts")?, host.restarts());
     let same_output = is_text(alloc, row, "output", host.output())?;
     Ok(same_restarts && same_output && has_files(alloc, row, name, host)?)
@@ -170,63 +152,5 @@ fn remove(does: &str, name: &str, host: &mut MemHost) -> Result<Result<(), Faile
     match does {
         "remove, settle" => Ok(host.settle()),
         _ => Ok(removed),
-    }
-}
-
-fn input_told(alloc: Global, found: Result<Input, HostError>) -> Result<String, Fail> {
-    match found {
-        Ok(Input::Absent) => Ok(String::from_str(alloc, "Absent")?),
-        Ok(Input::TooBig) => Ok(String::from_str(alloc, "TooBig")?),
-        Ok(Input::Bytes(bytes)) => text_of(alloc, bytes.items()),
-        Err(error) => failed(alloc, error),
-    }
-}
-
-pub(crate) fn names_told(alloc: Global, listed: Result<Names, HostError>) -> Result<String, Fail> {
-    match listed {
-        Ok(names) => {
-            let line = names_line(alloc, &names);
-            drop(names);
-            line
-        }
-        Err(error) => failed(alloc, error),
-    }
-}
-
-fn names_line(alloc: Global, names: &Names) -> Result<String, Fail> {
-    let mut line = String::from_str(alloc, "names")?;
-    for name in names.items() {
-        line.push_str(" ")?;
-        line.push_str(name.as_str())?;
-    }
-    Ok(line)
-}
-
-pub(crate) fn file_told(
-    alloc: Global,
-    read: Result<Option<Vec<u8>>, HostError>,
-) -> Result<String, Fail> {
-    match read {
-        Ok(None) => Ok(String::from_str(alloc, "None")?),
-        Ok(Some(bytes)) => text_of(alloc, &bytes),
-        Err(error) => failed(alloc, error),
-    }
-}
-
-fn text_of(alloc: Global, bytes: &[u8]) -> Result<String, Fail> {
-    match std::str::from_utf8(bytes) {
-        Ok(text) => Ok(format!(in alloc; "bytes {text}")?),
-        Err(_) => Err(Fail::Row),
-    }
-}
-
-pub(crate) fn told(alloc: Global, answer: Result<(), Failed>) -> Result<String, Fail> {
-    Ok(String::from_str(alloc, answer_text(answer))?)
-}
-
-fn failed(alloc: Global, error: HostError) -> Result<String, Fail> {
-    match error {
-        HostError::Failed => Ok(String::from_str(alloc, "Failed")?),
-        HostError::Memory => Err(Fail::Memory),
     }
 }

@@ -5,14 +5,12 @@ ghost use Rattle.host_core.specs.State.{settled};
 ghost use Rattle.conf_store.specs.Files.{is_step_name};
 ghost use Rattle.conf_store.specs.Folds.{StandsFor};
 
-use crate::acts::{Act, does_as_said};
 use crate::folders::is_tree;
 use crate::hosts::{LONGEST_NAME, answer_text, calm_host, fail_of, files_of, name_at};
 use conf_doc::file_bytes;
 use conf_store::{Stored, fold, load, load_tree, put_file};
 use example_rows::{
-    Fail, Table, are_names, faults_from, host_with, items_at, says, some_number, text_at,
-    text_bytes, text_of,
+    Fail, are_names, faults_from, items_at, says, some_number, text_at, text_bytes, text_of,
 };
 use host_core::{Failed, Faults, MemHost};
 use serde_json::Value;
@@ -23,38 +21,25 @@ use std::alloc::Global;
 /// answers is the `answer`. Each pick of a crash, of which `Bytes` are the `torn` ones, leaves a folder
 /// that stands for the configuration `before` or `after`: a pick has that word, and the names of the
 /// files.
-pub struct Crashes;
-
-impl Table for Crashes {
-    fn is_as_said(&self, alloc: Global, row: &Value) -> Result<bool, Fail> {
-        does_as_said(alloc, self, row)
-    }
+pub fn is_write_as_said(alloc: Global, row: &Value, host: &mut MemHost) -> Result<bool, Fail>
+    requires { host.old.state.pending ≡ settled }
+{
+    let answer = answer_of(alloc, row, host)?;
+    Ok(says(row, "answer", answer))
 }
 
-impl Act for Crashes {
-    fn host_before(&self, alloc: Global, row: &Value) -> Result<MemHost, Fail> {
-        let faults = faults_behind_load(alloc, row)?;
-        host_with(alloc, row, faults)
-    }
-
-    fn does(&self, alloc: Global, row: &Value, host: &mut MemHost) -> Result<bool, Fail> {
-        let answer = answer_of(alloc, row, host)?;
-        Ok(says(row, "answer", answer))
-    }
-
-    fn is_left(
-        &self,
-        alloc: Global,
-        row: &Value,
-        pick: &str,
-        host: &mut MemHost,
-    ) -> Result<bool, Fail> {
-        let [which, said @ ..] = items_at(row, pick)? else {
-            return Err(Fail::Row);
-        };
-        let which = text_of(which)?;
-        Ok(has_names(alloc, said, host)? && is_config_left(alloc, row, which, host)?)
-    }
+/// Whether a crash with that pick has left what the row says.
+pub fn is_left_whole(
+    alloc: Global,
+    row: &Value,
+    pick: &str,
+    host: &mut MemHost,
+) -> Result<bool, Fail> {
+    let [which, said @ ..] = items_at(row, pick)? else {
+        return Err(Fail::Row);
+    };
+    let which = text_of(which)?;
+    Ok(has_names(alloc, said, host)? && is_config_left(alloc, row, which, host)?)
 }
 
 /// Loads what is stored, makes the call of the row, and tells what it answers.
@@ -137,7 +122,7 @@ fn is_config_left(
 }
 
 /// Faults from the call of the row on, counted behind those of `load`.
-fn faults_behind_load(alloc: Global, row: &Value) -> Result<Faults, Fail> {
+pub fn faults_behind_load(alloc: Global, row: &Value) -> Result<Faults, Fail> {
     let from = match some_number(row, "from") {
         Some(from) => Some(load_calls(alloc, row)?.saturating_add(from)),
         None => None,

@@ -1,25 +1,21 @@
 //! Texts that are read as documents, or refused.
 use conf_doc::{ReadError, Tree, read_tree, tree_bytes};
-use example_rows::{Fail, Table, is_text, says, written_at};
+use example_rows::{Fail, is_text, says, written_at};
 use serde_json::Value;
 use std::alloc::Global;
 
 /// A row has a `text` and its `document`, or the `fault`: `bad json`, or the place of a bad kind.
-pub struct Documents;
-
-impl Table for Documents {
-    fn is_as_said(&self, alloc: Global, row: &Value) -> Result<bool, Fail> {
-        let bytes = written_at(alloc, row, "text")?;
-        match read_tree(alloc, &bytes) {
-            Ok(tree) => {
-                let as_said = is_document(alloc, row, &tree);
-                drop(tree);
-                as_said
-            }
-            Err(ReadError::BadJson) => Ok(says(row, "fault", "bad json")),
-            Err(ReadError::BadKind { place }) => Ok(says(row, "fault", place.as_str())),
-            Err(ReadError::Memory) => Err(Fail::Memory),
+pub fn is_document_as_said(alloc: Global, row: &Value) -> Result<bool, Fail> {
+    let bytes = written_at(alloc, row, "text")?;
+    match read_tree(alloc, &bytes) {
+        Ok(tree) => {
+            let as_said = is_document(alloc, row, &tree);
+            drop(tree);
+            as_said
         }
+        Err(ReadError::BadJson) => Ok(says(row, "fault", "bad json")),
+        Err(ReadError::BadKind { place }) => Ok(says(row, "fault", place.as_str())),
+        Err(ReadError::Memory) => Err(Fail::Memory),
     }
 }
 

@@ -1,27 +1,21 @@
 //! Expressions that are read, with their tree, or refused.
 use crate::pairs::open_all;
-use example_rows::{
-    Fail, Table, has, is_null, is_number, is_word, item_of, items_of, text_at, value_at,
-};
+use example_rows::{Fail, has, is_null, is_number, is_word, item_of, items_of, text_at, value_at};
 use serde_json::Value;
 use std::alloc::Global;
 use xpath_part::{Cmp, Expr, ExprError, Operand, Origin, Step, Walk};
 
 /// A row has an `expression` and its `tree`, or one that is `bad`. In a tree a path is its origin and
 /// its steps, a name with a prefix or null before it and its predicates behind it.
-pub struct Expressions;
-
-impl Table for Expressions {
-    fn is_as_said(&self, alloc: Global, row: &Value) -> Result<bool, Fail> {
-        match Expr::read(alloc, text_at(row, "expression")?) {
-            Ok(expr) => {
-                let said = is_said(alloc, row, &expr);
-                drop(expr);
-                said
-            }
-            Err(ExprError::Bad { .. }) => Ok(has(row, "bad")),
-            Err(ExprError::Memory) => Err(Fail::Memory),
+pub fn is_expression_as_said(alloc: Global, row: &Value) -> Result<bool, Fail> {
+    match Expr::read(alloc, text_at(row, "expression")?) {
+        Ok(expr) => {
+            let said = is_said(alloc, row, &expr);
+            drop(expr);
+            said
         }
+        Err(ExprError::Bad { .. }) => Ok(has(row, "bad")),
+        Err(ExprError::Memory) => Err(Fail::Memory),
     }
 }
 

@@ -2,18 +2,14 @@
 use crate::hosts::calm_host;
 use conf_doc::{Tree, tree_bytes, tree_of};
 use conf_store::{LoadError, Stored, load, load_tree};
-use example_rows::{Fail, Table, are_names, has, is_text, items_at, says, truth_at};
+use example_rows::{Fail, are_names, has, is_text, items_at, says, truth_at};
 use serde_json::Value;
 use std::alloc::Global;
 
 /// A row has `files`, each a name with its bytes, and the `config` that they stand for, with the names of
 /// all `steps` and whether the folder is `folded`, or `why` they stand for none.
-pub struct Folders;
-
-impl Table for Folders {
-    fn is_as_said(&self, alloc: Global, row: &Value) -> Result<bool, Fail> {
-        Ok(is_loaded_as_said(alloc, row)? && is_tree_as_said(alloc, row)?)
-    }
+pub fn is_folder_as_said(alloc: Global, row: &Value) -> Result<bool, Fail> {
+    Ok(is_loaded_as_said(alloc, row)? && is_tree_as_said(alloc, row)?)
 }
 
 /// Whether the configuration is loaded as the row says.

@@ -3,22 +3,18 @@ ghost use Rattle.std.specs.Prelude.{IsTrue};
 ghost use Rattle.conf_doc.specs.Changes.{HasParent};
 
 use conf_doc::{Config, Path};
-use example_rows::{Fail, Table, config_at, has, part_at, path_at};
+use example_rows::{Fail, config_at, has, part_at, path_at};
 use serde_json::Value;
 use std::alloc::Global;
 
 /// A row has a configuration `from`, a `place` of one to three names, and the configuration `to` with what
 /// the configuration `put` has at that place, or with nothing there where there is no `put`.
-pub struct Parts;
-
-impl Table for Parts {
-    fn is_as_said(&self, alloc: Global, row: &Value) -> Result<bool, Fail> {
-        let from = config_at(alloc, row, "from")?;
-        let as_said = changes_as_said(alloc, row, &from);
-        let as_before = is_config(alloc, row, "from", &from);
-        drop(from);
-        Ok(as_said? && as_before?)
-    }
+pub fn is_part_as_said(alloc: Global, row: &Value) -> Result<bool, Fail> {
+    let from = config_at(alloc, row, "from")?;
+    let as_said = changes_as_said(alloc, row, &from);
+    let as_before = is_config(alloc, row, "from", &from);
+    drop(from);
+    Ok(as_said? && as_before?)
 }
 
 /// Whether the change of a configuration gives what the row says.

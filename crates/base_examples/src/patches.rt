@@ -1,6 +1,6 @@
 //! Patches of documents, applied or refused.
 use conf_doc::{Tree, tree_bytes};
-use example_rows::{Fail, Table, has, is_text, says, text_bytes, tree_at};
+use example_rows::{Fail, has, is_text, says, text_bytes, tree_at};
 use patch_core::{
     ApplyError, FailWhy, Patch, PatchError, PatchWhy, apply, apply_owned, apply_plain,
     apply_plain_owned, read_patch, step_bytes,
@@ -10,22 +10,18 @@ use std::alloc::Global;
 
 /// A row has a `document`, a `patch`, and what it `gives`, or why it is `refused`. Where the limit on
 /// the size of documents decides, `limited` says why.
-pub struct Patches;
-
-impl Table for Patches {
-    fn is_as_said(&self, alloc: Global, row: &Value) -> Result<bool, Fail> {
-        let text = text_bytes(alloc, row, "patch")?;
-        match read_patch(alloc, &text) {
-            Ok(patch) => {
-                let as_said = does_as_said(alloc, row, &patch);
-                let written = are_written(alloc, &patch);
-                drop(patch);
-                Ok(as_said? && written?)
-            }
-            Err(PatchError::BadJson) => Ok(says(row, "refused", "bad json")),
-            Err(PatchError::BadPatch { index, why }) => is_bad_patch(alloc, row, index, why),
-            Err(PatchError::Memory) => Err(Fail::Memory),
+pub fn is_patch_as_said(alloc: Global, row: &Value) -> Result<bool, Fail> {
+    let text = text_bytes(alloc, row, "patch")?;
+    match read_patch(alloc, &text) {
+        Ok(patch) => {
+            let as_said = gives_as_said(alloc, row, &patch);
+            let written = are_written(alloc, &patch);
+            drop(patch);
+            Ok(as_said? && written?)
         }
+        Err(PatchError::BadJson) => Ok(says(row, "refused", "bad json")),
+        Err(PatchError::BadPatch { index, why }) => is_bad_patch(alloc, row, index, why),
+        Err(PatchError::Memory) => Err(Fail::Memory),
     }
 }
 
@@ -35,7 +31,7 @@ fn is_bad_patch(alloc: Global, row: &Value, index: usize, why: PatchWhy) -> Resu
 }
 
 /// Whether a patch gives what the row says for its document, in each of the four ways to apply it.
-fn does_as_said(alloc: Global, row: &Value, patch: &Patch) -> Result<bool, Fail> {
+fn gives_as_said(alloc: Global, row: &Value, patch: &Patch) -> Result<bool, Fail> {
     let tree = tree_at(alloc, row, "document")?;
     let plain = gives_plain(alloc, row, patch, &tree);
     let limited = gives_limited(alloc, row, patch, &tree);

@@ -1,20 +1,16 @@
 //! Documents that are configurations, or have a wrong shape.
 use crate::documents::is_text_of;
 use conf_doc::{Config, ShapeError, Tree, config_of, file_bytes, tree_of};
-use example_rows::{Fail, Table, config_from, is_written, says, tree_at};
+use example_rows::{Fail, config_from, is_written, says, tree_at};
 use serde_json::Value;
 use std::alloc::Global;
 
 /// A row has a `document` and the lines of its `file`, or the place of the `fault`.
-pub struct Shapes;
-
-impl Table for Shapes {
-    fn is_as_said(&self, alloc: Global, row: &Value) -> Result<bool, Fail> {
-        let tree = tree_at(alloc, row, "document")?;
-        let as_said = is_shaped(alloc, row, &tree);
-        drop(tree);
-        as_said
-    }
+pub fn is_shape_as_said(alloc: Global, row: &Value) -> Result<bool, Fail> {
+    let tree = tree_at(alloc, row, "document")?;
+    let as_said = is_shaped(alloc, row, &tree);
+    drop(tree);
+    as_said
 }
 
 /// Whether a tree is a configuration, or has a fault, as the row says.

@@ -1,12 +1,12 @@
-//! A small tree of nodes, made of a list of them.
+//! A small tree of nodes, made of a list of them, and expressions that are true or false at its nodes.
 ghost use Rattle.std.specs.Prelude.{◌≡◌};
 ghost use Rattle.base_examples.specs.SmallTrees.{children_of, is_family};
 
-use example_rows::{Fail, has, number_at, text_at, text_or};
+use example_rows::{Fail, has, items_of, number_at, text_at, text_or, truth_at};
 use host_core::{Sequence, Txt};
 use serde_json::Value;
 use std::alloc::Global;
-use xpath_part::{Node, Nodes};
+use xpath_part::{Expr, ExprError, Node, Nodes, holds};
 
 /// The level of a node that is no leaf.
 const ELEMENT: u8 = 1;
@@ -32,8 +32,32 @@ pub struct SmallTree {
     pub families: Sequence<Family>,
 }
 
-/// The tree of rows, each with a `name`, the number of its `parent` and, where it is a leaf, a `text`.
-pub fn small_tree(alloc: Global, rows: &[Value]) -> Result<SmallTree, Fail> {
+/// A row has an `expression`, the number of the node that it is asked at, 0 for the root, and whether it
+/// `holds` there.
+pub fn is_truth_as_said(alloc: Global, nodes: &Value, row: &Value) -> Result<bool, Fail> {
+    let tree = small_tree(alloc, items_of(nodes)?)?;
+    let said = is_said_in(alloc, &tree, row);
+    drop(tree);
+    said
+}
+
+/// Whether an expression holds in a tree as a row says.
+fn is_said_in(alloc: Global, tree: &SmallTree, row: &Value) -> Result<bool, Fail> {
+    let said = truth_at(row, "holds")?;
+    let at = tree.node(number_at(row, "at")?)?;
+    match Expr::read(alloc, text_at(row, "expression")?) {
+        Ok(expr) => {
+            let found = holds(&expr, tree, at);
+            drop(expr);
+            Ok(found == said)
+        }
+        Err(ExprError::Bad { .. }) => Ok(false),
+        Err(ExprError::Memory) => Err(Fail::Memory),
+    }
+}
+
+/// The tree of nodes, each with a `name`, the number of its `parent` and, where it is a leaf, a `text`.
+fn small_tree(alloc: Global, rows: &[Value]) -> Result<SmallTree, Fail> {
     let mut tree = SmallTree {
         nodes: Sequence::new(alloc),
         parents: Sequence::new(alloc),

@@ -1,5 +1,5 @@
 //! Patches over several scopes.
-use example_rows::{Fail, Table, is_written, text_bytes};
+use example_rows::{Fail, is_written, text_bytes};
 use patch_core::{Patch, PatchError, operation_bytes, read_patch};
 use scopes::{Scoped, SplitError, split};
 use serde_json::Value;
@@ -7,16 +7,12 @@ use std::alloc::Global;
 
 /// A row has a `patch`, and what it `gives`: each scope with the operations in it, or the number of the
 /// operation that has none.
-pub struct Splits;
-
-impl Table for Splits {
-    fn is_as_said(&self, alloc: Global, row: &Value) -> Result<bool, Fail> {
-        let patch = patch_at(alloc, row)?;
-        let told = split_told(alloc, &patch);
-        drop(patch);
-        let told = told?;
-        is_written(alloc, row, "gives", &told)
-    }
+pub fn is_split_as_said(alloc: Global, row: &Value) -> Result<bool, Fail> {
+    let patch = patch_at(alloc, row)?;
+    let told = split_told(alloc, &patch);
+    drop(patch);
+    let told = told?;
+    is_written(alloc, row, "gives", &told)
 }
 
 /// The patch of a row.

@@ -1,38 +1,46 @@
 //! YANG texts: their statements, or their first fault.
-use crate::model_readers::model_why;
 use crate::pairs::open_all;
-use crate::readers::MOST_BYTES;
-use example_rows::{Fail, Table, is_null, is_number, is_word, items_at, items_of, written_at};
+use example_rows::{Fail, is_null, is_number, is_word, items_at, items_of, written_at};
 use serde_json::Value;
 use std::alloc::Global;
 use yang_text::{ModelWhy, Statement, TextError, parse};
 
+/// How many bytes a text may have.
+const MOST_BYTES: usize = 1_048_576;
+
 /// A row has a `text` and its `statements`, each as its keyword, argument, line, first byte, end and
 /// block, or the line and the name of the `fault`.
-pub struct Texts;
-
-impl Table for Texts {
-    fn is_as_said(&self, alloc: Global, row: &Value) -> Result<bool, Fail> {
-        let bytes = written_at(alloc, row, "text")?;
-        if bytes.len() > MOST_BYTES {
-            return Err(Fail::Row);
+pub fn is_text_as_said(alloc: Global, row: &Value) -> Result<bool, Fail> {
+    let bytes = written_at(alloc, row, "text")?;
+    if bytes.len() > MOST_BYTES {
+        return Err(Fail::Row);
+    }
+    match parse(alloc, &bytes) {
+        Ok(statements) => {
+            let as_said = are_said(alloc, row, statements.items());
+            drop(statements);
+            as_said
         }
-        match parse(alloc, &bytes) {
-            Ok(statements) => {
-                let as_said = are_said(alloc, row, statements.items());
-                drop(statements);
-                as_said
-            }
-            Err(TextError::Fault { line, why }) => is_fault(items_at(row, "fault")?, line, why),
-            Err(TextError::Memory) => Err(Fail::Memory),
-        }
+        Err(TextError::Fault { line, why }) => is_fault(items_at(row, "fault")?, line, why),
+        Err(TextError::Memory) => Err(Fail::Memory),
     }
 }
 
 fn is_fault(said: &[Value], line: u32, why: ModelWhy) -> Result<bool, Fail> {
     match said {
-        [at, name] => Ok(is_number(at, u64::from(line)) && is_word(name, model_why(why))),
+        [at, name] => Ok(is_number(at, u64::from(line)) && is_word(name, name_of(why))),
         _ => Err(Fail::Row),
+    }
+}
+
+/// The name of a fault of a text.
+fn name_of(why: ModelWhy) -> &'static str {
+    match why {
+        ModelWhy::NotUtf8 => "NotUtf8",
+        ModelWhy::BadToken => "BadToken",
+        ModelWhy::Unbalanced => "Unbalanced",
+        ModelWhy::TooDeep => "TooDeep",
+        _ => "of a model",
     }
 }
 

@@ -3,7 +3,7 @@ ghost use Rattle.std.specs.Prelude.{◌≡◌, ◌≤◌, length, IfSome};
 ghost use Rattle.host_core.specs.Names.{longest_plain_name};
 ghost use Rattle.host_core.specs.State.{settled};
 
-use crate::calls::{file_told, names_told, told};
+use crate::answers::{file_told, names_told, told};
 use crate::hosts::name_at;
 use conf_store::put_file;
 use example_rows::{Fail, text_at, text_bytes};

@@ -5,7 +5,7 @@ use std::io;
 use thiserror::Error;
 
 /// Why an example can't be asked.
-#[derive(Clone, Copy, Debug, PartialEq, Eq, Error)]
+#[derive(Clone, Copy, Debug, Error)]
 pub enum Fail {
     #[error("out of memory")]
     Memory,

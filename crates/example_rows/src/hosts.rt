@@ -38,7 +38,12 @@ fn push_both(
 }
 
 /// Adds each name of the object under a name, where there is one, with its bytes.
-fn push_pairs_at(alloc: Global, row: &Value, name: &str, pairs: &mut Pairs) -> Result<(), Fail> {
+pub fn push_pairs_at(
+    alloc: Global,
+    row: &Value,
+    name: &str,
+    pairs: &mut Pairs,
+) -> Result<(), Fail> {
     match row.get(name) {
         Some(named) => push_pairs(alloc, named, pairs),
         None => Ok(()),
@@ -46,12 +51,22 @@ fn push_pairs_at(alloc: Global, row: &Value, name: &str, pairs: &mut Pairs) -> R
 }
 
 /// Adds each name of an object, with its bytes.
-fn push_pairs(alloc: Global, named: &Value, pairs: &mut Pairs) -> Result<(), Fail> {
+pub fn push_pairs(alloc: Global, named: &Value, pairs: &mut Pairs) -> Result<(), Fail> {
     for (name, value) in named.as_object().ok_or(Fail::Row)? {
-        let bytes = value_bytes(alloc, value)?;
+        let bytes = file_text(alloc, value)?;
         pairs.push((Txt::new(alloc, name.as_str())?, bytes))?;
     }
     Ok(())
+}
+
+/// The bytes of a file: a text itself, of an object its file text, and of all else its compact text.
+pub fn file_text(alloc: Global, said: &Value) -> Result<Vec<u8>, Fail> {
+    if !said.is_object() {
+        return value_bytes(alloc, said);
+    }
+    let mut text = said.to_vec_pretty(alloc)?;
+    text.push(b'\n')?;
+    Ok(text)
 }
 
 /// The faults of the calls whose numbers are in `fails`, and of all from the number `fails_from` on.

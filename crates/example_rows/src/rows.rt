@@ -52,11 +52,6 @@ pub fn is_null(value: &Value) -> bool {
     value.is_null()
 }
 
-/// Whether a value is an object.
-pub fn is_object(value: &Value) -> bool {
-    value.is_object()
-}
-
 /// Whether a value is that number.
 pub fn is_number(value: &Value, number: u64) -> bool {
     value.as_u64() == Some(number)

@@ -1,5 +1,5 @@
 //! Values that rows have: documents, configurations and names.
-use crate::{Fail, is_word, text_of, value_at, value_bytes};
+use crate::{Fail, is_word, text_bytes, text_of};
 use conf_doc::{Config, ReadError, ShapeError, Tree, config_of_tree, read_tree};
 use host_core::{Names, Sequence, Txt};
 use serde_json::Value;
@@ -7,12 +7,7 @@ use std::alloc::Global;
 
 /// The tree of the JSON text under a name.
 pub fn tree_at(alloc: Global, row: &Value, name: &str) -> Result<Tree, Fail> {
-    tree_from(alloc, value_at(row, name)?)
-}
-
-/// The tree of a JSON text.
-pub fn tree_from(alloc: Global, value: &Value) -> Result<Tree, Fail> {
-    let bytes = value_bytes(alloc, value)?;
+    let bytes = text_bytes(alloc, row, name)?;
     match read_tree(alloc, &bytes) {
         Ok(tree) => Ok(tree),
         Err(ReadError::Memory) => Err(Fail::Memory),

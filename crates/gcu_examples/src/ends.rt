@@ -1,8 +1,8 @@
 //! What commands have printed, requested and left, against what a row says.
-use crate::folders::file_text;
 use command_runs::Ran;
 use example_rows::{
-    Fail, has, has_in, is_null, is_number, is_word, is_written, items_at, names_in, value_at,
+    Fail, file_text, has, has_in, is_null, is_number, is_word, is_written, items_at, names_in,
+    value_at,
 };
 use host_core::{Names, Sequence, Txt};
 use serde_json::Value;

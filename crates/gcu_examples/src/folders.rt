@@ -1,7 +1,7 @@
 //! Folders as rows tell them.
 use example_rows::{
-    Fail, Pairs, faults_from, has, is_object, items_of, names_in, some_number, text_or, value_at,
-    value_bytes, written_at,
+    Fail, Pairs, faults_from, has, items_of, names_in, push_pairs, push_pairs_at, some_number,
+    text_or, value_at, written_at,
 };
 use host_core::{MemHost, Txt};
 use serde_json::Value;
@@ -45,41 +45,6 @@ fn push_own(alloc: Global, row: &Value, inputs: &mut Pairs, files: &mut Pairs) -
     push_long_at(alloc, row, files)
 }
 
-/// Adds each name of the object under a name, where there is one.
-fn push_pairs_at(alloc: Global, row: &Value, name: &str, pairs: &mut Pairs) -> Result<(), Fail> {
-    if has(row, name) {
-        push_pairs(alloc, value_at(row, name)?, pairs)
-    } else {
-        Ok(())
-    }
-}
-
-/// Adds each name of an object, with its bytes.
-fn push_pairs(alloc: Global, named: &Value, pairs: &mut Pairs) -> Result<(), Fail> {
-    let names = names_in(alloc, named)?;
-    for name in &names {
-        let bytes = file_text(alloc, value_at(named, *name)?)?;
-        push_file(alloc, *name, bytes, pairs)?;
-    }
-    Ok(())
-}
-
-fn push_file(alloc: Global, name: &str, bytes: Vec<u8>, pairs: &mut Pairs) -> Result<(), Fail> {
-    let name = Txt::new(alloc, name)?;
-    pairs.push((name, bytes))?;
-    Ok(())
-}
-
-/// The bytes of a file: a text itself, of an object its file text, and of all else its compact text.
-pub fn file_text(alloc: Global, said: &Value) -> Result<Vec<u8>, Fail> {
-    if !is_object(said) {
-        return value_bytes(alloc, said);
-    }
-    let mut text = said.to_vec_pretty(alloc)?;
-    text.push(b'\n')?;
-    Ok(text)
-}
-
 /// Adds each name under `parts`, where there are any.
 fn push_long_at(alloc: Global, row: &Value, pairs: &mut Pairs) -> Result<(), Fail> {
     if !has(row, "parts") {
@@ -89,7 +54,7 @@ fn push_long_at(alloc: Global, row: &Value, pairs: &mut Pairs) -> Result<(), Fai
     let names = names_in(alloc, named)?;
     for name in &names {
         let bytes = joined_parts(alloc, value_at(named, *name)?)?;
-        push_file(alloc, *name, bytes, pairs)?;
+        pairs.push((Txt::new(alloc, *name)?, bytes))?;
     }
     Ok(())
 }

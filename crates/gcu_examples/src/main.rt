@@ -7,52 +7,40 @@ mod ends;
 mod folders;
 mod stories;
 
-use example_rows::{Fail, read_inputs, tell};
-use serde_json::Value;
-use std::rt::Files;
+use example_rows::{Fail, tell_all};
 use stories::Stories;
 
-/// The tables. Each is a file of rows of one form, so that a table more is a name more.
-const TABLES: [&str; 25] = [
-    "named.json",
-    "plans.json",
-    "plan_checks.json",
-    "plan_texts.json",
-    "resume.json",
-    "checkpoint_texts.json",
-    "checkpoints.json",
-    "scopes.json",
-    "sessions.json",
-    "operators.json",
-    "validity.json",
-    "models.json",
-    "shapes.json",
-    "truths.json",
-    "types.json",
-    "rules.json",
-    "commands.json",
-    "changes.json",
-    "item_dry_runs.json",
-    "goal_plans.json",
-    "item_goal_plans.json",
-    "bad_inputs.json",
-    "histories.json",
-    "sweeps.json",
-    "stops.json",
+/// The tables. All rows have one form, so that a table more is a line more.
+const TABLES: [(&str, Stories); 27] = [
+    ("named.json", Stories),
+    ("plans.json", Stories),
+    ("plan_checks.json", Stories),
+    ("plan_texts.json", Stories),
+    ("resume.json", Stories),
+    ("checkpoint_texts.json", Stories),
+    ("checkpoints.json", Stories),
+    ("scopes.json", Stories),
+    ("sessions.json", Stories),
+    ("operators.json", Stories),
+    ("validity.json", Stories),
+    ("models.json", Stories),
+    ("shapes.json", Stories),
+    ("truths.json", Stories),
+    ("patterns.json", Stories),
+    ("types.json", Stories),
+    ("rules.json", Stories),
+    ("commands.json", Stories),
+    ("changes.json", Stories),
+    ("item_dry_runs.json", Stories),
+    ("goal_plans.json", Stories),
+    ("item_goal_plans.json", Stories),
+    ("bad_inputs.json", Stories),
+    ("cuts.json", Stories),
+    ("histories.json", Stories),
+    ("sweeps.json", Stories),
+    ("stops.json", Stories),
 ];
 
 fn main(rt: HostRuntime) -> Result<(), Fail> {
-    let folders = read_inputs(&rt, "folders.json")?;
-    let told = tell_all(&rt, &folders);
-    drop(folders);
-    told
-}
-
-/// Asks the rows of each table.
-fn tell_all<R: Files + Print + AllocGlobal>(rt: &R, folders: &Value) -> Result<(), Fail> {
-    let stories = Stories { folders };
-    for table in TABLES {
-        tell(rt, table, &stories)?;
-    }
-    Ok(())
+    tell_all(&rt, "folders.json", &TABLES)
 }

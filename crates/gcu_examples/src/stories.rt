@@ -27,19 +27,17 @@ use std::alloc::Global;
 ///
 /// Where `both_rules` is there, all is done twice, the second time with the rule that judges each configuration
 /// whole in the place of the program's.
-#[derive(Drop)]
-pub struct Stories<'a> {
-    /// The named folders.
-    pub folders: &'a Value,
-}
+#[derive(Clone, Copy)]
+pub struct Stories;
 
-impl<'a> Table for Stories<'a> {
-    fn is_as_said(&self, alloc: Global, row: &Value) -> Result<bool, Fail> {
+impl<R: AllocGlobal> Table<R> for Stories {
+    fn is_as_said(&self, rt: &R, folders: &Value, row: &Value) -> Result<bool, Fail> {
+        let alloc = rt.alloc();
         if !has(row, "cases") {
-            return is_case(alloc, self.folders, row, row);
+            return is_case(alloc, folders, row, row);
         }
         for case in items_at(row, "cases")? {
-            if !is_case(alloc, self.folders, row, case)? {
+            if !is_case(alloc, folders, row, case)? {
                 return Ok(false);
             }
         }

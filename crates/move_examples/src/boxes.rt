@@ -4,12 +4,11 @@ ghost use Rattle.move_core.specs.Contexts.{IsResult};
 ghost use Rattle.move_core.specs.Moves.{IsDefined};
 ghost use Rattle.move_examples.specs.Situations.{IsReady};
 
-use crate::kits::{KitTable, ask_kit};
 use crate::move_texts::{Lines, are_lines, move_text, place_text};
 use crate::ranks::class_name;
-use crate::situations::{Situation, situation_at};
+use crate::situations::Situation;
 use conf_doc::Config;
-use example_rows::{Fail, Table, has, is_text, items_at, line_of, push_word, value_at};
+use example_rows::{Fail, has, is_text, items_at, line_of, push_word, value_at};
 use host_core::Memory;
 use move_core::{Boxes as KitBoxes, Generated, Kit, Move, Moves, listed_moves_are_defined, step};
 use move_lists::listed;
@@ -23,36 +22,21 @@ const KINDS: [&str; 5] = ["1", "2", "3", "4", "5"];
 /// the move. Its `moves` are those of the list. Each has the numbers of the rules that it is `refused` by,
 /// and says where its result is the `same` as before. Where it is there `extensions` has what follows it,
 /// each the number of an extender and the move.
-#[derive(Drop)]
-pub struct Boxes<'a> {
-    /// The models and the rules of the rows.
-    pub inputs: &'a Value,
-}
-
-impl<'a> Table for Boxes<'a> {
-    fn is_as_said(&self, alloc: Global, row: &Value) -> Result<bool, Fail> {
-        let situation = situation_at(alloc, self.inputs, row)?;
-        let as_said = ask_kit(alloc, self, &situation, row);
-        drop(situation);
-        as_said
-    }
-}
-
-impl<'a> KitTable for Boxes<'a> {
-    fn is_said_by(
-        &self,
-        alloc: Global,
-        kit: &mut Kit,
-        situation: &Situation,
-        row: &Value,
-    ) -> Result<bool, Fail> {
-        let said = items_at(row, "moves")?;
-        let same = are_generated(alloc, situation, kit, items_at(row, "generated")?)?;
-        let moves = listed_moves(alloc, situation, kit)?;
-        let as_said = are_moves(alloc, situation, kit, moves.items(), said);
-        drop(moves);
-        Ok(as_said? && same)
-    }
+pub fn are_boxes_as_said(
+    alloc: Global,
+    kit: &mut Kit,
+    situation: &Situation,
+    row: &Value,
+) -> Result<bool, Fail>
+    requires kinds { ⟦<Kit as KitBoxes>⟧.HasKinds kit.old }
+    requires ready { IsReady situation.now }
+{
+    let said = items_at(row, "moves")?;
+    let same = are_generated(alloc, situation, kit, items_at(row, "generated")?)?;
+    let moves = listed_moves(alloc, situation, kit)?;
+    let as_said = are_moves(alloc, situation, kit, moves.items(), said);
+    drop(moves);
+    Ok(as_said? && same)
 }
 
 /// Whether the generators give what is said.
@@ -66,8 +50,14 @@ fn are_generated(
     requires ready { IsReady situation.now }
     ensures kinds { ⟦<Kit as KitBoxes>⟧.HasKinds kit.new }
 {
-    let generated = generated_lines(alloc, situation, kit)?;
-    are_lines(alloc, generated, said)
+    let mut lines = Vec::new(alloc);
+    match generate_all(alloc, situation, kit, &mut lines) {
+        Ok(()) => are_lines(alloc, lines, said),
+        Err(fail) => {
+            drop(lines);
+            Err(fail)
+        }
+    }
 }
 
 /// Whether extenders give and rules answer of each move what is said.
@@ -87,18 +77,7 @@ fn are_moves(
     Ok(are_judged(alloc, situation, kit, moves, said)? && followed)
 }
 
-/// The moves of all generators, a line each.
-fn generated_lines(alloc: Global, situation: &Situation, kit: &mut Kit) -> Result<Lines, Fail>
-    requires kinds { ⟦<Kit as KitBoxes>⟧.HasKinds kit.old }
-    requires ready { IsReady situation.now }
-    ensures kinds { ⟦<Kit as KitBoxes>⟧.HasKinds kit.new }
-{
-    let mut lines = Vec::new(alloc);
-    generate_all(alloc, situation, kit, &mut lines)?;
-    Ok(lines)
-}
-
-/// Adds the moves of all generators.
+/// Adds the moves of all generators, a line each.
 fn generate_all(
     alloc: Global,
     situation: &Situation,
@@ -222,8 +201,14 @@ fn is_followed(
         return Ok(true);
     }
     let said = items_at(row, "extensions")?;
-    let lines = extension_lines(alloc, situation, kit, mv)?;
-    are_lines(alloc, lines, said)
+    let mut lines = Vec::new(alloc);
+    match extend_all(alloc, situation, kit, mv, &mut lines) {
+        Ok(()) => are_lines(alloc, lines, said),
+        Err(fail) => {
+            drop(lines);
+            Err(fail)
+        }
+    }
 }
 
 /// Whether a move is that of a row.
@@ -232,24 +217,7 @@ fn is_move(alloc: Global, mv: &Move, row: &Value) -> Result<bool, Fail> {
     is_text(alloc, row, "move", &text)
 }
 
-/// What all extenders give, a line each.
-fn extension_lines(
-    alloc: Global,
-    situation: &Situation,
-    kit: &mut Kit,
-    mv: &Move,
-) -> Result<Lines, Fail>
-    requires kinds { ⟦<Kit as KitBoxes>⟧.HasKinds kit.old }
-    requires ready { IsReady situation.now }
-    requires defined { IsDefined situation.now.cur mv.now }
-    ensures kinds { ⟦<Kit as KitBoxes>⟧.HasKinds kit.new }
-{
-    let mut lines = Vec::new(alloc);
-    extend_all(alloc, situation, kit, mv, &mut lines)?;
-    Ok(lines)
-}
-
-/// Adds what all extenders give.
+/// Adds what all extenders give, a line each.
 fn extend_all(
     alloc: Global,
     situation: &Situation,

@@ -3,8 +3,12 @@
 ghost use Rattle.move_core.specs.Kinds.{AreOfKinds, generator_kinds, rule_kinds};
 ghost use Rattle.move_examples.specs.Situations.{IsReady};
 
+use crate::asking::Asked;
+use crate::boxes::are_boxes_as_said;
 use crate::counted::{Counters, Tally, counting_box};
-use crate::situations::Situation;
+use crate::counts::is_search_as_said;
+use crate::lists::is_list_as_said;
+use crate::situations::{Situation, situation_at};
 use example_rows::Fail;
 use move_core::{Boxes, Kit, MoveGen, MoveRule, kit_extenders, kit_generators, kit_rules};
 use move_extend::{DeleteExt, ReferrersExt, RequiredExt, UpperExt};
@@ -13,40 +17,44 @@ use move_rules::{CreateOnlyRule, FullRule, NoDependencyRule, NoEmptyRule, Requir
 use serde_json::Value;
 use std::alloc::Global;
 
-/// What the rows of a table ask a kit.
-pub trait KitTable {
-    /// Whether what the kit gives in the situation of a row is what the row says.
-    fn is_said_by(
-        &self,
-        alloc: Global,
-        kit: &mut Kit,
-        situation: &Situation,
-        row: &Value,
-    ) -> Result<bool, Fail>
-        requires kinds { ⟦<Kit as Boxes>⟧.HasKinds kit.old }
-        requires ready { IsReady situation.now };
+/// Whether what a kit gives in the situation of a row is what the row says.
+pub fn is_situation_as_said(
+    alloc: Global,
+    inputs: &Value,
+    row: &Value,
+    asked: Asked,
+) -> Result<bool, Fail> {
+    let situation = situation_at(alloc, inputs, row)?;
+    let as_said = is_asked_as_said(alloc, &situation, row, asked);
+    drop(situation);
+    as_said
 }
 
-/// Asks a kit.
-pub fn ask_kit<T: KitTable>(
+/// Whether what a kit gives in a situation is what the row says, and how often its boxes are asked where that is
+/// asked for.
+fn is_asked_as_said(
     alloc: Global,
-    table: &T,
     situation: &Situation,
     row: &Value,
+    asked: Asked,
 ) -> Result<bool, Fail>
     requires { IsReady situation.now }
 {
     let mut tally = Tally::new(alloc);
-    let said = ask_counted(alloc, &mut tally, table, situation, row);
+    let said = ask_counted(alloc, &mut tally, asked, situation, row);
+    let counted = match asked {
+        Asked::Count => tally.is_said(row),
+        _ => Ok(true),
+    };
     drop(tally);
-    said
+    Ok(said? && counted?)
 }
 
 /// Asks a kit with the counters of a tally.
-pub fn ask_counted<T: KitTable>(
+fn ask_counted(
     alloc: Global,
     tally: &mut Tally,
-    table: &T,
+    asked: Asked,
     situation: &Situation,
     row: &Value,
 ) -> Result<bool, Fail>
@@ -61,15 +69,15 @@ pub fn ask_counted<T: KitTable>(
         counting_box(alloc, CreateOnlyRule::new(), all)?,
         counting_box(alloc, RequiredRule::new(), all)?,
     )?;
-    ask_rules(alloc, tally, rules, table, situation, row)
+    ask_rules(alloc, tally, rules, asked, situation, row)
 }
 
 /// Asks a kit with these rules.
-fn ask_rules<T: KitTable>(
+fn ask_rules(
     alloc: Global,
     tally: &mut Tally,
     rules: Vec<Box<dyn MoveRule>>,
-    table: &T,
+    asked: Asked,
     situation: &Situation,
     row: &Value,
 ) -> Result<bool, Fail>
@@ -90,19 +98,19 @@ fn ask_rules<T: KitTable>(
         &mut tally.extenders,
         gens,
         rules,
-        table,
+        asked,
         situation,
         row,
     )
 }
 
 /// Asks a kit with these generators and rules.
-fn ask_both<T: KitTable>(
+fn ask_both(
     alloc: Global,
     all: &mut Counters,
     gens: Vec<Box<dyn MoveGen>>,
     rules: Vec<Box<dyn MoveRule>>,
-    table: &T,
+    asked: Asked,
     situation: &Situation,
     row: &Value,
 ) -> Result<bool, Fail>
@@ -118,7 +126,26 @@ fn ask_both<T: KitTable>(
         counting_box(alloc, RequiredExt::new(), all)?,
     )?;
     let mut kit = Kit { gens, exts, rules };
-    let said = table.is_said_by(alloc, &mut kit, situation, row);
+    let said = is_said_by(alloc, &mut kit, asked, situation, row);
     drop(kit);
     said
+}
+
+/// Whether what a kit gives in a situation is what the row says.
+fn is_said_by(
+    alloc: Global,
+    kit: &mut Kit,
+    asked: Asked,
+    situation: &Situation,
+    row: &Value,
+) -> Result<bool, Fail>
+    requires kinds { ⟦<Kit as Boxes>⟧.HasKinds kit.old }
+    requires ready { IsReady situation.now }
+{
+    match asked {
+        Asked::Boxes => are_boxes_as_said(alloc, kit, situation, row),
+        Asked::List => is_list_as_said(alloc, kit, situation, row),
+        Asked::Count => is_search_as_said(alloc, kit, situation, row),
+        _ => Err(Fail::Row),
+    }
 }

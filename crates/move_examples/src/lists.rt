@@ -2,12 +2,11 @@
 ghost use Rattle.std.specs.Prelude.{◌≤◌};
 ghost use Rattle.move_examples.specs.Situations.{IsReady};
 
-use crate::kits::{KitTable, ask_kit};
 use crate::move_texts::{Lines, move_texts};
 use crate::orders::are_in_order;
 use crate::ranks::ranked_at;
-use crate::situations::{Situation, situation_at};
-use example_rows::{Fail, Table, items_at, number_at, text_bytes};
+use crate::situations::Situation;
+use example_rows::{Fail, items_at, number_at, text_bytes};
 use move_core::{Boxes, Kit, Move, Ranked};
 use move_lists::{first_moves, leading_move, listed, listed_in_part, offered_moves};
 use serde_json::Value;
@@ -15,42 +14,27 @@ use std::alloc::Global;
 
 /// A row has a situation and the `list` there: each has its `tier`, its number of `extensions` and its
 /// `class`, and the `move`.
-#[derive(Drop)]
-pub struct Lists<'a> {
-    /// The models and the rules of the rows.
-    pub inputs: &'a Value,
-}
-
-impl<'a> Table for Lists<'a> {
-    fn is_as_said(&self, alloc: Global, row: &Value) -> Result<bool, Fail> {
-        let situation = situation_at(alloc, self.inputs, row)?;
-        let as_said = ask_kit(alloc, self, &situation, row);
-        drop(situation);
-        as_said
-    }
-}
-
-impl<'a> KitTable for Lists<'a> {
-    fn is_said_by(
-        &self,
-        alloc: Global,
-        kit: &mut Kit,
-        situation: &Situation,
-        row: &Value,
-    ) -> Result<bool, Fail> {
-        let said = items_at(row, "list")?;
-        let leading = is_leading(alloc, situation, kit, said)?;
-        let alone = is_part(alloc, situation, kit, 1, said)?;
-        let once = is_part(alloc, situation, kit, 2, said)?;
-        let twice = is_part(alloc, situation, kit, 3, said)?;
-        let thrice = is_part(alloc, situation, kit, 4, said)?;
-        let far = is_part(alloc, situation, kit, 5, said)?;
-        let restoring = is_part(alloc, situation, kit, 6, said)?;
-        let others = is_part(alloc, situation, kit, 7, said)?;
-        let extended = once && twice && thrice && far;
-        let parts = leading && alone && extended && restoring && others;
-        Ok(parts && is_list(alloc, situation, kit, said)?)
-    }
+pub fn is_list_as_said(
+    alloc: Global,
+    kit: &mut Kit,
+    situation: &Situation,
+    row: &Value,
+) -> Result<bool, Fail>
+    requires kinds { ⟦<Kit as Boxes>⟧.HasKinds kit.old }
+    requires ready { IsReady situation.now }
+{
+    let said = items_at(row, "list")?;
+    let leading = is_leading(alloc, situation, kit, said)?;
+    let alone = is_part(alloc, situation, kit, 1, said)?;
+    let once = is_part(alloc, situation, kit, 2, said)?;
+    let twice = is_part(alloc, situation, kit, 3, said)?;
+    let thrice = is_part(alloc, situation, kit, 4, said)?;
+    let far = is_part(alloc, situation, kit, 5, said)?;
+    let restoring = is_part(alloc, situation, kit, 6, said)?;
+    let others = is_part(alloc, situation, kit, 7, said)?;
+    let extended = once && twice && thrice && far;
+    let parts = leading && alone && extended && restoring && others;
+    Ok(parts && is_list(alloc, situation, kit, said)?)
 }
 
 /// Whether the move that the list begins with is the first that is said of part 1, or there is none.

@@ -1,6 +1,7 @@
 //! Examples of rules files, of moves and their order, and of lists, asked row by row.
 #![tactic(auto)]
 
+mod asking;
 mod boxes;
 mod counted;
 mod counts;
@@ -14,31 +15,21 @@ mod rechecks;
 mod rules_files;
 mod situations;
 
-use boxes::Boxes;
-use counts::Counts;
-use example_rows::{Fail, read_inputs, tell};
-use lists::Lists;
-use orders::Orders;
-use rechecks::Rechecks;
-use rules_files::RulesFiles;
-use serde_json::Value;
-use std::rt::Files;
+use asking::Asked;
+use example_rows::{Fail, tell_all};
+
+/// The tables, each with what its rows ask.
+const TABLES: [(&str, Asked); 8] = [
+    ("rules_files.json", Asked::RulesFile),
+    ("orders.json", Asked::Order),
+    ("boxes.json", Asked::Boxes),
+    ("item_boxes.json", Asked::Boxes),
+    ("lists.json", Asked::List),
+    ("item_lists.json", Asked::List),
+    ("rechecks.json", Asked::Recheck),
+    ("counts.json", Asked::Count),
+];
 
 fn main(rt: HostRuntime) -> Result<(), Fail> {
-    tell(&rt, "rules_files.json", &RulesFiles)?;
-    tell(&rt, "orders.json", &Orders)?;
-    let inputs = read_inputs(&rt, "inputs.json")?;
-    let told = tell_situations(&rt, &inputs);
-    drop(inputs);
-    told
-}
-
-/// Asks the rows that share models and rules.
-fn tell_situations<R: Files + Print + AllocGlobal>(rt: &R, inputs: &Value) -> Result<(), Fail> {
-    tell(rt, "boxes.json", &Boxes { inputs })?;
-    tell(rt, "item_boxes.json", &Boxes { inputs })?;
-    tell(rt, "lists.json", &Lists { inputs })?;
-    tell(rt, "item_lists.json", &Lists { inputs })?;
-    tell(rt, "rechecks.json", &Rechecks { inputs })?;
-    tell(rt, "counts.json", &Counts { inputs })
+    tell_all(&rt, "inputs.json", &TABLES)
 }

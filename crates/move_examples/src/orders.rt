@@ -1,7 +1,7 @@
 //! Ranked moves in the order of the list.
 use crate::ranks::ranked_at;
 use conf_doc::{Part, Path};
-use example_rows::{Fail, Table, config_at, has, items_at, part_at, path_at, size_at, text_at};
+use example_rows::{Fail, config_at, has, items_at, part_at, path_at, size_at, text_at};
 use host_core::Txt;
 use move_core::{Move, Ranked, cmp_listed};
 use serde_json::Value;
@@ -10,17 +10,13 @@ use std::alloc::Global;
 /// A row has `moves` in order. Each has its `tier`, its number of `extensions` and its `class`, what it
 /// does, which is its `action`, and the names of its `place`. What it puts there is what the configuration
 /// `within` has there. A move of an item has its `index`, and the `text` that it adds.
-pub struct Orders;
-
-impl Table for Orders {
-    fn is_as_said(&self, alloc: Global, row: &Value) -> Result<bool, Fail> {
-        let mut ranked = Vec::new(alloc);
-        let pushed = push_moves(alloc, row, &mut ranked);
-        let in_order = are_in_order(&ranked);
-        drop(ranked);
-        pushed?;
-        Ok(in_order)
-    }
+pub fn is_order_as_said(alloc: Global, row: &Value) -> Result<bool, Fail> {
+    let mut ranked = Vec::new(alloc);
+    let pushed = push_moves(alloc, row, &mut ranked);
+    let in_order = are_in_order(&ranked);
+    drop(ranked);
+    pushed?;
+    Ok(in_order)
 }
 
 /// Adds the moves of a row with their ranks.

@@ -3,7 +3,7 @@ ghost use Rattle.move_core.specs.Contexts.{IsNamed};
 
 use crate::situations::ctx_at;
 use conf_doc::{Config, Path};
-use example_rows::{Fail, Table, config_at, has, items_at, number_at, path_at, truth_at};
+use example_rows::{Fail, config_at, has, items_at, number_at, path_at, truth_at};
 use move_core::{Ctx, Move, MoveRule};
 use recheck::RecheckRule;
 use serde_json::Value;
@@ -13,23 +13,15 @@ use std::alloc::Global;
 /// that a rule is `asked` for, one after another. Each is the `config`, whether the rule says yes, which is
 /// `valid`, and how many entries it has `checked` until then. The move that led there is `at` a place, or where
 /// none is named at the table of ports. Where it `begins` there, the rule begins anew before.
-#[derive(Drop)]
-pub struct Rechecks<'a> {
-    /// The models and the rules of the rows.
-    pub inputs: &'a Value,
-}
-
-impl<'a> Table for Rechecks<'a> {
-    fn is_as_said(&self, alloc: Global, row: &Value) -> Result<bool, Fail> {
-        let asked = items_at(row, "asked")?;
-        let ctx = ctx_at(alloc, self.inputs, row)?;
-        let mut rule = RecheckRule::new(alloc);
-        rule.begin(&ctx);
-        let answered = answers_all(alloc, &ctx, &mut rule, asked);
-        drop(rule);
-        drop(ctx);
-        answered
-    }
+pub fn is_recheck_as_said(alloc: Global, inputs: &Value, row: &Value) -> Result<bool, Fail> {
+    let asked = items_at(row, "asked")?;
+    let ctx = ctx_at(alloc, inputs, row)?;
+    let mut rule = RecheckRule::new(alloc);
+    rule.begin(&ctx);
+    let answered = answers_all(alloc, &ctx, &mut rule, asked);
+    drop(rule);
+    drop(ctx);
+    answered
 }
 
 /// Whether the rule answers of each configuration in turn what is said.

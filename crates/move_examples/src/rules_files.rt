@@ -1,5 +1,5 @@
 //! Rules files that are read, with their settings, or refused.
-use example_rows::{Fail, Table, is_written, says, written_at};
+use example_rows::{Fail, is_written, says, written_at};
 use host_core::{Names, Sequence};
 use move_core::{Required, Requiring, RulesError, RulesWhy, Settings, read_rules};
 use serde_json::Value;
@@ -7,21 +7,17 @@ use std::alloc::Global;
 
 /// A row has a `text` and the `settings`, each on a line of its own with bars between its texts, or the
 /// `fault`.
-pub struct RulesFiles;
-
-impl Table for RulesFiles {
-    fn is_as_said(&self, alloc: Global, row: &Value) -> Result<bool, Fail> {
-        let bytes = written_at(alloc, row, "text")?;
-        match read_rules(alloc, &bytes) {
-            Ok(settings) => {
-                let as_said = are_settings(alloc, row, &settings);
-                drop(settings);
-                as_said
-            }
-            Err(RulesError::BadJson) => Ok(says(row, "fault", "BadJson")),
-            Err(RulesError::Bad { why }) => Ok(says(row, "fault", name_of(why))),
-            Err(RulesError::Memory) => Err(Fail::Memory),
+pub fn is_rules_file_as_said(alloc: Global, row: &Value) -> Result<bool, Fail> {
+    let bytes = written_at(alloc, row, "text")?;
+    match read_rules(alloc, &bytes) {
+        Ok(settings) => {
+            let as_said = are_settings(alloc, row, &settings);
+            drop(settings);
+            as_said
         }
+        Err(RulesError::BadJson) => Ok(says(row, "fault", "BadJson")),
+        Err(RulesError::Bad { why }) => Ok(says(row, "fault", name_of(why))),
+        Err(RulesError::Memory) => Err(Fail::Memory),
     }
 }
 

@@ -2,8 +2,8 @@
 ghost use Rattle.std.specs.Prelude.{◌≤◌, length};
 ghost use Rattle.std.specs.Io.{ReadsAtMost};
 
-use crate::answers::{is_input, is_read};
-use example_rows::{Fail, Table, has, is_null, items_at, number_at, text_at, text_of};
+use crate::answers::{bytes_told, failure_told, input_told};
+use example_rows::{Fail, has, is_null, items_at, number_at, says, text_of};
 use real_host::{read_in_turns, read_input};
 use serde_json::Value;
 use std::alloc::Global;
@@ -13,43 +13,27 @@ use std::io::{ErrorKind, Read};
 /// A row has the `parts` of a file: a text that a read gives, null where a signal interrupts it, and false
 /// where it fails. An input of at most `limit` bytes is the `answer`, or what is read in so many `turns`,
 /// `most` bytes.
-pub struct Reads;
-
-impl Table for Reads {
-    fn is_as_said(&self, alloc: Global, row: &Value) -> Result<bool, Fail> {
-        if has(row, "turns") {
-            is_read_as_said(alloc, row)
-        } else {
-            is_input_as_said(alloc, row)
-        }
-    }
-}
-
-fn is_input_as_said(alloc: Global, row: &Value) -> Result<bool, Fail> {
-    let said = text_at(row, "answer")?;
-    let limit = number_at(row, "limit")?;
-    let mut file = file_of(row)?;
-    let answer = read_input(alloc, &mut file, limit);
-    let same = is_input(said, &answer);
-    drop(answer);
-    Ok(same)
-}
-
-fn is_read_as_said(alloc: Global, row: &Value) -> Result<bool, Fail> {
-    let said = text_at(row, "answer")?;
-    let most = number_at(row, "most")?;
-    let turns = number_at(row, "turns")?;
-    let mut file = file_of(row)?;
-    let answer = read_in_turns(alloc, &mut file, most, turns);
-    let same = is_read(said, &answer);
-    drop(answer);
-    Ok(same)
-}
-
-/// The file of a row.
-fn file_of(row: &Value) -> Result<FileInParts<'_>, Fail> {
+pub fn is_reading_as_said(alloc: Global, row: &Value) -> Result<bool, Fail> {
     let parts = items_at(row, "parts")?;
-    Ok(FileInParts { parts, next: 0 })
+    let mut file = FileInParts { parts, next: 0 };
+    let answer = reading_told(alloc, row, &mut file)?;
+    Ok(says(row, "answer", answer.as_str()))
+}
+
+/// Reads the file as the row says, and tells what is read.
+fn reading_told(alloc: Global, row: &Value, file: &mut FileInParts<'_>) -> Result<String, Fail> {
+    if !has(row, "turns") {
+        return input_told(alloc, read_input(alloc, file, number_at(row, "limit")?));
+    }
+    match read_in_turns(
+        alloc,
+        file,
+        number_at(row, "most")?,
+        number_at(row, "turns")?,
+    ) {
+        Ok(bytes) => bytes_told(alloc, &bytes),
+        Err(error) => failure_told(alloc, error),
+    }
 }
 
 /// A file whose reads end as its parts say.

@@ -1,7 +1,7 @@
 //! Words of command lines.
 ghost use Rattle.std.specs.Io.{WritesAtMost};
 
-use example_rows::{Fail, Table, are_names, has, items_at, text_of};
+use example_rows::{Fail, are_names, has, items_at, text_of};
 use host_core::{Memory, Names};
 use real_host::words;
 use serde_json::Value;
@@ -12,19 +12,15 @@ use std::{env, io};
 
 /// A row has the words of a `line`, with null for one that is no UTF-8, and the `words` that are found. One
 /// without a line has no memory for it, and none are.
-pub struct WordLists;
-
-impl Table for WordLists {
-    fn is_as_said(&self, alloc: Global, row: &Value) -> Result<bool, Fail> {
-        let found = if has(row, "line") {
-            words_of(alloc, items_at(row, "line")?)
-        } else {
-            words(alloc, Err(io::Error::from(ErrorKind::OutOfMemory)))
-        };
-        let same = are_found(row, &found);
-        drop(found);
-        same
-    }
+pub fn are_words_as_said(alloc: Global, row: &Value) -> Result<bool, Fail> {
+    let found = if has(row, "line") {
+        words_of(alloc, items_at(row, "line")?)
+    } else {
+        words(alloc, Err(io::Error::from(ErrorKind::OutOfMemory)))
+    };
+    let same = are_found(row, &found);
+    drop(found);
+    same
 }
 
 /// Whether these words are found, or none for want of memory.

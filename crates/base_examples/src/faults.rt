@@ -6,7 +6,7 @@ use std::io;
 use std::io::ErrorKind;
 
 /// What fails.
-#[derive(Clone, Copy, PartialEq, Eq)]
+#[derive(Clone, Copy)]
 pub enum Fault {
     /// Nothing but printing.
     Nothing,
@@ -66,7 +66,7 @@ impl<'a> Faults<'a> {
 
     /// Fails where every call does.
     pub fn check(&self) -> io::Result<()> {
-        if self.now.get() == Fault::Every {
+        if matches!(self.now.get(), Fault::Every) {
             return Err(self.error());
         }
         Ok(())
@@ -74,7 +74,7 @@ impl<'a> Faults<'a> {
 
     /// Fails where every call does, or the opening of that file.
     pub fn check_opening(&self, path: &str) -> io::Result<()> {
-        if self.now.get() == Fault::One && self.only == path {
+        if matches!(self.now.get(), Fault::One) && self.only == path {
             return Err(self.error());
         }
         self.check()

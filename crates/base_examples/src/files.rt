@@ -15,7 +15,7 @@ pub struct FaultyFile<F> {
 
 impl<F> FaultyFile<F> {
     fn takes_half(&self) -> bool {
-        self.fault == Fault::Half || self.fault == Fault::HalfUncut
+        matches!(self.fault, Fault::Half | Fault::HalfUncut)
     }
 }
 
@@ -54,7 +54,7 @@ impl<F: OpenFile> OpenFile for FaultyFile<F> {
     }
 
     fn set_len(&self, size: u64) -> io::Result<()> {
-        if self.fault == Fault::HalfUncut {
+        if matches!(self.fault, Fault::HalfUncut) {
             return Err(io::Error::from(ErrorKind::PermissionDenied));
         }
         self.file.set_len(size)
