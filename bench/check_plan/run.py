@@ -4,8 +4,9 @@
 
 usage: bench/check_plan/run.py PROGRAM [PORTS..]     PROGRAM is the built gcu, as crates/gcu_cli/out/gcu_cli
 
-The changes are those of bench/demo.py (15 steps for eight ports, and the speed of all ports), the changes of examples/leaf32,
-and 400 rules that come beside 4,000 (bench/size). The models and the rules are those of the example folder or of leaf32.
+The changes are those of bench/demo.py (15 steps for eight ports, and the speed of all ports), the speed and the MTU of all ports
+of a switch of 256 ports and 400 rules that come beside 4,000 (bench/size), and the changes of examples/leaf32. The models and the
+rules are those of the example folder or of leaf32.
 """
 import json, pathlib, resource, shutil, subprocess, sys, tempfile
 
@@ -13,7 +14,7 @@ sys.dont_write_bytecode = True
 bench = pathlib.Path(__file__).resolve().parent.parent
 sys.path[:0] = [str(bench), str(bench / "size")]
 from demo import change_of, instructions, speeds_of, start_of
-import folders
+import folders, switches
 
 example = bench.parent / "crates" / "gcu_cli" / "data"
 leaf = bench.parent / "examples" / "leaf32"
@@ -57,6 +58,11 @@ for ports in sizes:
             (folder / "config_db.json").write_text(json.dumps(start_of(ports)))
             (folder / "change.json").write_text(json.dumps(change(ports)))
             print(row(folder, f"{ports} ports, {kind}", "change.json"), flush=True)
+for kind in "speed", "mtu":
+    with tempfile.TemporaryDirectory() as name:
+        folder = pathlib.Path(name) / "switch"
+        switches.make(folder, example, 256, kind)
+        print(row(folder, f"switch of 256 ports, {kind} of all", "p.json"), flush=True)
 for change in sorted((leaf / "changes").glob("*.json")):
     with tempfile.TemporaryDirectory() as name:
         folder = pathlib.Path(name) / "leaf"
