@@ -35,3 +35,7 @@ mod WantSlots
 mod WantSteps
 mod RemainingWants
 mod SingleWants
+mod FlatTypes
+pub mod FlatModels
+mod FlatTrees
+pub mod FlatBreaches

@@ -21,7 +21,7 @@ use Rattle.yang_must.specs.Musts.{Must, in_order, mark, must_by, must_of, tables
 use Rattle.yang_must.specs.Routes.{Route, end_of, ends_badly, names_nothing, routes}
 use Rattle.yang_must.specs.Spots.{Spot, leaf, shape, ModelContainer, containers_of, shapes_of as shapes_in, tables_of}
 use Rattle.yang_model.specs.Answers.{faults}
-use Rattle.yang_model.specs.Leaves.{name_of}
+use Rattle.yang_model.specs.Leaves.{name_of, stored}
 use Rattle.yang_model.specs.ModelSets.{ModelSet, TableModel, table_named, shapes_of}
 use Rattle.yang_model.specs.Readers.{Readers}
 use Rattle.yang_model.specs.ShapeCodes.{expr_of}
@@ -104,7 +104,7 @@ OptionsZip R (Some x) (Some y) = R x y
 
 module _ (modules : List Module) (readers : Readers) where
   abbrev models : ModelSet
-  models = models_of modules readers
+  models = models_of stored modules readers
 
   -- a must of a shape of the table of a statement, and the spot that it stands at
   pub record Stands (t : Declaration) (must : MustRule) : Type 0 where
@@ -128,7 +128,7 @@ module _ (modules : List Module) (readers : Readers) where
     pub named : bytes_eq name (name_of t) ≡ true
     pub s : Declaration
     pub in_s : In s (shapes_in t)
-    pub is : form ≡ shape_model modules readers x t s
+    pub is : form ≡ shape_model stored modules readers x t s
 
   some_table : (name : List ℕ) (o : Option TableModel) (place : ℕ) (form : Shape) → slice_get (option_map_or (λ m. m.shapes) o []) place ≡ Some form
       → (m : TableModel) × (o ≡ Some m) × In form m.shapes
@@ -139,9 +139,9 @@ module _ (modules : List Module) (readers : Readers) where
   comes name place form at =
       let table = some_table name (table_named name models) place form at in
       let found = find_in (λ t. bytes_eq name t.name) models.tables table.0 table.1 in
-      let from = flat_in (tables_in modules readers) (containers_of modules) table.0 found.0 in
-      let made = map_in (table_of modules readers from.0) (tables_of from.0.statement) table.0 from.2 in
-      let forms = map_in (shape_model modules readers from.0 made.0) (shapes_in made.0) form (subst (λ (m : TableModel). In form m.shapes) made.2 table.2) in
+      let from = flat_in (tables_in stored modules readers) (containers_of modules) table.0 found.0 in
+      let made = map_in (table_of stored modules readers from.0) (tables_of from.0.statement) table.0 from.2 in
+      let forms = map_in (shape_model stored modules readers from.0 made.0) (shapes_in made.0) form (subst (λ (m : TableModel). In form m.shapes) made.2 table.2) in
       record {
         x = from.0;
         in_x = from.1;
@@ -342,7 +342,7 @@ module _ (modules : List Module) (readers : Readers) where
     stands_same = subst Same (sym st.must_is) (same_by st.spot_is)
 
 -- the law
-pub one_truth : (files : List (List Declaration)) (readers : Readers) → faults readers files ≡ [] → HasOneTruth (models_of (modules_of files) readers)
+pub one_truth : (files : List (List Declaration)) (readers : Readers) → faults readers files ≡ [] → HasOneTruth (models_of stored (modules_of files) readers)
 one_truth files readers quiet a b row form t k u l must have there agree = (
   λ in_a. λ q are_q. (same have.known_a.0 q have.known_a.1 are_q).0 (in_a have.known_a.0 have.known_a.1),
   λ in_b. λ p are_p. (same p have.known_b.0 are_p have.known_b.1).1 (in_b have.known_b.0 have.known_b.1),
@@ -364,7 +364,7 @@ one_truth files readers quiet a b row form t k u l must have there agree = (
         (λ d in_d. statement_given (modules_of files) readers.tests (modules_quiet readers files quiet) from.x from.t from.s d from.in_x from.in_t from.in_s in_d)
         (subst (λ (z : Shape). In must z.musts) from.is (slice_in form.musts there.0 must (at_contained form.musts must there)))
 
-    entry : (p q : Belongings) → EntryAt (models_of (modules_of files) readers) a b p q from.t (entry_node t k) (entry_node u l)
+    entry : (p q : Belongings) → EntryAt (models_of stored (modules_of files) readers) a b p q from.t (entry_node t k) (entry_node u l)
     entry p q = record {
       name = row.table;
       named = table_name;
@@ -386,7 +386,7 @@ one_truth files readers quiet a b row form t k u l must have there agree = (
       };
     }
 
-    same : (p q : Belongings) → AreBelongings (models_of (modules_of files) readers) a p → AreBelongings (models_of (modules_of files) readers) b q
-        → IsFalseIn (A (models_of (modules_of files) readers) a b p q) (entry_node t k) must ↔ IsFalseIn (B (models_of (modules_of files) readers) a b p q) (entry_node u l) must
+    same : (p q : Belongings) → AreBelongings (models_of stored (modules_of files) readers) a p → AreBelongings (models_of stored (modules_of files) readers) b q
+        → IsFalseIn (A (models_of stored (modules_of files) readers) a b p q) (entry_node t k) must ↔ IsFalseIn (B (models_of stored (modules_of files) readers) a b p q) (entry_node u l) must
     same p q are_p are_q =
         stands_same (modules_of files) readers from.t must t k u l standing a b p q are_p are_q have.formed_a.shaped.rising have.formed_b.shaped.rising agree (entry p q)

@@ -23,7 +23,7 @@ mod want_runs;
 pub use acceptance::is_satisfied;
 pub use belongings::belongings_are_one;
 pub use checking::{check, check_entry};
-pub use laws::musts_have_one_truth;
+pub use laws::{flat_models_say_the_same, flat_types_want_the_same, musts_have_one_truth};
 pub use violations::{RuleName, Violation};
 pub use want_iter::{Want, WantAt, WantIter, WantPlace};
 pub use want_runs::{entry_wants, wants};

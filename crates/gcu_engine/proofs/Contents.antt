@@ -48,13 +48,14 @@ use Rattle.gcu_inputs.specs.RulesAsked.{ctx_asked, rules_answer, rules_limit, ru
 use Rattle.gcu_requests.specs.FileAsked.{config_answer, document_answer, file_asked, file_limit}
 use Rattle.gcu_requests.specs.PlanAsked.{made_asked}
 use Rattle.gcu_requests.specs.PointAsked.{held_answer}
-use Rattle.gcu_engine.specs.Contents.{AreModelsIn, HoldFiles, Holds, HoldsJson, IsContextIn, IsMade}
+use Rattle.gcu_engine.specs.Contents.{HoldFiles, Holds, HoldsJson, IsMade}
 use Rattle.gcu_engine.specs.Folder.{HoldsConfig, HoldsPatch}
 use Rattle.gcu_engine.specs.RulesValues.{IsSettings}
 use Rattle.gcu_engine.proofs.Folders.{holds_config}
 use Rattle.gcu_engine.proofs.PatchResults.{patched_within}
 use Rattle.gcu_engine.proofs.PatchTexts.{operations_are_held, value_there}
 use Rattle.gcu_engine.proofs.RulesValues.{rules_said}
+use Rattle.gcu_engine.proofs.WrittenModels.{AreStoredIn, IsReadIn}
 
 -- ---- bytes
 
@@ -122,7 +123,7 @@ hold_files s [] [] (text ∷ texts) at are = absurd are
 hold_files s (path ∷ paths) (file ∷ files) [] at are = absurd are
 
 -- the models that are asked for are those of the files
-models_in : (s : State) (models : ModelSet) → (models_asked s).Gives (Ok models) → AreModelsIn s models
+models_in : (s : State) (models : ModelSet) → (models_asked s).Gives (Ok models) → AreStoredIn s models
 models_in s models (inl never) = absurd never
 models_in s models (inr (texts, inl never, are)) = absurd never
 models_in s models (inr (texts, inr (paths, listed, inl never), are)) = absurd never
@@ -155,11 +156,11 @@ context_from : (s : State) (made ctx : Ctx) (r : Result Ctx Outcome) → r ≡ O
 context_from s made ctx r a b = let same : made ≡ ctx = cc in same
 
 -- what moves are judged by is in the inputs
-pub context_in : (s : State) (ctx : Ctx) → (ctx_asked s).Gives (Ok ctx) → IsContextIn s ctx
+pub context_in : (s : State) (ctx : Ctx) → (ctx_asked s).Gives (Ok ctx) → IsReadIn s ctx
 context_in s ctx (inl never) = absurd never
 context_in s ctx (inr (models, read, inl never)) = absurd never
 context_in s ctx (inr (models, read, inr (settings, found, e))) =
-    subst (IsContextIn s) (context_from s (record { models = models; settings = settings }) ctx _ refl e)
+    subst (IsReadIn s) (context_from s (record { models = models; settings = settings }) ctx _ refl e)
     (record { models = models_in s models read; settings = settings_in s settings found })
 
 -- ---- the target

@@ -13,12 +13,13 @@ use Rattle.gcu_words.specs.Targets.{Target}
 use Rattle.gcu_words.specs.Form.{Form, form}
 use Rattle.gcu_words.specs.Form as forms
 use Rattle.gcu_words.specs.Tasks.{Task, reach, run_script}
-use Rattle.gcu_engine.specs.Contents.{IsContextIn, IsMade}
+use Rattle.gcu_engine.specs.Contents.{IsMade}
 use Rattle.gcu_engine.specs.Folder.{StandForSame, Stores}
 use Rattle.gcu_engine.specs.Headline.{AddsPoint, HasNoOrder, HasWholePoints, IsUnacknowledged, IsChangeCommand, IsLastOrNext, IsTaskCommand, RemovesPoint}
 use Rattle.gcu_engine.proofs.CommandWords.{IsFormOf, IsPlanForm, form_words, plan_form}
 use Rattle.gcu_engine.proofs.DemoWords.{IsDemonstrated, by_words}
 use Rattle.gcu_engine.proofs.Folders.{same_stands, stores_is}
+use Rattle.gcu_engine.proofs.WrittenModels.{IsReadIn, none_written, read_written, written_ctx}
 
 -- ---- by its form
 
@@ -39,7 +40,7 @@ IsPlanned f s start goal = IfSome (task_in f) (IsPlannedBy s start goal)
 -- no sequence of allowed moves leads from the start to the goal
 pub record LacksOrder (f : Option Form) (s : State) : Type 0 where
   pub ctx : Ctx
-  pub read : IsContextIn s ctx
+  pub read : IsReadIn s ctx
   pub start : Config
   pub goal : Config
   pub planned : IsPlanned f s start goal
@@ -89,15 +90,15 @@ change_of_words task words (options, is, done) =
 
 pub order_by_words : (words : List (List ℕ)) (s : State) → form words ≢ None → LacksOrder (form words) s → HasNoOrder words s
 order_by_words words s some lacks = record {
-  ctx = lacks.ctx;
-  read = lacks.read;
+  ctx = written_ctx s lacks.ctx lacks.read;
+  read = read_written s lacks.ctx lacks.read;
   start = lacks.start;
   goal = lacks.goal;
   planned = λ from plans. by from (task_of_words (reach from) words plans);
   demonstrated = λ seed ports is.
       by_words seed ports lacks.start lacks.goal (subst (λ (ws : List (List ℕ)). form ws ≢ None) is some)
       (subst (λ (ws : List (List ℕ)). IsDemonstrated (form ws) lacks.start lacks.goal) is lacks.demonstrated);
-  none = lacks.none;
+  none = none_written s lacks.ctx lacks.read lacks.goal lacks.start lacks.goal lacks.none;
 }
   where
     by : (from : Target) → (form words ≡ None) ⊎ (task_in (form words) ≡ Some (reach from)) → Stores s.files lacks.start × IsMade from s lacks.start lacks.goal

@@ -19,3 +19,4 @@ mod RulesValues
 mod Scoping
 mod Settling
 mod OtherTables
+mod WrittenModels

@@ -27,10 +27,10 @@ use Rattle.gcu_requests.specs.PlanCheckAsked.{check_plan_asked}
 use Rattle.gcu_requests.specs.Request as request
 use Rattle.gcu_requests.specs.Request.{Planning, Request, Work}
 use Rattle.gcu_requests.specs.WorkAsked.{change_asked, dry_run_asked}
-use Rattle.gcu_engine.specs.Contents.{IsContextIn}
 use Rattle.writing_commands.proofs.Naming.{named_is}
 use Rattle.gcu_engine.proofs.Contents.{context_in}
 use Rattle.gcu_engine.proofs.RightPlans.{IsWorkAsked, planning_is, stored_from, work_is}
+use Rattle.gcu_engine.proofs.WrittenModels.{IsReadIn}
 
 -- ---- a task
 
@@ -58,7 +58,7 @@ abbrev pub IsRequestOf : Option Form → State → Request → Type 0
 IsRequestOf (Some (forms.plan task budget)) s r = (w : Work) × IsWorkAsked task s w × (request.plan w ≡ r)
 IsRequestOf (Some (forms.change task budget)) s r = (w : Work) × IsWorkAsked task s w × (request.change w ≡ r)
 IsRequestOf (Some (forms.demo seed ports)) s r =
-    (p : Planning) × IsContextIn s p.ctx × (p.start ≡ generated.start seed ports) × (p.goal ≡ generated.goal seed ports)
+    (p : Planning) × IsReadIn s p.ctx × (p.start ≡ generated.start seed ports) × (p.goal ≡ generated.goal seed ports)
     × (request.demo p ports ≡ r)
 IsRequestOf (Some (forms.save_checkpoint name)) s r = (c : Config) × (stored s.files ≡ Ok c) × (request.save_checkpoint name c ≡ r)
 IsRequestOf (Some (forms.delete_checkpoint name)) s r = request.delete_checkpoint name ≡ r
@@ -74,14 +74,14 @@ IsRequestOf None s r = ⊥
 request_is : (q r : Request) (x : Result Request Outcome) → x ≡ Ok q → x ≡ Ok r → q ≡ r
 request_is q r x a b = let same : q ≡ r = cc in same
 
-generated_is : (seed ports : ℕ) (ctx : Ctx) (s : State) (p : Planning) → IsContextIn s ctx → (generated_asked seed ports ctx).Gives (Ok p)
-    → IsContextIn s p.ctx × (p.start ≡ generated.start seed ports) × (p.goal ≡ generated.goal seed ports)
+generated_is : (seed ports : ℕ) (ctx : Ctx) (s : State) (p : Planning) → IsReadIn s ctx → (generated_asked seed ports ctx).Gives (Ok p)
+    → IsReadIn s p.ctx × (p.start ≡ generated.start seed ports) × (p.goal ≡ generated.goal seed ports)
 generated_is seed ports ctx s p read (inl never) = absurd never
 generated_is seed ports ctx s p read (inr (start, given, inl never)) = absurd never
 generated_is seed ports ctx s p read (inr (start, (valid, is), inr (goal, inl never, e))) = absurd never
 generated_is seed ports ctx s p read (inr (start, (valid, is), inr (goal, inr (u, same, inl never), e))) = absurd never
 generated_is seed ports ctx s p read (inr (start, (valid, is), inr (goal, inr (u, same, inr (v, keys, (fine, made))), e))) =
-    subst (λ (q : Planning). IsContextIn s q.ctx × (q.start ≡ generated.start seed ports) × (q.goal ≡ generated.goal seed ports))
+    subst (λ (q : Planning). IsReadIn s q.ctx × (q.start ≡ generated.start seed ports) × (q.goal ≡ generated.goal seed ports))
     (planning_is (record { ctx = ctx; start = start; goal = goal; budget = default_budget }) p _ refl e) (read, is, made)
 
 demo_given : (seed ports : ℕ) (s : State) (r : Request) → (demo_asked seed ports s).Gives (Ok r) → IsRequestOf (Some (forms.demo seed ports)) s r

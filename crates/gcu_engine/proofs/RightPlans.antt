@@ -28,13 +28,14 @@ use Rattle.sessions.specs.Worlds.{Leads, WorldState}
 use Rattle.sessions.specs.declared.commits.Commit.{Commit}
 use Rattle.sessions.specs.declared.replies.Reply.{Reply}
 use Rattle.sessions.proofs.CommitWays.{each_is_valid}
-use Rattle.gcu_engine.specs.Contents.{IsContextIn, IsMade}
+use Rattle.gcu_engine.specs.Contents.{IsMade}
 use Rattle.gcu_engine.specs.Headline.{IsRightWork, IsTextOf}
 use Rattle.command_answers.specs.Plannings.{IsPlanFor}
 use Rattle.command_answers.specs.Works.{IsWorkOf}
 use Rattle.gcu_engine.proofs.CommitGoals.{AreHeld, lines_are, lines_held, names_told, run_commits}
 use Rattle.gcu_engine.proofs.Contents.{context_in, target_made}
 use Rattle.gcu_engine.proofs.Folders.{stores_is}
+use Rattle.gcu_engine.proofs.WrittenModels.{IsReadIn, read_written, text_written, valid_written, written_ctx}
 
 -- ---- what is asked
 
@@ -64,7 +65,7 @@ made_is from ctx start s goal (inr (made, given, inr (u, same, inr (v, keys, (va
 
 -- what a plan needs is what is asked
 pub record IsAsked (from : Target) (s : State) (p : Planning) : Type 0 where
-  pub read : IsContextIn s p.ctx
+  pub read : IsReadIn s p.ctx
   pub start : IsStart p.ctx s p.start
   pub made : IsMade from s p.start p.goal
 
@@ -81,7 +82,7 @@ asked_is from budget s p (inr (u, gate, inr (ctx, read, inr (start, st, inr (goa
 
 -- what the run of a script needs is what is asked
 pub record IsRunAsked (s : State) (p : Operating) : Type 0 where
-  pub read : IsContextIn s p.ctx
+  pub read : IsReadIn s p.ctx
   pub start : IsStart p.ctx s p.start
   pub held : AreHeld s p.patches
 
@@ -137,7 +138,7 @@ run_leads p text after valid told =
 
 -- what a task asks for and what it then does, as the headline says it
 pub record IsRight (task : Task) (s : State) (ctx : Ctx) (start : Config) (ms : List Move) (text : List ℕ) : Type 0 where
-  pub read : IsContextIn s ctx
+  pub read : IsReadIn s ctx
   pub stands : stored s.files ≡ Ok start
   pub valid : (i : ℕ) → IsValidIn ctx (conf start ms i)
   pub is : IsTextOf task s ctx start ms text
@@ -182,12 +183,14 @@ is_right (run_script path) s (operated p) ms text is (after, told, moves) =
 -- the moves of a work that is asked are right
 abbrev pub right_work : (task : Task) (s : State) (w : Work) (ms : List Move) (text : List ℕ) → IsWorkAsked task s w → IsWorkOf w ms text → IsRightWork task s
 right_work task s w ms text is work = record {
-  ctx = ctx_of w;
-  read = (is_right task s w ms text is work).read;
+  ctx = written_ctx s (ctx_of w) (is_right task s w ms text is work).read;
+  read = read_written s (ctx_of w) (is_right task s w ms text is work).read;
   start = start_of w;
   stands = (stores_is s.files (start_of w)).1 (is_right task s w ms text is work).stands;
   moves = ms;
-  valid = (is_right task s w ms text is work).valid;
+  valid = λ i.
+      valid_written s (ctx_of w) (is_right task s w ms text is work).read (conf (start_of w) ms i)
+      ((is_right task s w ms text is work).valid i);
   text = text;
-  is = (is_right task s w ms text is work).is;
+  is = text_written s (ctx_of w) (is_right task s w ms text is work).read task (start_of w) ms text (is_right task s w ms text is work).is;
 }

@@ -10,6 +10,7 @@ use Rattle.gcu_inputs.specs.ModelList.{paths_of}
 use Rattle.yang_text.specs.Declarations.{Declaration}
 use Rattle.yang_text.specs.Grammar.{Spells}
 use Rattle.yang_scope.specs.Modules.{modules_of}
+use Rattle.yang_model.specs.Leaves.{written}
 use Rattle.yang_model.specs.ModelSets.{ModelSet}
 use Rattle.yang_model.specs.Readers.{Readers, AreTrue}
 use Rattle.yang_model.specs.Shapes.{models_of}
@@ -35,13 +36,14 @@ HoldFiles s [] [] = ⊤
 HoldFiles s (path ∷ paths) (file ∷ files) = HoldsStatements s path file × HoldFiles s paths files
 HoldFiles s paths files = ⊥
 
--- the models are those of the files that the list of models names
+-- the models are those of the files that the list of models names, with their types as they are written
 pub record AreModelsIn (s : State) (models : ModelSet) : Type 0 where
   pub paths : List (List ℕ)
   pub listed : Holds s (codes "models.list") paths_of paths
   pub files : List (List Declaration)
   pub hold : HoldFiles s paths files
-  pub are : (readers : Readers) → AreTrue readers → models ≡ models_of (modules_of files) readers
+  pub are : (readers : Readers) → AreTrue readers
+      → models ≡ models_of written (modules_of files) readers
 
 -- the input at a path has bytes whose JSON value is this
 abbrev pub HoldsJson : State → List ℕ → Data → Type 0

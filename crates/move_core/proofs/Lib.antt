@@ -11,3 +11,4 @@ pub mod OperationResults
 pub mod PlanTexts
 pub mod ServiceNames
 pub mod WantedItems
+pub mod FlatRulebooks

@@ -13,6 +13,7 @@ use Rattle.move_core.specs.Named.{HasNames}
 use Rattle.move_core.specs.Rulebook.{Rulebook}
 use Rattle.move_core.specs.declared.contexts.Ctx.{Ctx}
 use Rattle.move_core.specs.declared.moves.Move.{Move}
+use Rattle.move_core.specs.declared.settings.Settings.{Settings}
 
 -- the table has a model
 abbrev pub IsModelled : ModelSet → List ℕ → Type 0
@@ -54,6 +55,10 @@ rulebook ctx =
       IsSatisfied = λ c want. IsSatisfied ctx.models c want.target want.text;
       IsValid = IsValid ctx.models;
     }
+
+-- a context of these models and settings
+abbrev pub context : ModelSet → Settings → Ctx
+context models settings = record { models = models; settings = settings }
 
 -- the configurations agree on the tables without a model
 abbrev pub AgreeElsewhere : Ctx → Config → Config → Type 0

@@ -24,8 +24,8 @@ pub use errors::{RulesError, RulesWhy};
 pub use kit_lists::{kit_extenders, kit_generators, kit_rules};
 pub use kits::{Boxes, Kit};
 pub use laws::{
-    listed_moves_are_defined, listed_moves_have_models, listed_order_is_total,
-    move_is_its_operation,
+    flat_models_allow_the_same, listed_moves_are_defined, listed_moves_have_models,
+    listed_order_is_total, move_is_its_operation,
 };
 pub use listed_order::{cmp_listed, cmp_moves};
 pub use moves::{Generated, Move, Moves, Plan, Ranked};

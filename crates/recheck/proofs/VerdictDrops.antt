@@ -17,6 +17,7 @@ use Rattle.yang_text.specs.Declarations.{Declaration}
 use Rattle.yang_scope.specs.Modules.{modules_of}
 use Rattle.yang_model.specs.Answers.{HaveFiles, faults}
 use Rattle.yang_model.specs.Readers.{Readers}
+use Rattle.yang_model.specs.Leaves.{stored}
 use Rattle.yang_model.specs.Shapes.{models_of}
 use Rattle.conf_check.specs.MustReads.{HasOneTruth}
 use Rattle.yang_model.specs.Belongs.{Belongs, Belongs-once}
@@ -317,7 +318,7 @@ all_names models config next verdicts firsts added name = by (find name config) 
 
 -- models of files with which nothing is wrong have musts of one truth
 pub one_truth : (models : ModelSet) → HaveFiles models
-    → ((files : List (List Declaration)) (readers : Readers) → faults readers files ≡ [] → HasOneTruth (models_of (modules_of files) readers)) → HasOneTruth models
+    → ((files : List (List Declaration)) (readers : Readers) → faults readers files ≡ [] → HasOneTruth (models_of stored (modules_of files) readers)) → HasOneTruth models
 one_truth models have law = subst (λ m. HasOneTruth m) (sym have.are) (law have.files have.readers have.none)
 
 -- past the last table the verdicts that are left stay true

@@ -17,7 +17,7 @@ use Rattle.yang_scope.specs.declared.meanings.Meaning.{Meaning}
 use Rattle.yang_scope.specs.declared.meanings.Meaning.TheVariants.{Ends, Goes, Nothing}
 use Rattle.yang_values.specs.BoundFaults.{bad_bounds_by, bad_if_bounds, bad_bounds}
 use Rattle.yang_values.specs.Defaults.{has_leafref, bad_text}
-use Rattle.yang_values.specs.TypeValues.{type_value}
+use Rattle.yang_values.specs.WrittenTypes.{written_type}
 use Rattle.yang_values.specs.Values.{is_restriction, restricted_values}
 use Rattle.yang_faults.specs.AllFaults.{module_faults_at, all_module_faults, all_file_faults}
 use Rattle.yang_faults.specs.DefaultFaults.{bad_default_by, bad_default_in, bad_default_at, bad_defaults}
@@ -271,7 +271,7 @@ module _ (file : ℕ) where
     default_by_in : (o p : Option Declaration) → In (bad_default_by modules tests file m o p)
     default_by_in None p = tt
     default_by_in (Some d) None = tt
-    default_by_in (Some d) (Some t) = given (bad_text tests.accepts file (type_value tests.is_pattern modules m t) d) (text_in (type_value tests.is_pattern modules m t) d) (argument d)
+    default_by_in (Some d) (Some t) = given (bad_text tests.accepts file (written_type tests.is_pattern modules m t) d) (text_in (written_type tests.is_pattern modules m t) d) (argument d)
 
     defaults_in : (keys : List (List ℕ)) (ds : List Declaration) → In (bad_defaults modules tests file m keys ds)
     defaults_in keys ds =

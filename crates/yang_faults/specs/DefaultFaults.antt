@@ -6,7 +6,7 @@ use Rattle.yang_text.specs.Declarations.{Declaration, keyword, argument, block}
 use Rattle.yang_scope.specs.Modules.{Module}
 use Rattle.yang_scope.specs.declared.faults.Fault.{Fault}
 use Rattle.yang_values.specs.Defaults.{bad_default}
-use Rattle.yang_values.specs.TypeValues.{type_value}
+use Rattle.yang_values.specs.WrittenTypes.{written_type}
 use Rattle.yang_faults.specs.Fields.{first_of, is_key_leaf}
 use Rattle.yang_faults.specs.Tests.{Tests}
 
@@ -16,7 +16,7 @@ abbrev pub bad_default_by : List Module → Tests → ℕ → ℕ → Option Dec
 bad_default_by modules tests file m None t = []
 bad_default_by modules tests file m (Some d) None = []
 bad_default_by modules tests file m (Some d) (Some t) =
-    bad_default tests.accepts file (type_value tests.is_pattern modules m t) d
+    bad_default tests.accepts file (written_type tests.is_pattern modules m t) d
 
 -- of a leaf with these statements
 abbrev pub bad_default_in : List Module → Tests → ℕ → ℕ → List Declaration → List Fault

@@ -4,3 +4,5 @@ pub mod Fitting
 pub mod Places
 pub mod Sizes
 pub mod TableSteps
+pub mod FlatModels
+pub mod OneReading

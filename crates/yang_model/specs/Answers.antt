@@ -6,6 +6,7 @@ use Rattle.yang_scope.specs.Modules.{modules_of}
 use Rattle.yang_scope.specs.declared.faults.Fault.{Fault}
 use Rattle.yang_must.specs.Musts.{all_must_faults}
 use Rattle.yang_faults.specs.AllFaults.{all_file_faults, all_module_faults}
+use Rattle.yang_model.specs.Leaves.{stored}
 use Rattle.yang_model.specs.ModelSets.{ModelSet}
 use Rattle.yang_model.specs.Readers.{Readers, AreTrue}
 use Rattle.yang_model.specs.Shapes.{models_of}
@@ -23,7 +24,7 @@ faults readers files =
 abbrev pub AreModelsOf : List (List Declaration) → ModelSet → Type 0
 AreModelsOf files models =
     (readers : Readers) → AreTrue readers
-    → (faults readers files ≡ []) × (models ≡ models_of (modules_of files) readers)
+    → (faults readers files ≡ []) × (models ≡ models_of stored (modules_of files) readers)
 
 -- nothing is wrong with some files, and these are their models as readers read them that are true
 pub record HaveFiles (models : ModelSet) : Type 0 where
@@ -31,7 +32,7 @@ pub record HaveFiles (models : ModelSet) : Type 0 where
   pub readers : Readers
   pub reads : AreTrue readers
   pub none : faults readers files ≡ []
-  pub are : models ≡ models_of (modules_of files) readers
+  pub are : models ≡ models_of stored (modules_of files) readers
 
 -- the fault of the lowest file, of its lowest line, and of those the first by name
 abbrev pub IsLeastFaultOf : List (List Declaration) → Fault → Type 0

@@ -1,6 +1,7 @@
 -- What public clauses cite.
 pub mod Answers
 pub mod Belongs
+pub mod FlatModels
 pub mod Leaves
 pub mod ModelSets
 pub mod Names

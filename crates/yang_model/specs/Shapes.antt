@@ -9,7 +9,7 @@ use Rattle.yang_scope.specs.Statements.{is_keyword}
 use Rattle.yang_must.specs.Musts.{Must, must_of}
 use Rattle.yang_must.specs.Spots.{Spot, shape, leaf, ModelContainer, containers_of, tables_of, shapes_of}
 use Rattle.yang_model.specs.Readers.{Readers}
-use Rattle.yang_model.specs.Leaves.{name_of, key_leaf, field_at, shape_keys}
+use Rattle.yang_model.specs.Leaves.{name_of, TypeOf, key_leaf, field_at, shape_keys}
 use Rattle.yang_model.specs.ModelSets.{ModelSet, TableModel}
 use Rattle.yang_model.specs.ShapeCodes.{expr_of}
 use Rattle.yang_model.specs.declared.shapes.MustRule.{MustRule}
@@ -46,31 +46,33 @@ musts_at modules readers x t s d =
     must_at modules readers x.number None (shape x.statement t s) d
     ++ leaf_musts modules readers x t s d
 
--- a list or a fixed container of a table
-abbrev pub shape_model : List Module → Readers → ModelContainer → Declaration → Declaration → Shape
-shape_model modules readers x t s = record {
-  name = name_of s;
-  fixed = not (is_keyword (codes "list") s);
-  keys = map (key_leaf modules readers x.number s) (shape_keys s);
-  fields = flat_map (field_at modules readers x.number (shape_keys s)) (block s);
-  musts = flat_map (musts_at modules readers x t s) (block s);
-}
+module _ (type_of : TypeOf) where
+  -- a list or a fixed container of a table
+  abbrev pub shape_model : List Module → Readers → ModelContainer → Declaration → Declaration
+      → Shape
+  shape_model modules readers x t s = record {
+    name = name_of s;
+    fixed = not (is_keyword (codes "list") s);
+    keys = map (key_leaf type_of modules readers x.number s) (shape_keys s);
+    fields = flat_map (field_at type_of modules readers x.number (shape_keys s)) (block s);
+    musts = flat_map (musts_at modules readers x t s) (block s);
+  }
 
--- a table of a module
-abbrev pub table_of : List Module → Readers → ModelContainer → Declaration → TableModel
-table_of modules readers x t = record {
-  name = name_of t;
-  owner = x.number;
-  shapes = map (shape_model modules readers x t) (shapes_of t);
-}
+  -- a table of a module
+  abbrev pub table_of : List Module → Readers → ModelContainer → Declaration → TableModel
+  table_of modules readers x t = record {
+    name = name_of t;
+    owner = x.number;
+    shapes = map (shape_model modules readers x t) (shapes_of t);
+  }
 
--- the tables of a container of a module
-abbrev pub tables_in : List Module → Readers → ModelContainer → List TableModel
-tables_in modules readers x = map (table_of modules readers x) (tables_of x.statement)
+  -- the tables of a container of a module
+  abbrev pub tables_in : List Module → Readers → ModelContainer → List TableModel
+  tables_in modules readers x = map (table_of modules readers x) (tables_of x.statement)
 
--- the models of all modules
-abbrev pub models_of : List Module → Readers → ModelSet
-models_of modules readers = record {
-  modules = map (λ m. name_of m.statement) modules;
-  tables = flat_map (tables_in modules readers) (containers_of modules);
-}
+  -- the models of all modules
+  abbrev pub models_of : List Module → Readers → ModelSet
+  models_of modules readers = record {
+    modules = map (λ m. name_of m.statement) modules;
+    tables = flat_map (tables_in modules readers) (containers_of modules);
+  }

@@ -7,7 +7,8 @@ ghost use Rattle.yang_text.specs.Statements.{declaration};
 ghost use Rattle.yang_scope.specs.Pieces.{texts};
 ghost use Rattle.yang_faults.specs.Fields.{is_key_leaf, key_names};
 ghost use Rattle.yang_model.specs.Readers.{Gives};
-ghost use Rattle.yang_model.specs.Leaves.{name_of, type_of, leaf_type, key_type, key_leaf, field, field_at, shape_keys};
+ghost use Rattle.yang_model.specs.Leaves.{stored, name_of, leaf_type, key_type, key_leaf, field, field_at, shape_keys};
+ghost use Rattle.yang_model.specs.ShapeCodes.{ty_of};
 
 use crate::shapes::{FieldRule, KeyLeaf};
 use host_core::{Memory, Sequence, Txt};
@@ -31,7 +32,7 @@ pub(crate) fn name_of(alloc: Global, statement: &Statement) -> Result<Txt, Memor
 /// The type that a type statement of a module says.
 fn type_of(alloc: Global, names: &Names, number: usize, statement: &Statement) -> Result<Ty, Memory>
     ensures { IfOk result (λ ty. Gives ty (λ readers.
-        type_of names.now readers number (declaration statement.now))) }
+        ty_of (stored names.now readers number (declaration statement.now)))) }
 {
     let ty = type_value(alloc, names, number, statement)?;
     Ok(ty)
@@ -40,7 +41,7 @@ fn type_of(alloc: Global, names: &Names, number: usize, statement: &Statement) -
 /// The type of a leaf or a leaf-list.
 fn leaf_type(alloc: Global, names: &Names, number: usize, leaf: &Statement) -> Result<Ty, Memory>
     ensures { IfOk result (λ ty. Gives ty (λ readers.
-        leaf_type names.now readers number (declaration leaf.now))) }
+        leaf_type stored names.now readers number (declaration leaf.now))) }
 {
     match first_of("type", leaf.block.items()) {
         Some(statement) => type_of(alloc, names, number, statement),
@@ -57,7 +58,7 @@ fn key_type(
     name: &str,
 ) -> Result<Ty, Memory>
     ensures { IfOk result (λ ty. Gives ty (λ readers.
-        key_type names.now readers number (declaration list.now) name.now)) }
+        key_type stored names.now readers number (declaration list.now) name.now)) }
 {
     match child_named("leaf", name, list) {
         Some(leaf) => leaf_type(alloc, names, number, leaf),
@@ -74,7 +75,7 @@ fn key_leaf(
     name: &str,
 ) -> Result<KeyLeaf, Memory>
     ensures { IfOk result (λ leaf. Gives leaf (λ readers.
-        key_leaf names.now readers number (declaration list.now) name.now)) }
+        key_leaf stored names.now readers number (declaration list.now) name.now)) }
 {
     let ty = key_type(alloc, names, number, list, name)?;
     Ok(KeyLeaf {
@@ -92,7 +93,7 @@ pub(crate) fn key_leaves(
     keys: &[&str],
 ) -> Result<Sequence<KeyLeaf>, Memory>
     ensures { IfOk result (λ leaves. Gives leaves (λ readers.
-        map (key_leaf names.now readers number (declaration list.now)) (texts keys.now))) }
+        map (key_leaf stored names.now readers number (declaration list.now)) (texts keys.now))) }
 {
     let mut leaves = Sequence::new(alloc);
     for key in keys {
@@ -120,7 +121,7 @@ fn field(
     leaf: &Statement,
 ) -> Result<FieldRule, Memory>
     ensures { IfOk result (λ rule. Gives rule (λ readers.
-        field names.now readers number list (declaration leaf.now))) }
+        field stored names.now readers number list (declaration leaf.now))) }
 {
     let block = leaf.block.items();
     let name = name_of(alloc, leaf)?;
@@ -163,7 +164,7 @@ fn push_field(
     statement: &Statement,
 ) -> Result<(), Memory>
     ensures { OnOk result (Gives fields.new (λ readers. fields.old
-        ++ field_at names.now readers number (texts keys.now) (declaration statement.now))) }
+        ++ field_at stored names.now readers number (texts keys.now) (declaration statement.now))) }
 {
     let word = statement.keyword.as_str();
     if word == "leaf" {
@@ -187,7 +188,7 @@ pub(crate) fn fields(
     shape: &Statement,
 ) -> Result<Sequence<FieldRule>, Memory>
     ensures { IfOk result (λ rules. Gives rules (λ readers.
-        flat_map (field_at names.now readers number (texts keys.now))
+        flat_map (field_at stored names.now readers number (texts keys.now))
         (block (declaration shape.now)))) }
 {
     let mut rules = Sequence::new(alloc);

@@ -15,6 +15,8 @@ mod tables;
 
 pub use compiling::compile;
 pub use errors::ModelError;
-pub use laws::{belongs_once, models_are_one, readers_exist};
+pub use laws::{
+    belongs_once, models_are_one, models_are_stored_flat, readers_are_one, readers_exist,
+};
 pub use models::Models;
 pub use shapes::{FieldRule, KeyLeaf, MustRule, Shape};

@@ -7,7 +7,7 @@ ghost use Rattle.yang_must.specs.Spots.{containers_of, tables_of, shapes_of};
 ghost use Rattle.yang_model.specs.Answers.{HaveFiles};
 ghost use Rattle.yang_model.specs.ModelSets.{ModelSet};
 ghost use Rattle.yang_model.specs.Readers.{Gives};
-ghost use Rattle.yang_model.specs.Leaves.{name_of};
+ghost use Rattle.yang_model.specs.Leaves.{stored, name_of};
 ghost use Rattle.yang_model.specs.Shapes.{shape_model, table_of, tables_in, models_of};
 ghost use Rattle.yang_model.specs.Sizes.{IsSmall};
 ghost use Rattle.yang_model.specs.TableModels.{table_model};
@@ -32,7 +32,7 @@ fn shape_model<'t, 'a>(
 ) -> Result<Shape, Memory>
     requires { tree.now ≡ names.now }
     ensures { IfOk result (λ s. Gives s (λ readers.
-        shape_model names.now readers container.now table.now shape.now)) }
+        shape_model stored names.now readers container.now table.now shape.now)) }
 {
     let statement = shape.statement();
     let number = container.number();
@@ -60,7 +60,7 @@ fn shape_models<'t, 'a>(
 ) -> Result<Sequence<IndexedShape>, Memory>
     requires { tree.now ≡ names.now }
     ensures models { IfOk result (λ shapes. Gives shapes (λ readers.
-        map (shape_model names.now readers container.now table.now) (shapes_of table.now))) }
+        map (shape_model stored names.now readers container.now table.now) (shapes_of table.now))) }
     ensures count { IfOk result (λ shapes. length shapes ≡ length (shapes_of table.now)) }
 {
     let mut shapes = Sequence::new(alloc);
@@ -83,7 +83,7 @@ fn table_of<'t, 'a>(
     requires numbered { container.now.number < 2 ^ 32 }
     requires few { weight table.now < 2 ^ 32 }
     ensures { IfOk result (λ t. Gives (table_model t) (λ readers.
-        table_of names.now readers container.now table.now)) }
+        table_of stored names.now readers container.now table.now)) }
 {
     let shapes = shape_models(alloc, names, tree, container, table)?;
     Ok(TableShapes {
@@ -104,7 +104,7 @@ fn push_tables<'t, 'a>(
     requires same { tree.now ≡ names.now }
     requires small { IsSmall container.now }
     ensures { OnOk result (Gives (map table_model tables.new) (λ readers.
-        map table_model tables.old ++ tables_in names.now readers container.now)) }
+        map table_model tables.old ++ tables_in stored names.now readers container.now)) }
 {
     for table in container.tables() {
         tables.push(table_of(alloc, names, tree, container, table)?)?;
@@ -121,7 +121,7 @@ fn all_tables<'a>(
     requires same { tree.now ≡ names.now }
     requires small { All IsSmall (containers_of tree.now) }
     ensures { IfOk result (λ tables. Gives (map table_model tables) (λ readers.
-        flat_map (tables_in names.now readers) (containers_of names.now))) }
+        flat_map (tables_in stored names.now readers) (containers_of names.now))) }
 {
     let mut tables = Sequence::new(alloc);
     for container in tree.containers() {
@@ -165,8 +165,9 @@ pub(crate) fn models_of<'a>(
 ) -> Result<Models, Memory>
     requires same { tree.now ≡ names.now }
     requires small { All IsSmall (containers_of tree.now) }
-    requires files { (models : ModelSet) → Gives models (models_of names.now) → HaveFiles models }
-    ensures { IfOk result (λ models. Gives models (models_of names.now)) }
+    requires files { (models : ModelSet)
+        → Gives models (models_of stored names.now) → HaveFiles models }
+    ensures { IfOk result (λ models. Gives models (models_of stored names.now)) }
 {
     let modules = module_names(alloc, names)?;
     let tables = all_tables(alloc, names, tree)?;

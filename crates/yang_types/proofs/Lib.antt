@@ -5,3 +5,4 @@ pub mod Unions
 pub mod Prefixes
 pub mod DoubleColons
 pub mod Accepting
+pub mod FlatTypes

@@ -3,6 +3,7 @@ pub mod Accepts
 pub mod Addresses
 pub mod DataType
 pub mod DataTypes
+pub mod Flattening
 pub mod Numbers
 -- What only private clauses and the types' own models cite.
 pub mod Coding

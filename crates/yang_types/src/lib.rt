@@ -8,5 +8,5 @@ mod numbers;
 mod types;
 
 pub use accepts::accepts_plain;
-pub use laws::texts_are_decided;
+pub use laws::{flat_types_accept_the_same, texts_are_decided};
 pub use types::{Bounds, Builtin, Target, Ty, TyBox, Types};

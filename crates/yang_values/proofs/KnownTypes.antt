@@ -24,7 +24,8 @@ use Rattle.yang_values.specs.TypeValues.{path_of, only_type, leafref_of, named_t
 use Rattle.yang_values.specs.Values.{parts_in, restricted_values}
 use Rattle.yang_values.specs.Walks.{AreReached}
 use Rattle.yang_values.specs.declared.endless.Taste.{Taste}
-use Rattle.yang_values.proofs.FlatUnions.{flat_leafref, flat_accepts, plain_accepts}
+use Rattle.yang_types.proofs.FlatTypes.{flat_accepts, plain_accepts}
+use Rattle.yang_values.proofs.FlatUnions.{flat_leafref}
 use Rattle.yang_values.proofs.ReachableTypes.{no_element, mapped_more}
 
 -- two types are leafrefs or hold them alike, and accept a text alike

@@ -17,3 +17,5 @@ pub mod Ways
 pub mod StatementNesting
 pub mod FlatUnions
 pub mod KnownTypes
+pub mod WrittenTypes
+pub mod CirclesTold

@@ -8,6 +8,7 @@ pub mod Parts
 pub mod Targets
 pub mod TypeValues
 pub mod Values
+pub mod WrittenTypes
 -- What only private clauses cite.
 pub mod Endings
 pub mod Endless

@@ -1,6 +1,6 @@
--- The data type of a type statement (RFC 7950, sections 7.3, 7.4 and 9). Where it has no fault it is
--- all that the statement says; a part that has a fault says nothing, and a restriction that its type
--- doesn't take restricts nothing.
+-- What types are made of (RFC 7950, sections 7.3, 7.4 and 9), and the type that is stored of a type
+-- statement. Where that has no fault its type is all that it says; a part that has a fault says nothing,
+-- and a restriction that its type doesn't take restricts nothing.
 use Rattle.std.specs.Prelude.{ℕ, zero, suc, ◌&&◌, ◌||◌, Bool, true, false, List, [], ◌∷◌, map, Option, Some, None, codes, option_and_then, if◌then◌else◌}
 use Rattle.std.specs.List.{fold, flat_map}
 use Rattle.std.specs.Option.{option_map_or, option_to_list}
@@ -124,6 +124,6 @@ type_within is_pattern modules zero p = text
 type_within is_pattern modules (suc most) p =
     type_by is_pattern modules p (map (type_within is_pattern modules most) (next modules p))
 
--- the type of a type statement of a module
-abbrev pub type_value : (List ℕ → Bool) → List Module → ℕ → Declaration → DataType
-type_value is_pattern modules m d = type_within is_pattern modules most_steps (m, d)
+-- the type that is stored of a type statement of a module
+abbrev pub stored_type : (List ℕ → Bool) → List Module → ℕ → Declaration → DataType
+stored_type is_pattern modules m d = type_within is_pattern modules most_steps (m, d)

@@ -9,16 +9,17 @@ ghost use Rattle.yang_scope.specs.TypeFaults.{DecidesPatterns};
 ghost use Rattle.yang_types.specs.DataType.{DataType};
 ghost use Rattle.yang_values.specs.Defaults.{DecidesTexts, bad_text, bad_default};
 ghost use Rattle.yang_values.specs.Endless.{known_of, place_of, untried, HasTaste, StandsFor, AreClosed, AreRight, LeadTo};
-ghost use Rattle.yang_values.specs.TypeValues.{type_within, type_value};
+ghost use Rattle.yang_values.specs.TypeValues.{type_within, stored_type};
 ghost use Rattle.yang_values.specs.Values.{most_steps};
 ghost use Rattle.yang_values.specs.Walks.{placed};
+ghost use Rattle.yang_values.specs.WrittenTypes.{written_type};
 
 use crate::circles::{is_same, reached};
 use crate::defaults::{has_leafref, note_bad_default};
 use crate::endings::Endings;
 use crate::place_lists::Numbers;
 use crate::restrictions::type_by;
-use crate::type_values::type_value;
+use crate::type_values::stored_type;
 use crate::walks::{MOST_STEPS, Place, next};
 use host_core::{Memory, Sequence, Txt};
 use std::alloc::Global;
@@ -303,9 +304,9 @@ fn note_endless<'a>(
     Ok(())
 }
 
-/// A default that the type of a type statement beside it doesn't take. Where it is known that each way on
-/// from that ends, its type is looked at as a value.
-pub fn note_default<'n, 'a>(
+/// A default that the type which is stored of a type statement beside it doesn't take. Where it is known that
+/// each way on from that ends, its type is looked at as a value.
+fn note_by_type<'n, 'a>(
     alloc: Global,
     least: &mut Option<Fault>,
     endings: &Endings<'n, 'a>,
@@ -317,12 +318,12 @@ pub fn note_default<'n, 'a>(
     ensures { IfOk result (λ _. (is_pattern : List ℕ → Bool) → DecidesPatterns is_pattern
         → (accepts : DataType → List ℕ → Bool) → DecidesTexts accepts
         → least.new ≡ least_of least.old (bad_default accepts file
-        (type_value is_pattern endings.now number (declaration statement.now))
+        (stored_type is_pattern endings.now number (declaration statement.now))
         (declaration default.now))) }
 {
     let place = Place { number, statement };
     if endings.does_end(&place) {
-        let ty = type_value(alloc, endings.names(), number, statement)?;
+        let ty = stored_type(alloc, endings.names(), number, statement)?;
         note_bad_default(least, &ty, file, default);
         drop(ty);
         return Ok(());
@@ -341,4 +342,23 @@ pub fn note_default<'n, 'a>(
         }
         None => Ok(()),
     }
+}
+
+/// A default that the type of a type statement beside it doesn't take.
+pub fn note_default<'n, 'a>(
+    alloc: Global,
+    least: &mut Option<Fault>,
+    endings: &Endings<'n, 'a>,
+    file: u32,
+    number: usize,
+    statement: &'a Statement,
+    default: &Statement,
+) -> Result<(), Memory>
+    ensures { IfOk result (λ _. (is_pattern : List ℕ → Bool) → DecidesPatterns is_pattern
+        → (accepts : DataType → List ℕ → Bool) → DecidesTexts accepts
+        → least.new ≡ least_of least.old (bad_default accepts file
+        (written_type is_pattern endings.now number (declaration statement.now))
+        (declaration default.now))) }
+{
+    note_by_type(alloc, least, endings, file, number, statement, default)
 }

@@ -23,5 +23,5 @@ mod walks;
 pub use bound_faults::note_bad_bounds;
 pub use endings::{Endings, note_if_circle};
 pub use endless::note_default;
-pub use laws::circles_are_decided;
+pub use laws::{circles_are_decided, types_are_stored_flat};
 pub use type_values::type_value;

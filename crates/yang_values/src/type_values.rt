@@ -2,9 +2,11 @@
 ghost use Rattle.std.specs.Prelude.{◌≡◌, [], Bool, List, ℕ, map, reverse, take, drop, IfOk};
 ghost use Rattle.yang_text.specs.Statements.{declaration};
 ghost use Rattle.yang_types.specs.DataTypes.{data_type};
+ghost use Rattle.yang_types.specs.Flattening.{flat};
 ghost use Rattle.yang_scope.specs.TypeFaults.{DecidesPatterns};
-ghost use Rattle.yang_values.specs.TypeValues.{only_type, type_value};
+ghost use Rattle.yang_values.specs.TypeValues.{only_type, stored_type};
 ghost use Rattle.yang_values.specs.Walks.{visited, built, IsTaken};
+ghost use Rattle.yang_values.specs.WrittenTypes.{written_type};
 
 use crate::restrictions::type_by;
 use crate::walks::{Place, Visit, visits};
@@ -62,10 +64,26 @@ fn build(alloc: Global, names: &Names, visits: &[Visit]) -> Result<Ty, Memory>
     Ok(ty)
 }
 
+/// The type that is stored of a type statement of a module.
+pub(crate) fn stored_type<'a>(
+    alloc: Global,
+    names: &Names<'a>,
+    number: usize,
+    statement: &'a Statement,
+) -> Result<Ty, Memory>
+    ensures { IfOk result (λ ty. (is_pattern : List ℕ → Bool) → DecidesPatterns is_pattern
+        → data_type ty ≡ stored_type is_pattern names.now number (declaration statement.now)) }
+{
+    let mut found = visits(alloc, names, Place { number, statement })?;
+    found.reverse();
+    build(alloc, names, found.as_slice())
+}
+
 /// The type of a type statement of a module: what its name stands for, along typedefs, with all
 /// restrictions round it in the order of the text, those of the typedefs first (RFC 7950, sections 7.3
-/// and 9). A part that has a fault says nothing. Ask only where the statement leads to no circle: on one
-/// no memory is enough.
+/// and 9). It has the flat form of the type that is written, so leafrefs and unions in a row make it no
+/// deeper. A part that has a fault says nothing. Ask only where the statement leads to no
+/// circle: on one no memory is enough.
 pub fn type_value<'a>(
     alloc: Global,
     names: &Names<'a>,
@@ -73,9 +91,8 @@ pub fn type_value<'a>(
     statement: &'a Statement,
 ) -> Result<Ty, Memory>
     ensures { IfOk result (λ ty. (is_pattern : List ℕ → Bool) → DecidesPatterns is_pattern
-        → data_type ty ≡ type_value is_pattern names.now number (declaration statement.now)) }
+        → data_type ty
+        ≡ flat (written_type is_pattern names.now number (declaration statement.now))) }
 {
-    let mut found = visits(alloc, names, Place { number, statement })?;
-    found.reverse();
-    build(alloc, names, found.as_slice())
+    stored_type(alloc, names, number, statement)
 }

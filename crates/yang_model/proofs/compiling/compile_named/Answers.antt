@@ -7,6 +7,7 @@ use Rattle.yang_scope.specs.Modules.{Module}
 use Rattle.yang_scope.specs.declared.faults.Fault.{Fault}
 use Rattle.yang_must.specs.Spots.{containers_of}
 use Rattle.yang_model.specs.Answers.{faults}
+use Rattle.yang_model.specs.Leaves.{stored}
 use Rattle.yang_model.specs.Shapes.{models_of}
 use Rattle.yang_model.specs.Sizes.{IsSmall, most_files, most_statements}
 use Rattle.yang_faults.proofs.FaultFiles.{each_least}
@@ -33,14 +34,14 @@ models_of-requires-clause-files c = λ models gives.
       readers = readers;
       reads = are;
       none = no_faults (faults readers ds) (sym c.in-None.is ∙ c.in_ok-fault.ensures readers are);
-      are = gives readers are ∙ ap (λ (ms : List Module). models_of ms readers) c.requires.named;
+      are = gives readers are ∙ ap (λ (ms : List Module). models_of stored ms readers) c.requires.named;
     }
 
 pub returns-in_ok-models_of-in-None-clause-models : goal.returns-in_ok-models_of-in-None-clause-models
 returns-in_ok-models_of-in-None-clause-models c = λ readers is.
     let ds : List (List Declaration) = map (λ f. f.1) c.args.files.now in (
       no_faults (faults readers ds) (sym c.in-None.is ∙ c.in_ok-fault.ensures readers is),
-      c.in_ok-models_of-in-None.ensures readers is ∙ ap (λ (ms : List Module). models_of ms readers) c.requires.named,
+      c.in_ok-models_of-in-None.ensures readers is ∙ ap (λ (ms : List Module). models_of stored ms readers) c.requires.named,
     )
 
 pub returns-in-Some-clause-file : goal.returns-in-Some-clause-file

@@ -1,7 +1,8 @@
 use Rattle.std.proofs.Common.{◌∙◌, List, sym, ap}
 use Rattle.std.specs.List.{flat_map}
 use Rattle.yang_types.specs.DataType.{DataType, union, plain, plain_members, types_of}
-use Rattle.yang_values.proofs.FlatUnions.{plain_back, plain_alone}
+use Rattle.yang_types.proofs.FlatTypes.{plain_back}
+use Rattle.yang_values.proofs.FlatUnions.{plain_alone}
 use Rattle.yang_types.specs.DataTypes.{data_type}
 use Rattle.yang_values.proofs.named_types.plain_of.Goals as goal
 

@@ -1,7 +1,7 @@
 use Rattle.std.proofs.Common.{◌≡◌, ◌++◌, ◌∙◌, IfOk, List, map, sym, ap, subst}
 use Rattle.yang_types.specs.DataType.{DataType, members}
 use Rattle.yang_types.specs.DataTypes.{data_type}
-use Rattle.yang_values.proofs.FlatUnions.{plain_back}
+use Rattle.yang_types.proofs.FlatTypes.{plain_back}
 use Rattle.yang_values.proofs.named_types.push_members.Goals as goal
 
 pub returns-in-Ok : goal.returns-in-Ok
