@@ -7,22 +7,22 @@ use Rattle.host_core.specs.State.{Files, State}
 use Rattle.conf_doc.specs.Texts.{file_text}
 use Rattle.conf_doc.specs.declared.configuration.Config.{Config}
 use Rattle.conf_store.specs.Changes.{AreLeft, Changes, IsSettled, Settles}
-use Rattle.conf_store.specs.Files.{folded_file, intent_file}
+use Rattle.conf_store.specs.Files.{config_file, folded_file, intent_file}
 use Rattle.conf_store.specs.Folds.{IsFolded, KeepsStored, StandsFor}
 use Rattle.conf_store.specs.Stored.{config_in, stored}
 use Rattle.conf_store.specs.declared.loaded.Stored.{Stored}
 use Rattle.conf_store.proofs.FoldResults.{keeps_itself}
 use Rattle.change_apply.specs.Acknowledgements.{acks}
 use Rattle.change_apply.specs.Change.{Change, conf_at, goal, restarted, restarts_at, steps}
-use Rattle.change_apply.specs.Crashes.{IsLeft, KeepsOthers}
+use Rattle.change_apply.specs.Crashes.{HasNothingToFold, IsLeft, KeepsBytes, KeepsOthers}
 use Rattle.change_apply.specs.Ends.{IsStopped, Stops, worked}
 use Rattle.change_apply.specs.Intents.{HoldsGoal}
-use Rattle.change_apply.specs.Stages.{AreSteps, AtFolded, AtIntent, AtStep, first_steps}
+use Rattle.change_apply.specs.Stages.{AreSteps, AtFolded, AtIntent, AtStep, IsIntended, first_steps}
 use Rattle.change_apply.specs.declared.errors.ApplyFault.TheVariants.{Disk}
 use Rattle.change_apply.proofs.IntentNames.{intent_other}
 use Rattle.change_apply.proofs.KeptIntents.{held}
 use Rattle.change_apply.proofs.Moments.{LeavesOf, changes}
-use Rattle.change_apply.proofs.StepFiles.{all_folded, at_start, begins_folded, begins_unfolded}
+use Rattle.change_apply.proofs.StepFiles.{IsToFold, all_folded, at_start, begins_folded, begins_unfolded, not_folded_yet}
 use Rattle.change_apply.proofs.StepStages.{left_files, quiet}
 
 -- ---- a fold within a change
@@ -36,8 +36,9 @@ module _ (change : Change) (k : ℕ) (within : k ≤ steps change) (s : State) (
   still_held : (g : Files) → KeepsStored f g → HoldsGoal change g
   still_held g keeps = keeps.others intent_file intent_other ∙ intent
 
-  fold_stops : (t : State) → t.inputs ≡ s.inputs → t.output ≡ at_fold.output → t.restarts ≡ at_fold.restarts → KeepsStored f t.files → IsStopped change k [] [] s t
-  fold_stops t inputs output restarts keeps = record {
+  fold_stops : (t : State) → t.inputs ≡ s.inputs → t.output ≡ at_fold.output → t.restarts ≡ at_fold.restarts
+      → KeepsStored f t.files → (k < steps change → KeepsBytes s.files t.files) → IsStopped change k [] [] s t
+  fold_stops t inputs output restarts keeps kept = record {
     within = within;
     inputs = inputs;
     output = output ∙ sym (append-nil (s.output ++ acks k));
@@ -45,11 +46,13 @@ module _ (change : Change) (k : ℕ) (within : k ≤ steps change) (s : State) (
     stands = inl (keeps.same ∙ stands);
     intent = held change k s.files t.files (still_held t.files keeps);
     others = λ q other apart. keeps.others q other ∙ others q other apart;
+    kept = kept;
   }
 
   -- with small steps where they are asked for
-  fold_leaves : (1 ≤ k → k < steps change → ⊥) → (left : Left) → AreLeft KeepsStored at_fold left → IsLeft change s left
-  fold_leaves ends left so = record {
+  fold_leaves : (1 ≤ k → k < steps change → ⊥) → (left : Left) → (k < steps change → KeepsBytes s.files left.files)
+      → AreLeft KeepsStored at_fold left → IsLeft change s left
+  fold_leaves ends left kept so = record {
     done = k;
     within = within;
     output = quiet k s.output left.output so.output;
@@ -63,14 +66,16 @@ module _ (change : Change) (k : ℕ) (within : k ≤ steps change) (s : State) (
     others = λ q other apart. so.files.others q other ∙ others q other apart;
     intent = held change k s.files left.files (still_held left.files so.files);
     small = λ one less. absurd (ends one less);
+    kept = kept;
   }
 
   -- what is told and left of it
-  stops_in_fold : (p n : Option State) → p ≡ Some at_fold → Changes KeepsStored p n → Stops change (Disk k) (Some s) n
-  stops_in_fold p n at ends =
+  stops_in_fold : (k < steps change → HasNothingToFold s.files → ⊥) → (p n : Option State) → p ≡ Some at_fold → Changes KeepsStored p n
+      → Stops change (Disk k) (Some s) n
+  stops_in_fold folds p n at ends =
       let later : Changes KeepsStored (Some at_fold) n = subst (λ q. Changes KeepsStored q n) at ends in
       let leads = later.2 in
-      (later.0, later.1, fold_stops later.0 leads.inputs leads.output leads.restarts leads.reads)
+      (later.0, later.1, fold_stops later.0 leads.inputs leads.output leads.restarts leads.reads (λ less nothing. absurd (folds less nothing)))
 
 -- ---- the first fold
 
@@ -89,24 +94,25 @@ module _ (change : Change) where
   -- there is nothing to fold
   pub first_unfolded : change.stored.steps ≡ [] → change.stored.folded ≡ false → (o n : Option State) → AtIntent change o n → AtStep change 0 o n
   first_unfolded none isnt None n at = at
-  first_unfolded none isnt (Some s) n at = (at.0, at.1, begins_unfolded change at.0 at.2.stands s.files at.2.others at.2.intent none isnt)
+  first_unfolded none isnt (Some s) n at = (at.0, at.1, begins_unfolded change s.files at.0 at.2 none isnt)
 
-  module _ (bytes : List ℕ) (holds : config_in bytes ≡ Ok change.stored.config) where
+  module _ (some : IsToFold change.stored) (bytes : List ℕ) (holds : config_in bytes ≡ Ok change.stored.config) where
     pub first_folded : (o p n : Option State) → AtIntent change o p → Settles (IsFolded bytes) p n → AtStep change 0 o n
     first_folded None p n at ends = subst (λ q. Settles (IsFolded bytes) q n) at ends
     first_folded (Some s) p n at ends =
         let later : Settles (IsFolded bytes) (Some (worked at.0 0 (restarted change 0) s)) n = subst (λ q. Settles (IsFolded bytes) q n) at.1 ends in
-        (later.0, later.1, begins_folded change at.0 at.2.stands s.files at.2.others at.2.intent bytes holds later.0 later.2)
+        (later.0, later.1, begins_folded change s.files at.0 at.2 some bytes holds later.0 later.2)
 
-  pub first_stops : (o p n : Option State) → AtIntent change o p → Changes KeepsStored p n → Stops change (Disk 0) o n
-  first_stops None p n at ends = subst (λ q. Changes KeepsStored q n) at ends
-  first_stops (Some s) p n at ends =
-      stops_in_fold change 0 (omega arith) s at.0 (start_stands at.0 at.2.stands) at.2.others at.2.intent p n at.1 ends
+  pub first_stops : IsToFold change.stored → (o p n : Option State) → AtIntent change o p → Changes KeepsStored p n → Stops change (Disk 0) o n
+  first_stops some None p n at ends = subst (λ q. Changes KeepsStored q n) at ends
+  first_stops some (Some s) p n at ends =
+      stops_in_fold change 0 (omega arith) s at.0 (start_stands at.0 at.2.stands) at.2.others at.2.intent
+      (λ less nothing. not_folded_yet change.stored s.files at.2.stood some nothing) p n at.1 ends
 
-  first_leaves : (s : State) (f : Files) → StandsFor change.stored f → KeepsOthers s.files f → HoldsGoal change f → (left : Left)
+  first_leaves : (s : State) (f : Files) → IsIntended change s.files f → (left : Left) → KeepsBytes s.files left.files
       → AreLeft KeepsStored (worked f 0 (restarted change 0) s) left → IsLeft change s left
-  first_leaves s f stands others intent left so =
-      fold_leaves change 0 (omega arith) s f (start_stands f stands) others intent (λ one less. omega (arith, one)) left so
+  first_leaves s f is left kept so =
+      fold_leaves change 0 (omega arith) s f (start_stands f is.stands) is.others is.intent (λ one less. omega (arith, one)) left (λ less. kept) so
 
   -- before it
   pub left_at_intent : (o n : Option State) → AtIntent change o n → (left : Left) → MayLeaveNow n left → IfSome o (λ s. IsLeft change s left)
@@ -115,16 +121,16 @@ module _ (change : Change) where
       let t : State = worked at.0 0 (restarted change 0) s in
       let here : MayLeave t left = subst (λ m. MayLeaveNow m left) at.1 may in
       let same : left.files ≡ at.0 = left_files t left refl here in
-      first_leaves s at.0 at.2.stands at.2.others at.2.intent left
+      first_leaves s at.0 at.2 left (λ nothing. ap (λ (g : Files). get g config_file) same ∙ at.2.config)
       (record { files = subst (KeepsStored at.0) (sym same) (keeps_itself at.0); output = here.output; restarts = here.restarts })
 
   module _ {H : Type 0} (moment : H → ℕ) (left_since : H → ℕ → Left → Type 0) where
-    pub folding_first : (o p : Option State) (old new : H) → AtIntent change o p
+    pub folding_first : IsToFold change.stored → (o p : Option State) (old new : H) → AtIntent change o p
         → IfSome p (λ s. LeavesOnly moment left_since old new (AreLeft KeepsStored s)) → LeavesOf moment left_since change o old new
-    folding_first None p old new at run = tt
-    folding_first (Some s) p old new at run =
+    folding_first some None p old new at run = tt
+    folding_first some (Some s) p old new at run =
         changes moment left_since change KeepsStored s (worked at.0 0 (restarted change 0) s) old new
-        (first_leaves s at.0 at.2.stands at.2.others at.2.intent) p at.1 run
+        (λ left so. first_leaves s at.0 at.2 left (λ nothing. absurd (not_folded_yet change.stored s.files at.2.stood some nothing)) so) p at.1 run
 
   -- ---- the last fold
 
@@ -158,7 +164,8 @@ module _ (change : Change) where
 
   pub last_stops : (o p n : Option State) → AtStep change (steps change) o p → Changes KeepsStored p n → Stops change (Disk (steps change)) o n
   last_stops None p n at ends = subst (λ q. Changes KeepsStored q n) at ends
-  last_stops (Some s) p n at ends = stops_in_fold change (steps change) (omega arith) s at.0 at.2.stands at.2.others at.2.intent p n at.1 ends
+  last_stops (Some s) p n at ends =
+      stops_in_fold change (steps change) (omega arith) s at.0 at.2.stands at.2.others at.2.intent (λ less nothing. omega (arith, less)) p n at.1 ends
 
   module _ {H : Type 0} (moment : H → ℕ) (left_since : H → ℕ → Left → Type 0) where
     pub folding_last : (o p : Option State) (old new : H) → AtStep change (steps change) o p
@@ -166,4 +173,6 @@ module _ (change : Change) where
     folding_last None p old new at run = tt
     folding_last (Some s) p old new at run =
         changes moment left_since change KeepsStored s (worked at.0 (steps change) (restarted change (steps change)) s) old new
-        (fold_leaves change (steps change) (omega arith) s at.0 at.2.stands at.2.others at.2.intent (λ one less. omega (arith, less))) p at.1 run
+        (λ left so. fold_leaves change (steps change) (omega arith) s at.0 at.2.stands at.2.others at.2.intent (λ one less. omega (arith, less))
+        left (λ less nothing. absurd (omega (arith, less))) so)
+        p at.1 run

@@ -18,7 +18,7 @@ use Rattle.change_apply.specs.Change.{Change, conf_at, goal, restarted, restarts
 use Rattle.change_apply.specs.Crashes.{IsLeft, KeepsOthers}
 use Rattle.change_apply.specs.Ends.{Finishes, IsApplied, Stops, worked}
 use Rattle.change_apply.specs.Intents.{HoldsGoal, IsClosed, IsClosedOrNot, IsOver}
-use Rattle.change_apply.specs.Stages.{AreAllFolded, AtBeginning, AtFolded, AtIntent}
+use Rattle.change_apply.specs.Stages.{AreAllFolded, AtBeginning, AtFolded, AtIntent, IsIntended}
 use Rattle.change_apply.specs.declared.errors.ApplyFault.TheVariants.{Disk}
 use Rattle.change_apply.proofs.IntentNames.{config_not_intent, folded_not_intent, intent_not_scratch, no_step_intent}
 use Rattle.change_apply.proofs.KeptIntents.{kept_at_end, kept_at_start}
@@ -93,6 +93,7 @@ module _ (change : Change) where
         others = λ q other apart. alike q other.not_scratch apart;
         intent = kept_at_start change s.files left.files same (put_intent text s.files left.files so.files);
         small = λ one less. absurd (omega (arith, one));
+        kept = λ less nothing. alike config_file config_not_scratch config_not_intent;
       }
 
   -- before anything is done
@@ -103,25 +104,27 @@ module _ (change : Change) where
       let same : left.files ≡ s.files = left_files s left at.1 here in
       first_leaves s at.2 left (record { files = inl (ap (with_file scratch None) same); output = here.output; restarts = here.restarts })
 
-  intended_files : (f : Files) → StandsFor change.stored f → (g : Files) → g ≡ put intent_file text f → StandsFor change.stored g × (HoldsGoal change g) × KeepsOthers f g
+  intended_files : (f : Files) → StandsFor change.stored f → (g : Files) → g ≡ put intent_file text f → IsIntended change f g
   intended_files f stands g e =
-      let alike : AreAlike f g = put_alike text f g (inr (ap (with_file scratch None) e ∙ gone_twice scratch intent_file (Some text) f)) in (
-        still_stands change f g alike stands,
-        ap (λ (m : Files). get m intent_file) e ∙ get_there intent_file (Some text) (with_file scratch None f),
-        (λ q other apart. alike q other.not_scratch apart),
-      )
+      let alike : AreAlike f g = put_alike text f g (inr (ap (with_file scratch None) e ∙ gone_twice scratch intent_file (Some text) f)) in
+      record {
+        stood = stands;
+        stands = still_stands change f g alike stands;
+        config = alike config_file config_not_scratch config_not_intent;
+        intent = ap (λ (m : Files). get m intent_file) e ∙ get_there intent_file (Some text) (with_file scratch None f);
+        others = λ q other apart. alike q other.not_scratch apart;
+      }
 
   -- what is put with the bytes of the goal
   module _ (bytes : List ℕ) (is : bytes ≡ text) where
     pub intended : (o p n : Option State) → AtBeginning change o p → n ≡ option_map (after_put intent_file bytes) p → AtIntent change o n
     intended None p n at ends = ends ∙ ap (option_map (after_put intent_file bytes)) at
     intended (Some s) p n at ends =
-        let files : Files = put intent_file bytes s.files in
-        let all = intended_files s.files at.2 files (ap (λ (b : List ℕ). put intent_file b s.files) is) in (
+        let files : Files = put intent_file bytes s.files in (
           files,
           ends ∙ ap (option_map (after_put intent_file bytes)) at.0
               ∙ (λ i. Some (record s { files = files; pending = settled; output = sym (append-nil s.output) i; restarts = sym (append-nil s.restarts) i })),
-          record { stands = all.0; intent = all.1; others = all.2 },
+          intended_files s.files at.2 files (ap (λ (b : List ℕ). put intent_file b s.files) is),
         )
 
     pub intent_stops : (o p n : Option State) → AtBeginning change o p → Changes (IsPutOrNot intent_file bytes) p n → Stops change (Disk 0) o n
@@ -142,6 +145,7 @@ module _ (change : Change) where
             stands = inl same;
             intent = kept_at_start change s.files later.0.files same (put_intent text s.files later.0.files reads);
             others = λ q other apart. alike q other.not_scratch apart;
+            kept = λ less nothing. alike config_file config_not_scratch config_not_intent;
           },
         )
 
@@ -244,6 +248,7 @@ module _ (change : Change) where
           stands = inl stands;
           intent = kept_at_end change s.files later.0.files stands (either_intent s.files at.0 at.2 later.0.files leads.reads);
           others = λ q other apart. either_alike at.0 later.0.files leads.reads q apart ∙ at.2.others q other apart;
+          kept = λ less nothing. absurd (omega (arith, less));
         },
       )
 
@@ -264,6 +269,7 @@ module _ (change : Change) where
         others = λ q other apart. either_alike f left.files so.files q apart ∙ are.others q other apart;
         intent = kept_at_end change s.files left.files stands (either_intent s.files f are left.files so.files);
         small = λ one less. absurd (omega (arith, less));
+        kept = λ less nothing. absurd (omega (arith, less));
       }
 
   pub closing : {H : Type 0} (moment : H → ℕ) (left_since : H → ℕ → Left → Type 0) (o p : Option State) (old new : H) → AtFolded change o p

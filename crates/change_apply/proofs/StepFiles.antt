@@ -1,6 +1,6 @@
 -- The files of a change, from one step to the next.
 use Rattle.std.proofs.Common.{◌≡◌, ◌<◌, ◌≤◌, ◌⊎◌, inl, inr, ⊎_elim, ℕ, zero, suc, true, false, List, [], ◌∷◌, ◌++◌, length, Option, Some, None, Result, Ok, Err, refl, sym, ap, ◌∙◌, subst, arith}
-use Rattle.std.specs.Prelude.{is_some, unwrap_or, slice_get, IsSome}
+use Rattle.std.specs.Prelude.{is_some, unwrap_or, slice_get, IsSome, IsTrue}
 use Rattle.std.specs.FinMap.{get}
 use Rattle.std.specs.List.{AllPass}
 use Rattle.std.proofs.lemmas.Bool.{cases_lt}
@@ -18,6 +18,7 @@ use Rattle.conf_store.specs.Folds.{IsFolded, StandsFor}
 use Rattle.conf_store.specs.Puts.{IsPutOrNot, IsSame, put}
 use Rattle.conf_store.specs.Steps.{CanStep, IsStep, IsStepPut, IsStepPutOrNot, IsStepped}
 use Rattle.conf_store.specs.Stored.{after_all_steps, after_steps, config_in, or_none, or_unfolded, stored}
+use Rattle.conf_store.specs.declared.loaded.Stored.{Stored}
 use Rattle.conf_store.specs.declared.errors.StoredWhy.{StoredWhy}
 use Rattle.conf_store.specs.declared.errors.StoredWhy.TheVariants.{NoFile}
 use Rattle.conf_store.proofs.Digits.{names_same}
@@ -27,9 +28,9 @@ use Rattle.conf_store.proofs.FoldResults.{by_config, by_folded, config_not_scrat
 use Rattle.move_core.specs.Plans.{conf}
 use Rattle.move_core.specs.declared.moves.Move.{Move}
 use Rattle.change_apply.specs.Change.{Change, conf_at, goal, step_text, steps}
-use Rattle.change_apply.specs.Crashes.{HasSmallSteps, KeepsOthers, StandAt}
+use Rattle.change_apply.specs.Crashes.{HasNothingToFold, HasSmallSteps, KeepsBytes, KeepsOthers, StandAt}
 use Rattle.change_apply.specs.Intents.{HoldsGoal}
-use Rattle.change_apply.specs.Stages.{AreAllFolded, AreSteps, first_steps}
+use Rattle.change_apply.specs.Stages.{AreAllFolded, AreSteps, IsIntended, first_steps}
 use Rattle.change_apply.proofs.IntentNames.{intent_not_scratch, intent_other}
 use Rattle.change_apply.proofs.StepNames.{IsBehind, behind, behind_more, last_put, named}
 
@@ -88,59 +89,74 @@ conf_start c (m ∷ ms) = refl
 pub at_start : (change : Change) → ◌≡◌ {A = Result Config StoredWhy} (Ok change.stored.config) (Ok (conf_at change 0))
 at_start change = ap (λ (c : Config). Ok c) (sym (conf_start change.stored.config change.moves))
 
-module _ (change : Change) (f : Files) (stands : StandsFor change.stored f) (before : Files) (others : KeepsOthers before f) (intent : HoldsGoal change f) where
+-- something is to be folded
+abbrev pub IsToFold : Stored → Type 0
+IsToFold what = what.steps ≡ [] → what.folded ≡ false → ⊥
+
+-- what a test for that says
+pub untested : (what : Stored) → ((what.steps ≡ []) × (what.folded ≡ false) → IsTrue false) → IsToFold what
+untested what test none isnt = let never : IsTrue false = test (none, isnt) in absurd cc
+
+pub not_folded_yet : (what : Stored) (before : Files) → StandsFor what before → IsToFold what → HasNothingToFold before → ⊥
+not_folded_yet what before stood some nothing =
+    some (sym stood.steps ∙ nothing.steps) (sym stood.folded ∙ ap (λ (o : Option (List ℕ)). is_some o) nothing.unfolded)
+
+module _ (change : Change) (before f : Files) (is : IsIntended change before f) where
   -- where there is nothing to fold
   pub begins_unfolded : change.stored.steps ≡ [] → change.stored.folded ≡ false → AreSteps change 0 before f
   begins_unfolded none isnt = found (get f config_file) refl
     where
       unfolded : get f folded_file ≡ None
-      unfolded = nothing_there (get f folded_file) (stands.folded ∙ isnt)
+      unfolded = nothing_there (get f folded_file) (is.stands.folded ∙ isnt)
 
       no_steps_there : step_names f ≡ []
-      no_steps_there = stands.steps ∙ none
+      no_steps_there = is.stands.steps ∙ none
 
       found : (o : Option (List ℕ)) → get f config_file ≡ o → AreSteps change 0 before f
       found None e =
           let fails : stored f ≡ Err NoFile =
           ap (λ (o : Option (List ℕ)). or_unfolded o (after_all_steps f)) unfolded
           ∙ ap (λ (o : Option (List ℕ)). or_none NoFile o >>= λ bytes. config_in bytes >>= λ c. after_steps last_step 1 f c) e in
-          let both : Ok change.stored.config ≡ Err NoFile = sym stands.config ∙ fails in
+          let both : Ok change.stored.config ≡ Err NoFile = sym is.stands.config ∙ fails in
           absurd cc
       found (Some bytes) e = record {
         small = record {
           bytes = bytes;
           config = e;
-          holds = sym (by_config bytes f unfolded e (no_step f (step_name 1) no_steps_there refl)) ∙ stands.config;
-          steps = λ i m low is. absurd (omega (arith, low));
+          holds = sym (by_config bytes f unfolded e (no_step f (step_name 1) no_steps_there refl)) ∙ is.stands.config;
+          steps = λ i m low there. absurd (omega (arith, low));
           unfolded = unfolded;
         };
         missing = λ n more small. no_step f (step_name n) no_steps_there (named n);
         names = no_steps_there;
-        stands = stands.config ∙ at_start change;
-        intent = intent;
-        others = others;
+        stands = is.stands.config ∙ at_start change;
+        intent = is.intent;
+        others = is.others;
+        kept = λ nothing. is.config;
       }
 
   -- and where there is
-  pub begins_folded : (bytes : List ℕ) → config_in bytes ≡ Ok change.stored.config → (g : Files) → IsFolded bytes f g → AreSteps change 0 before g
-  begins_folded bytes holds g folded = record {
+  pub begins_folded : IsToFold change.stored → (bytes : List ℕ) → config_in bytes ≡ Ok change.stored.config → (g : Files)
+      → IsFolded bytes f g → AreSteps change 0 before g
+  begins_folded some bytes holds g folded = record {
     small = record {
       bytes = unwrap_or (get f folded_file) bytes;
       config = folded.config;
       holds = held (get f folded_file) refl;
-      steps = λ i m low is. absurd (omega (arith, low));
+      steps = λ i m low there. absurd (omega (arith, low));
       unfolded = folded.folded;
     };
     missing = λ n more small. no_step g (step_name n) folded.steps (named n);
     names = folded.steps;
     stands = by_config (unwrap_or (get f folded_file) bytes) g folded.folded folded.config (no_step g (step_name 1) folded.steps refl) ∙ held (get f folded_file) refl ∙ at_start change;
-    intent = folded.others intent_file intent_other ∙ intent;
-    others = λ q other apart. folded.others q other ∙ others q other apart;
+    intent = folded.others intent_file intent_other ∙ is.intent;
+    others = λ q other apart. folded.others q other ∙ is.others q other apart;
+    kept = λ nothing. absurd (not_folded_yet change.stored before is.stood some nothing);
   }
     where
       held : (o : Option (List ℕ)) → get f folded_file ≡ o → config_in (unwrap_or o bytes) ≡ Ok change.stored.config
       held None e = holds
-      held (Some b) e = sym (by_folded b f e) ∙ stands.config
+      held (Some b) e = sym (by_folded b f e) ∙ is.stands.config
 
 -- ---- a step more
 
@@ -200,6 +216,9 @@ module _ (change : Change) (k : ℕ) (before f : Files) (at : AreSteps change k 
     still_intent : (g : Files) → ((q : List ℕ) → (q ≡ scratch → ⊥) → (q ≡ name → ⊥) → get g q ≡ get f q) → HoldsGoal change g
     still_intent g alike = alike intent_file intent_not_scratch (no_step_name intent_file (suc k) refl) ∙ at.intent
 
+    still_kept : (g : Files) → ((q : List ℕ) → (q ≡ scratch → ⊥) → (q ≡ name → ⊥) → get g q ≡ get f q) → KeepsBytes before g
+    still_kept g alike = λ nothing. alike config_file config_not_scratch (no_step_name config_file (suc k) refl) ∙ at.kept nothing
+
     -- put or not
     alike_either : (g : Files) → IsPutOrNot name (step_text m) f g → (q : List ℕ) → (q ≡ scratch → ⊥) → (q ≡ name → ⊥) → get g q ≡ get f q
     alike_either g either q hidden apart =
@@ -214,6 +233,9 @@ module _ (change : Change) (k : ℕ) (before f : Files) (at : AreSteps change k 
 
     pub either_intent : (g : Files) → IsStepPutOrNot name (step_text m) f g → HoldsGoal change g
     either_intent g either = still_intent g (alike_either g either.files)
+
+    pub either_kept : (g : Files) → IsStepPutOrNot name (step_text m) f g → KeepsBytes before g
+    either_kept g either = still_kept g (alike_either g either.files)
 
     -- with the step's file too there is one step more
     next_small : (g : Files) → ((q : List ℕ) → (q ≡ scratch → ⊥) → (q ≡ name → ⊥) → get g q ≡ get f q) → get g name ≡ Some (step_text m)
@@ -276,6 +298,7 @@ module _ (change : Change) (k : ℕ) (before f : Files) (at : AreSteps change k 
       stands = stepped (put name (step_text m) f) by.stepped;
       intent = still_intent (put name (step_text m) f) alike_put;
       others = still_others (put name (step_text m) f) alike_put;
+      kept = still_kept (put name (step_text m) f) alike_put;
     }
 
 -- ---- the last fold

@@ -6,7 +6,7 @@ use Rattle.std.proofs.lemmas.List.{map_more, take-append-drop, take_all}
 use Rattle.host_core.specs.Crashes.{Left, LeavesOnly, MayLeave, MayLeaveInPrint, MayLeaveNow, Image}
 use Rattle.host_core.specs.State.{Files, PrintsPart, State, after_restart, printed, settled}
 use Rattle.conf_store.specs.Changes.{AreLeft, Changes, IsSettled, Settles}
-use Rattle.conf_store.specs.Files.{intent_file, last_step, step_name}
+use Rattle.conf_store.specs.Files.{config_file, intent_file, last_step, step_name}
 use Rattle.conf_store.specs.Steps.{CanStep, IsStep, IsStepPut, IsStepPutOrNot}
 use Rattle.conf_store.specs.Stored.{stored}
 use Rattle.move_core.specs.declared.moves.Move.{Move}
@@ -19,7 +19,7 @@ use Rattle.change_apply.specs.declared.errors.ApplyFault.TheVariants.{Disk, Serv
 use Rattle.change_apply.specs.declared.ready.Restart.{Restart}
 use Rattle.change_apply.proofs.KeptIntents.{held}
 use Rattle.change_apply.proofs.Moments.{LeavesOf, changes}
-use Rattle.change_apply.proofs.StepFiles.{either_intent, either_others, either_small, either_stands, may_step, one_more}
+use Rattle.change_apply.proofs.StepFiles.{either_intent, either_kept, either_others, either_small, either_stands, may_step, one_more}
 
 -- ---- what is told at a stage
 
@@ -78,6 +78,7 @@ left_at_step change k within (Some s) n at left may =
       others = λ q other apart. ap (λ (g : Files). get g q) same ∙ at.2.others q other apart;
       intent = held change k s.files left.files (ap (λ (g : Files). get g intent_file) same ∙ at.2.intent);
       small = λ one less. subst (HasSmallSteps change k) (sym same) at.2.small;
+      kept = λ less nothing. ap (λ (g : Files). get g config_file) same ∙ at.2.kept nothing;
     }
 
 -- one step fewer is there too
@@ -146,6 +147,7 @@ module _ (change : Change) (k : ℕ) (m : Move) (due : IsDue change k m) where
           stands = either_stands change k s.files at.0 at.2 m due.is due.few due.leads due.within later.0.files leads.reads;
           intent = held change k s.files later.0.files (either_intent change k s.files at.0 at.2 m due.is due.few due.leads later.0.files leads.reads);
           others = either_others change k s.files at.0 at.2 m due.is due.few due.leads later.0.files leads.reads;
+          kept = λ less. either_kept change k s.files at.0 at.2 m due.is due.few due.leads later.0.files leads.reads;
         },
       )
 
@@ -165,6 +167,7 @@ module _ (change : Change) (k : ℕ) (m : Move) (due : IsDue change k m) where
     others = either_others change k s.files f are m due.is due.few due.leads left.files left_so.files;
     intent = held change k s.files left.files (either_intent change k s.files f are m due.is due.few due.leads left.files left_so.files);
     small = λ one less. either_small change k s.files f are m due.is due.few due.leads left.files left_so.files;
+    kept = λ less. either_kept change k s.files f are m due.is due.few due.leads left.files left_so.files;
   }
 
   module _ {H : Type 0} (moment : H → ℕ) (left_since : H → ℕ → Left → Type 0) where
@@ -205,6 +208,7 @@ module _ (change : Change) (k : ℕ) (m : Move) (due : IsDue change k m) where
         others = λ q other apart. ap (λ (g : Files). get g q) same ∙ are.others q other apart;
         intent = held change k s.files left.files (ap (λ (g : Files). get g intent_file) same ∙ are.intent);
         small = λ one less. subst (HasSmallSteps change k) (sym same) (one_fewer change k f are.small);
+        kept = λ less nothing. ap (λ (g : Files). get g config_file) same ∙ are.kept nothing;
       }
 
   pub left_at_put : (i : ℕ) (o n : Option State) → AtPut change k i o n → (left : Left) → MayLeaveNow n left → IfSome o (λ s. IsLeft change s left)
@@ -252,6 +256,7 @@ module _ (change : Change) (k : ℕ) (m : Move) (due : IsDue change k m) where
           stands = inr (next_put s at.0 at.2);
           intent = held change k s.files at.0 at.2.intent;
           others = at.2.others;
+          kept = λ less. at.2.kept;
         };
         put = next_put s at.0 at.2;
       },
@@ -296,6 +301,7 @@ module _ (change : Change) (k : ℕ) (m : Move) (due : IsDue change k m) where
         stands = inr (next_put s at.0 at.2);
         intent = held change k s.files at.0 at.2.intent;
         others = at.2.others;
+        kept = λ less. at.2.kept;
       };
       put = next_put s at.0 at.2;
     },
@@ -318,6 +324,7 @@ module _ (change : Change) (k : ℕ) (m : Move) (due : IsDue change k m) where
     others = λ q other apart. ap (λ (g : Files). get g q) same ∙ are.others q other apart;
     intent = held change (suc k) s.files left.files (ap (λ (g : Files). get g intent_file) same ∙ are.intent);
     small = λ one less. subst (HasSmallSteps change (suc k)) (sym same) are.small;
+    kept = λ less nothing. ap (λ (g : Files). get g config_file) same ∙ are.kept nothing;
   }
   left_printing part (x ∷ rest) line s f are left same output restarts = record {
     done = k;
@@ -341,6 +348,7 @@ module _ (change : Change) (k : ℕ) (m : Move) (due : IsDue change k m) where
     others = λ q other apart. ap (λ (g : Files). get g q) same ∙ are.others q other apart;
     intent = held change k s.files left.files (ap (λ (g : Files). get g intent_file) same ∙ are.intent);
     small = λ one less. subst (HasSmallSteps change k) (sym same) (one_fewer change k f are.small);
+    kept = λ less nothing. ap (λ (g : Files). get g config_file) same ∙ are.kept nothing;
   }
     where
       some_left : (x : ℕ) (rest : List ℕ) → x ∷ rest ≡ [] → ⊥

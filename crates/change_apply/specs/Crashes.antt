@@ -3,7 +3,7 @@ use Rattle.std.specs.Prelude.{◌≡◌, ◌≢◌, ◌<◌, ◌≤◌, ◌⊎�
 use Rattle.std.specs.FinMap.{get}
 use Rattle.host_core.specs.Crashes.{Left, LeavesOnly}
 use Rattle.host_core.specs.State.{Files, State}
-use Rattle.conf_store.specs.Files.{config_file, folded_file, intent_file, step_name}
+use Rattle.conf_store.specs.Files.{config_file, folded_file, intent_file, step_name, step_names}
 use Rattle.conf_store.specs.Folds.{IsOther}
 use Rattle.conf_store.specs.Stored.{config_in, stored}
 use Rattle.move_core.specs.declared.moves.Move.{Move}
@@ -16,6 +16,15 @@ use Rattle.change_apply.specs.declared.ready.Restart.{Restart}
 abbrev pub KeepsOthers : Files → Files → Type 0
 KeepsOthers before after =
     (name : List ℕ) → IsOther name → name ≢ intent_file → get after name ≡ get before name
+
+-- there is nothing to fold: no step file, and no folded file
+pub record HasNothingToFold (files : Files) : Type 0 where
+  pub steps : step_names files ≡ []
+  pub unfolded : get files folded_file ≡ None
+
+-- where there was nothing to fold the one file has its bytes from before
+abbrev pub KeepsBytes : Files → Files → Type 0
+KeepsBytes before after = HasNothingToFold before → get after config_file ≡ get before config_file
 
 -- the one file holds the configuration from before, and each of the first k steps has a file
 pub record HasSmallSteps (change : Change) (k : ℕ) (files : Files) : Type 0 where
@@ -57,6 +66,8 @@ pub record IsLeft (change : Change) (before : State) (left : Left) : Type 0 wher
   pub others : KeepsOthers before.files left.files
   pub intent : KeepsIntent change done before.files left.files
   pub small : 1 ≤ done → done < steps change → HasSmallSteps change done left.files
+  -- the one file is written by the opening fold, where there is something to fold, and by the closing one
+  pub kept : done < steps change → KeepsBytes before.files left.files
 
 -- a crash at any moment since that stage leaves this, of each beginning of the change
 abbrev pub LeavesAt :

@@ -9,7 +9,7 @@ use Rattle.conf_store.specs.Files.{config_file, folded_file, intent_file, step_n
 use Rattle.conf_store.specs.Stored.{stored}
 use Rattle.change_apply.specs.Acknowledgements.{ack, acks}
 use Rattle.change_apply.specs.Change.{Change, goal, names, restarted, restarts_at, steps}
-use Rattle.change_apply.specs.Crashes.{HasNext, KeepsOthers, StandAt}
+use Rattle.change_apply.specs.Crashes.{HasNext, KeepsBytes, KeepsOthers, StandAt}
 use Rattle.change_apply.specs.Intents.{KeepsIntent}
 use Rattle.change_apply.specs.declared.errors.ApplyFault.{ApplyFault}
 use Rattle.change_apply.specs.declared.errors.ApplyFault.TheVariants.{Disk, Service, Print}
@@ -60,6 +60,7 @@ pub record IsStopped (change : Change) (k : ℕ) (part : List ℕ) (started : Li
   pub stands : StandAt change k after.files
   pub intent : KeepsIntent change k before.files after.files
   pub others : KeepsOthers before.files after.files
+  pub kept : k < steps change → KeepsBytes before.files after.files
 
 -- stopped at the restart of that service of the next step, which is put
 pub record IsStoppedInRestarts (change : Change) (k service : ℕ) (before after : State)

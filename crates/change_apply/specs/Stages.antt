@@ -8,7 +8,7 @@ use Rattle.conf_store.specs.Files.{config_file, folded_file, last_step, step_nam
 use Rattle.conf_store.specs.Folds.{StandsFor}
 use Rattle.conf_store.specs.Stored.{stored}
 use Rattle.change_apply.specs.Change.{Change, conf_at, goal, names, restarted, restarts_at, steps}
-use Rattle.change_apply.specs.Crashes.{HasSmallSteps, KeepsOthers}
+use Rattle.change_apply.specs.Crashes.{HasSmallSteps, KeepsBytes, KeepsOthers}
 use Rattle.change_apply.specs.Ends.{worked}
 use Rattle.change_apply.specs.Intents.{HoldsGoal}
 
@@ -25,6 +25,7 @@ pub record AreSteps (change : Change) (k : ℕ) (before after : Files) : Type 0 
   pub stands : stored after ≡ Ok (conf_at change k)
   pub intent : HoldsGoal change after
   pub others : KeepsOthers before after
+  pub kept : KeepsBytes before after
 
 -- so many steps are put, these services were restarted, and so many steps are acknowledged
 abbrev pub AtStage : Change → ℕ → List (List ℕ) → ℕ → Option State → Option State → Type 0
@@ -48,9 +49,11 @@ AtBeginning change None now = now ≡ None
 AtBeginning change (Some began) now =
     (now ≡ Some began) × IsSettled began × StandsFor change.stored began.files
 
--- the intent is put, and the files stand for what was loaded
+-- the intent is put, and the files stand for what was loaded, in the same bytes
 pub record IsIntended (change : Change) (before after : Files) : Type 0 where
+  pub stood : StandsFor change.stored before
   pub stands : StandsFor change.stored after
+  pub config : get after config_file ≡ get before config_file
   pub intent : HoldsGoal change after
   pub others : KeepsOthers before after
 

@@ -1,5 +1,5 @@
 //! The folds before the first step and behind the last.
-ghost use Rattle.std.specs.Prelude.{◌≤◌, IfErr, OnOk};
+ghost use Rattle.std.specs.Prelude.{◌≡◌, ◌≤◌, ◌↔◌, [], false, IfErr, IsTrue, OnOk};
 ghost use Rattle.host_core.specs.Names.{longest_plain_name};
 ghost use Rattle.change_apply.specs.Crashes.{LeavesAt};
 ghost use Rattle.change_apply.specs.Ends.{HasCause, MayRise, Stops};
@@ -8,7 +8,7 @@ ghost use Rattle.change_apply.specs.Work.{IsReady, change_in, count};
 
 use crate::ApplyFault;
 use crate::ready::Work;
-use conf_store::fold;
+use conf_store::{Stored, fold};
 use host_core::Host;
 
 /// Folds what the folder holds, where there is something to fold.
@@ -27,13 +27,20 @@ pub(crate) fn fold_first<H: Host>(host: &mut H, work: &Work) -> Result<(), Apply
     ensures cause { IfErr result (HasCause (H.counts host.old) (H.counts host.new)) }
     ensures goes { H.goes_on host.old host.new }
 {
-    if work.stored.steps.is_empty() && !work.stored.folded {
+    if is_folded(&work.stored) {
         return Ok(());
     }
     match fold(host, &work.stored_text, &work.stored) {
         Ok(()) => Ok(()),
         Err(_) => Err(ApplyFault::Disk { step: 0 }),
     }
+}
+
+/// Whether there is nothing to fold in what was loaded.
+fn is_folded(stored: &Stored) -> bool
+    ensures { IsTrue result ↔ ((stored.now.steps ≡ []) × (stored.now.folded ≡ false)) }
+{
+    stored.steps.is_empty() && !stored.folded
 }
 
 /// Folds all steps.
