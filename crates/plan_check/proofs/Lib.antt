@@ -10,9 +10,11 @@ pub mod Keeping
 pub mod ListFronts
 pub mod ListedShapes
 pub mod Loops
+pub mod NearKeys
 pub mod NearLoops
 pub mod NearPlaces
 pub mod NewAdds
+pub mod OneEntry
 pub mod OneFault
 pub mod PairNames
 pub mod PairSearches

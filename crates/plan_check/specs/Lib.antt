@@ -8,6 +8,7 @@ pub mod Candidates
 pub mod Keeping
 pub mod Nearby
 pub mod NewEntries
+pub mod OneEntry
 pub mod Requirements
 pub mod Touching
 pub mod Verdicts

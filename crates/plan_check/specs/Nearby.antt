@@ -1,12 +1,12 @@
 -- Where moves stand that may precede a move.
-use Rattle.std.specs.Prelude.{◌≡◌, ◌⊎◌, ◌<◌, ℕ, List, [], ◌∷◌, Option, Some, IfSome, length, slice_get, Contains}
+use Rattle.std.specs.Prelude.{◌≡◌, ◌⊎◌, ◌↔◌, ◌<◌, ℕ, List, [], ◌∷◌, Option, Some, IfSome, IsTrue, length, slice_get, Contains}
 use Rattle.conf_check.specs.Acceptance.{keys_of}
 use Rattle.conf_check.specs.Wants.{Want, want_of}
 use Rattle.conf_check.specs.declared.want_iter.WantAt.{WantAt}
 use Rattle.conf_doc.specs.declared.configuration.Config.{Config}
 use Rattle.key_split.specs.Key.{key_parts}
 use Rattle.move_core.specs.Contexts.{item_at}
-use Rattle.move_core.specs.Extensions.{rule_field}
+use Rattle.move_core.specs.Extensions.{as_in_goal, rule_field}
 use Rattle.move_core.specs.Moves.{Place, index, place}
 use Rattle.move_core.specs.Services.{table_of}
 use Rattle.move_core.specs.declared.moves.Move.{Move}
@@ -68,6 +68,11 @@ pub record HasRequiring (s : Sought) (t : List ℕ) (key : Option (List ℕ)) : 
 abbrev pub AreWanted : Sought → Type 0
 AreWanted s =
     AreWantsAt s.here.now.ctx.now.models s.here.now.cur.now (place s.mv.now) s.wants.now
+
+-- it is known whether the move makes its place as in goal
+abbrev pub KnowsGoal : Sought → Type 0
+KnowsGoal s =
+    IsTrue s.is_goals ↔ (s.mv.now ≡ as_in_goal s.here.now.goal.now (place s.mv.now))
 
 -- a move at the key or at a field that the configuration has there, which leads to the sought one
 abbrev pub IsAtKey : Sought → Config → List ℕ → List ℕ → Move → Type 0

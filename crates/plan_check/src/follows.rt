@@ -4,7 +4,7 @@ ghost use Rattle.move_core.specs.Extensions.{IsDelete, IsUpper, as_in_goal, uppe
 ghost use Rattle.move_core.specs.Moves.{IsDefined, place};
 ghost use Rattle.plan_check.specs.Beginnings.{Precedes};
 ghost use Rattle.plan_check.specs.Broken.{HasBroken, HasOneBroken, IsBrokenAt, IsReferrerAt};
-ghost use Rattle.plan_check.specs.Nearby.{AreWanted};
+ghost use Rattle.plan_check.specs.Nearby.{AreWanted, KnowsGoal};
 
 use crate::here::Here;
 use crate::places::{has_part, has_place, is_entry_at, is_table_at, item_at};
@@ -42,7 +42,7 @@ fn is_above(mv: &Move, above: &Path) -> bool
 }
 
 /// Whether a move makes its place as in goal.
-fn is_as_in_goal(goal: &Config, mv: &Move) -> bool
+pub(crate) fn is_as_in_goal(goal: &Config, mv: &Move) -> bool
     ensures { IsTrue result ↔ (mv.now ≡ as_in_goal goal.now (place mv.now)) }
 {
     match mv {
@@ -52,14 +52,16 @@ fn is_as_in_goal(goal: &Config, mv: &Move) -> bool
     }
 }
 
-/// Whether the second makes the place above the first as in goal.
-fn is_upper(goal: &Config, mv: &Move, more: &Move) -> bool
-    ensures { IsTrue result ↔ IsUpper goal.now mv.now more.now }
+/// Whether the sought move makes the place above another one as in goal.
+fn is_upper(sought: &Sought, mv: &Move) -> bool
+    requires { KnowsGoal sought.now }
+    ensures { let s = sought.now in
+        IsTrue result ↔ IsUpper s.here.now.goal.now mv.now s.mv.now }
 {
-    if !is_above(mv, more.place()) {
+    if !is_above(mv, sought.mv.place()) {
         return false;
     }
-    is_as_in_goal(goal, more)
+    sought.is_goals
 }
 
 /// Whether the second removes what the first replaces.
@@ -124,12 +126,13 @@ fn is_referrer(sought: &Sought, next: &Config) -> bool
 pub(crate) fn follows(alloc: Global, sought: &Sought, mv: &Move) -> Result<bool, Memory>
     requires defined { IsDefined sought.now.here.now.cur.now mv.now }
     requires wants { AreWanted sought.now }
+    requires goals { KnowsGoal sought.now }
     ensures { let s = sought.now in
         IfOk result (λ b. IsTrue b ↔ Precedes s.here.now mv.now s.mv.now) }
 {
     let here = sought.here;
     let more = sought.mv;
-    if is_upper(here.goal, mv, more) {
+    if is_upper(sought, mv) {
         return Ok(true);
     }
     if is_delete(mv, more) {

@@ -16,6 +16,7 @@ mod required;
 mod rules;
 mod seeds;
 mod steps;
+mod validity;
 mod wants;
 
 pub use errors::CheckError;

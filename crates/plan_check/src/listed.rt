@@ -5,9 +5,9 @@ ghost use Rattle.std.specs.List.{Contains};
 ghost use Rattle.move_core.specs.Contexts.{IsNamed, rulebook};
 ghost use Rattle.move_core.specs.Listed.{IsListed};
 ghost use Rattle.plan_check.specs.Backwards.{JoinsOrBegins, Leads, LeadsAs, LeadsOf, RoundOrBegins};
-ghost use Rattle.plan_check.specs.Nearby.{AreWanted};
+ghost use Rattle.plan_check.specs.Nearby.{AreWanted, KnowsGoal};
 
-use crate::follows::follows;
+use crate::follows::{follows, is_as_in_goal};
 use crate::generated::is_generated;
 use crate::here::Here;
 use crate::preceding::{Sought, preceding_moves};
@@ -27,7 +27,8 @@ fn has_move(moves: &[Move], mv: &Move) -> bool
 
 /// Whether a move is defined, and the sought one follows it.
 fn leads_to(alloc: Global, sought: &Sought, mv: &Move) -> Result<bool, Memory>
-    requires { AreWanted sought.now }
+    requires wants { AreWanted sought.now }
+    requires goals { KnowsGoal sought.now }
     ensures { let s = sought.now in
         IfOk result (λ b. IsTrue b ↔ Leads s.here.now mv.now s.mv.now) }
 {
@@ -40,15 +41,16 @@ fn leads_to(alloc: Global, sought: &Sought, mv: &Move) -> Result<bool, Memory>
 /// Whether the sought move follows one that is generated. One that it follows and that isn't is put at the end,
 /// unless it is there.
 fn join(alloc: Global, sought: &Sought, mv: &Move, found: &mut Vec<Move>) -> Result<bool, Memory>
-    requires { AreWanted sought.now }
+    requires wants { AreWanted sought.now }
+    requires goals { KnowsGoal sought.now }
     ensures { let s = sought.now in let Is = LeadsAs s.here.now mv.now s.mv.now in
         IfOk result (JoinsOrBegins s.here.now s.mv.now Is found.old.items found.new.items) }
 {
-    if has_move(found, mv) {
-        return Ok(false);
-    }
     let leads = leads_to(alloc, sought, mv)?;
     if !leads {
+        return Ok(false);
+    }
+    if has_move(found, mv) {
         return Ok(false);
     }
     let generated = is_generated(alloc, sought.here, mv)?;
@@ -67,7 +69,8 @@ fn join_all(
     moves: &[Move],
     found: &mut Vec<Move>,
 ) -> Result<bool, Memory>
-    requires { AreWanted sought.now }
+    requires wants { AreWanted sought.now }
+    requires goals { KnowsGoal sought.now }
     ensures { let s = sought.now in let Is = LeadsOf s.here.now moves.now s.mv.now in
         IfOk result (JoinsOrBegins s.here.now s.mv.now Is found.old.items found.new.items) }
 {
@@ -96,6 +99,7 @@ fn join_preceding<'a>(
         here,
         mv,
         wants: &wants,
+        is_goals: is_as_in_goal(here.goal, mv),
     };
     let moves = preceding_moves(alloc, &sought)?;
     join_all(alloc, &sought, &moves, found)

@@ -27,9 +27,13 @@ pub fn check_plan(
 {
     let moves = plan.items();
     let mut cur = start.copy(alloc)?;
+    let mut is_known = false;
     for i in 0..moves.len() {
-        match judge(alloc, ctx, &cur, goal, &moves[i])? {
-            Verdict::Allowed(next) => cur = next,
+        match judge(alloc, ctx, is_known, &cur, goal, &moves[i])? {
+            Verdict::Allowed(next) => {
+                cur = next;
+                is_known = true;
+            }
             Verdict::Refused(why) => {
                 let step = i as u32 + 1;
                 return Err(CheckError::No { step, why });

@@ -20,12 +20,13 @@ use host_core::Memory;
 use move_core::{Move, Required, Requiring, listed_moves_are_defined};
 use std::alloc::Global;
 
-/// A move of which those are looked for that precede it, and the wants at its place.
+/// A move of which those are looked for that precede it, the wants at its place, and whether it makes that as in goal.
 #[derive(Clone, Copy, Drop)]
 pub(crate) struct Sought<'a> {
     pub(crate) here: &'a Here<'a>,
     pub(crate) mv: &'a Move,
     pub(crate) wants: &'a [WantAt<'a>],
+    pub(crate) is_goals: bool,
 }
 
 /// Whether a key, where one is given, has a text as the part of a number.
@@ -206,6 +207,33 @@ fn add_keys_of(
     }
 }
 
+/// The same, by the one key that the sought move's place names, where only what is near it may lead to it.
+fn add_near_keys(
+    alloc: Global,
+    sought: &Sought,
+    config: &Config,
+    table: &str,
+    found: &mut Vec<Move>,
+) -> Result<(), Memory>
+    requires named { IsNamed sought.now.here.now.ctx.now }
+    requires table { 0 < length table.now }
+    requires wants { AreWanted sought.now }
+    ensures { let Is = IsInKeys sought.now config.now table.now (keys_of table.now config.now) in
+        OnOk result (Takes Is found.old.items found.new.items) }
+{
+    let place = sought.mv.place();
+    if place.len() < 2 {
+        return add_keys_of(alloc, sought, config, table, found);
+    }
+    if has_wanted(sought, table, None) {
+        return add_keys_of(alloc, sought, config, table, found);
+    }
+    if has_requiring(sought, table, None) {
+        return add_keys_of(alloc, sought, config, table, found);
+    }
+    add_key(alloc, sought, config, table, place.name_at(1), found)
+}
+
 /// Puts those in a table: of its keys first, since they tell more often where the move comes from.
 fn add_table(
     alloc: Global,
@@ -223,7 +251,7 @@ fn add_table(
     if !may_precede(sought, table, None) {
         return Ok(());
     }
-    add_keys_of(alloc, sought, config, table, found)?;
+    add_near_keys(alloc, sought, config, table, found)?;
     add_at(alloc, sought.here, Path::new(alloc, &[table])?, found)
 }
 

@@ -1,6 +1,5 @@
-//! The five rules that a step is judged by, as the definitions say them, one after another.
+//! The second to the fifth rule that a step is judged by, as the definitions say them, one after another.
 ghost use Rattle.std.specs.Prelude.{◌≡◌, ◌↔◌, [], ◌∷◌, IsTrue, Some, slice_get};
-ghost use Rattle.conf_check.specs.Validity.{IsValid};
 ghost use Rattle.conf_check.specs.WantRuns.{IsWantAhead};
 ghost use Rattle.conf_check.specs.Wants.{IsWantAt};
 ghost use Rattle.conf_doc.specs.Pairs.{find};
@@ -12,18 +11,11 @@ ghost use Rattle.plan_check.specs.Keeping.{HasValueInBoth, KeepsField, KeepsFiel
 ghost use Rattle.plan_check.specs.Touching.{IsInItem, IsTouched, Touches, WantsHold, names_at};
 
 use crate::places::list_at;
-use conf_check::{WantAt, WantIter, check, entry_wants, is_satisfied, wants};
+use conf_check::{WantAt, WantIter, entry_wants, is_satisfied, wants};
 use conf_doc::{Config, Path, Value};
 use key_split::KeyView;
 use move_core::{CreateOnly, Ctx, Move, Required, Requiring, Settings};
 use yang_model::Models;
-
-/// Whether a configuration is valid by its models.
-pub(crate) fn is_valid(models: &Models, config: &Config) -> bool
-    ensures { IsTrue result ↔ IsValid models.now config.now }
-{
-    check(models, config).is_ok()
-}
 
 /// Whether the place of a want has a name at an index: its table, its key, and its field where it stands in one.
 fn has_name(at: &WantAt, i: usize, name: &str) -> bool

@@ -1,15 +1,17 @@
 //! One step of a plan: whether it is allowed where it stands, or the first cause against it.
 ghost use Rattle.std.specs.Prelude.{◌≡◌, ◌↔◌, ◌<◌, ◌≤◌, length, IfOk, IsSomeAnd, IsTrue, MatchOption};
+ghost use Rattle.conf_check.specs.Validity.{IsValid};
 ghost use Rattle.conf_doc.specs.Changes.{Fits};
 ghost use Rattle.conf_doc.specs.WellFormed.{IsConfig};
-ghost use Rattle.move_core.specs.Contexts.{IsNamed, rulebook};
+ghost use Rattle.move_core.specs.Contexts.{IsNamed, IsResult, rulebook};
 ghost use Rattle.move_core.specs.Moves.{IsDefined, list_at};
 ghost use Rattle.plan_check.specs.Verdicts.{IsFine, IsFirstBroken, IsVerdict};
 
 use crate::NoWhy;
 use crate::listed::is_listed;
 use crate::places::{has_parent, has_place, list_at};
-use crate::rules::{empties_none, has_no_dependency, is_valid, keeps_create_only, keeps_required};
+use crate::rules::{empties_none, has_no_dependency, keeps_create_only, keeps_required};
+use crate::validity::leads_to_valid;
 use conf_doc::{Config, Part, Path};
 use host_core::Memory;
 use move_core::{Ctx, Move, step};
@@ -73,14 +75,16 @@ pub(crate) fn is_defined(cur: &Config, mv: &Move) -> bool
 }
 
 /// What of the result is the first to be wrong: that it is the same, or the first rule that is broken.
-fn first_broken(ctx: &Ctx, cur: &Config, next: &Config, mv: &Move) -> Option<NoWhy>
+fn first_broken(ctx: &Ctx, is_known: bool, cur: &Config, next: &Config, mv: &Move) -> Option<NoWhy>
+    requires result { IsResult cur.now mv.now next.now }
+    requires known { IsTrue is_known → IsValid ctx.now.models cur.now }
     ensures { MatchOption result (IsFine (rulebook ctx.now) cur.now next.now mv.now)
         (IsFirstBroken (rulebook ctx.now) cur.now next.now mv.now) }
 {
     if next.same(cur) {
         return Some(NoWhy::Same);
     }
-    if !is_valid(&ctx.models, next) {
+    if !leads_to_valid(&ctx.models, is_known, cur, next, mv) {
         return Some(NoWhy::Rule1);
     }
     if !has_no_dependency(ctx, cur, next, mv) {
@@ -98,15 +102,17 @@ fn first_broken(ctx: &Ctx, cur: &Config, next: &Config, mv: &Move) -> Option<NoW
     None
 }
 
-/// What is told of a step at a configuration.
+/// What is told of a step at a configuration, of which it may be known that it is valid.
 pub(crate) fn judge(
     alloc: Global,
     ctx: &Ctx,
+    is_known: bool,
     cur: &Config,
     goal: &Config,
     mv: &Move,
 ) -> Result<Verdict, Memory>
-    requires { IsNamed ctx.now }
+    requires named { IsNamed ctx.now }
+    requires known { IsTrue is_known → IsValid ctx.now.models cur.now }
     ensures verdict { IfOk result (IsVerdict (rulebook ctx.now) goal.now cur.now mv.now) }
     ensures formed { IsConfig cur.now }
 {
@@ -118,7 +124,7 @@ pub(crate) fn judge(
         return Ok(Verdict::Refused(NoWhy::NotListed));
     }
     let next = step(alloc, cur, mv)?;
-    match first_broken(ctx, cur, &next, mv) {
+    match first_broken(ctx, is_known, cur, &next, mv) {
         Some(why) => {
             drop(next);
             Ok(Verdict::Refused(why))

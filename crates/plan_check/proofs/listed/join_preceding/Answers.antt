@@ -12,11 +12,14 @@ preceding_moves-requires-clause-wants c =
     subst (AreWantsAt h.ctx.now.models h.cur.now (place c.args.mv.now)) (sym c.deref.ensures.value)
     (subst (λ p. AreWantsAt h.ctx.now.models h.cur.now p c.in_ok-wants.wants.items) c.place.ensures c.in_ok-wants.ensures)
 
-pub join_all-requires : goal.join_all-requires
-join_all-requires c =
+pub join_all-requires-clause-wants : goal.join_all-requires-clause-wants
+join_all-requires-clause-wants c =
     let h = c.args.here.now in
     subst (AreWantsAt h.ctx.now.models h.cur.now (place c.args.mv.now)) (sym c.deref.ensures.value)
     (subst (λ p. AreWantsAt h.ctx.now.models h.cur.now p c.in_ok-wants.wants.items) c.place.ensures c.in_ok-wants.ensures)
+
+pub join_all-requires-clause-goals : goal.join_all-requires-clause-goals
+join_all-requires-clause-goals c = c.is_as_in_goal.ensures
 
 pub returns : goal.returns
 returns c =

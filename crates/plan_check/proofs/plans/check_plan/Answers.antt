@@ -1,5 +1,7 @@
 use Rattle.std.proofs.Common.{◌+◌, take, refl, sym, subst}
 use Rattle.conf_doc.proofs.Lists.{take_step}
+use Rattle.conf_check.specs.Validity.{IsValid}
+use Rattle.conf_doc.specs.declared.configuration.Config.{Config}
 use Rattle.move_core.specs.Contexts.{rulebook}
 use Rattle.move_core.specs.Plans.{IsWay}
 use Rattle.plan_check.specs.Verdicts.{IsVerdict}
@@ -15,7 +17,8 @@ returns-in-Refused c =
     let m = c.index-moves-i.result in
     let cur = c.loop-i.cur in
     let verdict = subst (IsVerdict book aim cur m) c.in-Refused.is c.in_ok-next.ensures.verdict in
-    step_fault book c.args.start.now aim c.items-moves.result.now i m c.loop-i-test.true c.index-moves-i.is cur c.loop-i.invariant
+    step_fault book c.args.start.now aim c.items-moves.result.now i m c.loop-i-test.true c.index-moves-i.is cur
+    c.loop-i.invariant.0
     c.args.plan.now c.items-moves.ensures (i + 1) c.in-Refused.why refl c.in_ok-next.ensures.formed verdict
 
 pub loop-i-preserved : goal.loop-i-preserved
@@ -28,6 +31,8 @@ loop-i-preserved c =
     let m = c.index-moves-i.result in
     let cur = c.loop-i.cur in
     let next = c.in-Allowed.next in
-    let verdict = subst (IsVerdict book aim cur m) c.in-Allowed.is c.in_ok-next.ensures.verdict in
-    subst (λ l. IsWay book aim start l next) (sym (take_step moves i m c.loop-i-test.true c.index-moves-i.is))
-    (way_more book aim start (take i moves) cur m next c.loop-i.invariant verdict.0 verdict.1)
+    let verdict = subst (IsVerdict book aim cur m) c.in-Allowed.is c.in_ok-next.ensures.verdict in (
+      subst (λ l. IsWay book aim start l next) (sym (take_step moves i m c.loop-i-test.true c.index-moves-i.is))
+          (way_more book aim start (take i moves) cur m next c.loop-i.invariant.0 verdict.0 verdict.1),
+      λ _. subst (λ (x : Config). IsValid c.args.ctx.now.models x) (sym verdict.1) verdict.0.rules.full,
+    )

@@ -23,12 +23,12 @@ returns c =
     let d = c.args.config.now in
     let t = c.args.table.now in
     let old = c.args.found.now.items in
-    let one = c.add_keys_of.new.found.items in
+    let one = c.add_near_keys.new.found.items in
     let new = c.add_at.new.found.items in
     let Keys = IsInKeys s d t (keys_of t d) in
     let Here = IsPlainAt s.here.now (t ∷ []) in
     on_ok_weaker c.add_at.result
     (λ last. takes_as (IsInTable s d t) (IsAtTable s d t) old new (λ m is. is.0)
-    (takes_both Keys Here old one new c.in_ok-add_keys_of.ensures
+    (takes_both Keys Here old one new c.in_ok-add_near_keys.ensures
     (subst (λ p. Takes (IsPlainAt s.here.now p) one new) c.in_ok-new.ensures last)))
     c.add_at.ensures

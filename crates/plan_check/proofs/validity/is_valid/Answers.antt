@@ -4,10 +4,11 @@ use Rattle.conf_doc.specs.declared.configuration.Config.{Config}
 use Rattle.conf_check.specs.Validity.{IsFirstViolation, IsValid}
 use Rattle.conf_check.specs.declared.violations.Violation.{Violation}
 use Rattle.yang_model.specs.ModelSets.{ModelSet}
-use Rattle.plan_check.proofs.rules.is_valid.Goals as goal
+use Rattle.plan_check.proofs.validity.is_valid.Goals as goal
 
 valid_says : (models : ModelSet) (config : Config) (r : Result (Unit {0}) Violation)
-    → MatchResult r (λ _. IsValid models config) (IsFirstViolation models config) → IsTrue (is_ok r) ↔ IsValid models config
+    → MatchResult r (λ _. IsValid models config) (IsFirstViolation models config) → IsTrue (is_ok r) ↔ IsValid models
+    config
 valid_says models config (Ok u) valid = (λ _. valid, λ _. refl)
 valid_says models config (Err v) first = (λ t. absurd cc, λ valid. absurd (valid first.breach first.broken))
 
