@@ -1,5 +1,5 @@
 -- What calls change, as a scope shows it.
-use Rattle.std.proofs.Common.{◌≡◌, inl, inr, ℕ, List, Option, Some, None, option_map, Result, Ok, Err, Vec, Global, refl, sym, ap, ◌∙◌, subst}
+use Rattle.std.proofs.Common.{◌≡◌, true, inl, inr, ℕ, List, Option, Some, None, option_map, Result, Ok, Err, Vec, Global, refl, sym, ap, ◌∙◌, subst}
 use Rattle.std.specs.FinMap.{get}
 use Rattle.std.specs.Option.{option_map_or}
 use Rattle.std.specs.Prelude.{IfOk, IfSome, IsSome, OnOk, OnErr}
@@ -7,13 +7,28 @@ use Rattle.host_core.specs.State.{Files, Pending, settled, dirty, listing, State
 use Rattle.scopes.specs.Files.{file_name, plain_name}
 use Rattle.scopes.specs.Renaming.{known, named}
 use Rattle.scopes.specs.Seeing.{get-seen, seen-rename, seen-with_file}
-use Rattle.scopes.specs.Views.{seen, seen_files, seen_pending}
+use Rattle.scopes.specs.Views.{is_clean, seen, seen_files, seen_pending, tells_clean}
 use Rattle.scopes.specs.declared.scope.Scope.{Scope}
 
 -- what either answer gives
 pub either : {T F A B P : Type 0} (r : Result T F) → OnOk r A → OnErr r B → (A → P) → (B → P) → P
 either (Ok x) a b f g = f a
 either (Err e) a b f g = g b
+
+-- with nothing pending a crash undoes nothing
+pub clean_host : (o : Option State) → IfSome o (λ s. s.pending ≡ settled) → tells_clean o ≡ true
+clean_host None is = refl
+clean_host (Some s) is = ap is_clean is
+
+-- and where it undoes nothing, nothing is pending
+pub settled_host : (o : Option State) → tells_clean o ≡ true → IfSome o (λ s. s.pending ≡ settled)
+settled_host None is = tt
+settled_host (Some s) is = by s.pending is
+  where
+    by : (p : Pending) → is_clean p ≡ true → p ≡ settled
+    by settled is = refl
+    by (dirty name) is = absurd cc
+    by (listing before) is = absurd cc
 
 module _ (scope : Scope) where
   -- a change of the state is one of what the scope shows
@@ -101,6 +116,18 @@ module _ (scope : Scope) where
 
   pub shows_settle : Shows (with_pending settled) (with_pending settled)
   shows_settle s = refl
+
+  -- with nothing pending it changes nothing
+  pub settles_itself : (o : Option State) → IfSome o (λ s. s.pending ≡ settled)
+      → option_map (seen scope) o ≡ option_map (with_pending settled) (option_map (seen scope) o)
+  settles_itself None clean = refl
+  settles_itself (Some s) clean = ap (λ (t : State). Some t) (λ i. record {
+    inputs = s.inputs;
+    files = seen_files scope s.files;
+    pending = seen_pending scope (clean i) s.files;
+    output = s.output;
+    restarts = s.restarts;
+  })
 
   pub shows_print : (bytes : List ℕ) → Shows (printed bytes) (printed bytes)
   shows_print bytes s = refl

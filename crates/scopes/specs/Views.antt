@@ -1,5 +1,5 @@
 -- The folder as a scope shows it: its files under their plain names.
-use Rattle.std.specs.Prelude.{◌≡◌, ◌⊎◌, ◌≤◌, ℕ, List, Option, None, option_map, is_some, IfSome}
+use Rattle.std.specs.Prelude.{◌≡◌, ◌⊎◌, ◌≤◌, ℕ, Bool, true, false, List, Option, Some, None, option_map, is_some, IfSome}
 use Rattle.std.specs.FinMap.{entries, from_entries, get}
 use Rattle.std.specs.List.{filter_map}
 use Rattle.std.specs.Option.{option_map_or}
@@ -23,6 +23,17 @@ seen_pending scope settled files = settled
 seen_pending scope (dirty name) files =
     option_map_or dirty (plain_name scope name) (listing (seen_files scope files))
 seen_pending scope (listing before) files = listing (seen_files scope before)
+
+-- a crash undoes nothing
+abbrev pub is_clean : Pending → Bool
+is_clean settled = true
+is_clean (dirty name) = false
+is_clean (listing before) = false
+
+-- the same of a host that may not tell its state
+abbrev pub tells_clean : Option State → Bool
+tells_clean None = true
+tells_clean (Some s) = is_clean s.pending
 
 -- the state that a scope shows: its files, and all else as it is
 abbrev pub seen : Scope → State → State

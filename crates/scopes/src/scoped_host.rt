@@ -1,8 +1,8 @@
 //! One folder seen as the folder of a scope.
-ghost use Rattle.std.specs.Prelude.{◌≡◌, ◌≤◌, IfSome, option_map};
+ghost use Rattle.std.specs.Prelude.{◌≡◌, ◌≤◌, true, IfSome, option_map};
 ghost use Rattle.host_core.specs.Names.{longest_scoped_name};
 ghost use Rattle.host_core.specs.State.{settled};
-ghost use Rattle.scopes.specs.Views.{seen};
+ghost use Rattle.scopes.specs.Views.{seen, tells_clean};
 
 use crate::Scope;
 use crate::listing::plain_names;
@@ -11,16 +11,21 @@ use host_core::{Failed, Host, HostError, Input, Names};
 use std::alloc::Global;
 
 /// A host whose files are those of a scope, under their plain names. All else is the inner host's. It
-/// takes no memory for names.
+/// takes no memory for names. It is made of a settled folder, and settles it again only behind what may have
+/// changed that.
 #[derive(Drop)]
 pub struct ScopedHost<'a, H: Host> {
     host: &'a mut H,
     scope: Scope,
+    /// Since the folder was settled nothing was done but to read, so that settling it does nothing.
+    is_settled: bool,
     ghost fits: { longest_scoped_name ≤ H.longest_name },
+    ghost clean: { is_settled ≡ true → tells_clean (H.told host.now) ≡ true },
 }
 
 impl<'a, H: Host> ScopedHost<'a, H> {
     /// The host as a scope shows it.
+    #[tactic(auto, using(crate::proofs::Changes::clean_host))]
     pub fn new(host: &'a mut H, scope: Scope) -> ScopedHost<'a, H>
         requires fits { longest_scoped_name ≤ H.longest_name }
         requires ready { IfSome (H.told host.old) (λ s. s.pending ≡ settled) }
@@ -30,7 +35,11 @@ impl<'a, H: Host> ScopedHost<'a, H> {
         ensures ready { IfSome (option_map (seen scope) (H.told result.host.now))
             (λ s. s.pending ≡ settled) }
     {
-        ScopedHost { host, scope }
+        ScopedHost {
+            host,
+            scope,
+            is_settled: true,
+        }
     }
 }
 
@@ -93,34 +102,43 @@ impl<'a, H: Host> Host for ScopedHost<'a, H> {
 
     fn write(&mut self, name: &str, bytes: &[u8]) -> Result<(), Failed> {
         let file = file_name(self.scope, name);
+        self.is_settled = false;
         self.host.write(file.as_str(), bytes)
     }
 
     fn sync(&mut self, name: &str) -> Result<(), Failed> {
         let file = file_name(self.scope, name);
+        self.is_settled = false;
         self.host.sync(file.as_str())
     }
 
     fn rename(&mut self, from: &str, to: &str) -> Result<(), Failed> {
         let from = file_name(self.scope, from);
         let to = file_name(self.scope, to);
+        self.is_settled = false;
         self.host.rename(from.as_str(), to.as_str())
     }
 
     fn remove(&mut self, name: &str) -> Result<(), Failed> {
         let file = file_name(self.scope, name);
+        self.is_settled = false;
         self.host.remove(file.as_str())
     }
 
     fn settle(&mut self) -> Result<(), Failed> {
+        if self.is_settled {
+            return Ok(());
+        }
         self.host.settle()
     }
 
     fn print(&mut self, bytes: &[u8]) -> Result<(), Failed> {
+        self.is_settled = false;
         self.host.print(bytes)
     }
 
     fn restart(&mut self, service: &str) -> Result<(), Failed> {
+        self.is_settled = false;
         self.host.restart(service)
     }
 }
