@@ -60,18 +60,32 @@ cause_stays old mid new Done asking s now text rises h says = tt
 cause_stays old mid new other asking s now text rises h says = tt
 
 -- what one answer leaves
-pub printed_leaves : (asking : Asking Request) (s now : State) (after : Option State) (old mid new : Counts) (r : Outcome) (text : List ℕ) (result : Outcome)
+pub printed_leaves : (asking : Asking Request) (s now : State) (after : Option State) (old mid new : Counts)
+    (r : Outcome) (text : List ℕ) (result : Outcome)
     → IsPrinted r text (Some now) after mid new result → PrintMayRise mid new → HasCause old mid r
     → Says asking s now r text → now.output ≡ s.output
     → Leaves asking s after old new result
-printed_leaves asking s now after old mid new r text result (inl whole) rises cause says same =
-    (now, text, whole.1, subst (λ x. Prints asking s now old new x text) (sym whole.0) (says_prints asking s now old new r text says))
+printed_leaves asking s now after old mid new r text result (inl whole) rises cause says same = (
+  now,
+  text,
+  whole.1,
+  subst (λ x. Prints asking s now old new x text) (sym whole.0)
+      (says_prints asking s now old new r text says),
+)
 printed_leaves asking s now after old mid new r text result (inr part) rises cause says same = (
   now,
   part.1.0,
   part.1.3,
   subst (λ x. Prints asking s now old new x part.1.0) (sym part.0)
-      (inl (inl (inl (refl, same)), (r, part.1.1, cause_stays old mid new r asking s now text rises cause says, subst (λ t. Says asking s now r t) part.1.2 says))),
+      (inl (
+        inl (inl (refl, same)),
+        (
+          r,
+          part.1.1,
+          cause_stays old mid new r asking s now text rises cause says,
+          subst (λ t. Says asking s now r t) part.1.2 says,
+        ),
+      )),
 )
 
 -- a question whose command changes nothing but the output
@@ -101,13 +115,15 @@ module _ (asking : State → Asking Request) where
       printed_to before after old mid new Memory (last_line Memory) result said rises tt (memory_says before)
 
 -- an answer to the command that the words are is one to the words
-pub answers_by : (words : List (List ℕ)) (f : Option Form) (before after : Option State) (old new : Counts) (result : Outcome) → f ≡ form words
+pub answers_by : (words : List (List ℕ)) (f : Option Form) (before after : Option State) (old new : Counts)
+    (result : Outcome) → f ≡ form words
     → AnswersTo (λ s. form_asked f s) before after old new result → Answers words before after old new result
 answers_by words f None after old new result is h = h
 answers_by words f (Some s) after old new result is h = subst (λ g. Leaves (form_asked g s) s after old new result) is h
 
 -- the answer, or want of memory in its place
-pub said_answers : (words : List (List ℕ)) (before after : Option State) (old mid new : Counts) (r : Outcome) (text : List ℕ) (result : Outcome)
+pub said_answers : (words : List (List ℕ)) (before after : Option State) (old mid new : Counts) (r : Outcome)
+    (text : List ℕ) (result : Outcome)
     → IsSaid r text before after mid new result → PrintMayRise mid new → HasCause old mid r
     → IfSome before (λ s. Says (asked words s) s s r text)
     → Answers words before after old new result
@@ -192,7 +208,8 @@ rose_since : (old mid new : ℕ) → old ≤ mid → Rose mid new → Rose old n
 rose_since old mid new le (inl more) = inl (omega (arith, le, more))
 rose_since old mid new le (inr last) = inr last
 
-printed_completes : (asking : Asking Request) (old mid new : Counts) (e : Outcome) (text : List ℕ) (before after : Option State) (result : Outcome)
+printed_completes : (asking : Asking Request) (old mid new : Counts) (e : Outcome) (text : List ℕ)
+    (before after : Option State) (result : Outcome)
     → IsPrinted e text before after mid new result → NoneFell old mid → NoneRose old new → Complete asking e
     → Complete asking result
 printed_completes asking old mid new e text before after result (inl whole) fell none is =
@@ -201,7 +218,8 @@ printed_completes asking old mid new e text before after result (inr part) fell 
     absurd (none.print (rose_since old.print mid.print new.print fell.print part.2))
 
 -- what is said of a refusal, of a host that tells its state
-pub said_completes : (words : List (List ℕ)) (path : List ℕ) (o after told : Option State) (old mid new : Counts) (e result : Outcome) → form words ≡ Some (preview path)
+pub said_completes : (words : List (List ℕ)) (path : List ℕ) (o after told : Option State) (old mid new : Counts)
+    (e result : Outcome) → form words ≡ Some (preview path)
     → IsSaid e (last_line e) told after mid new result → PrintMayRise mid new → NoneFell old mid → Refuses old mid e
     → Finds {X = Tree} o document (Err e) (preview_document path)
     → IfSome o (λ s. NoneRose old new → Complete (asked words s) result)
@@ -220,7 +238,8 @@ said_completes words path (Some s) after told old mid new e result is said rises
         (inl refl)
 
 -- what is said of a preview that is done
-pub done_completes : (words : List (List ℕ)) (path text : List ℕ) (o after told : Option State) (old mid new : Counts) (t : Tree) (result : Outcome) → form words ≡ Some (preview path)
+pub done_completes : (words : List (List ℕ)) (path text : List ℕ) (o after told : Option State) (old mid new : Counts)
+    (t : Tree) (result : Outcome) → form words ≡ Some (preview path)
     → IsSaid Done text told after mid new result → NoneFell old mid → Finds o document (Ok t) (preview_document path)
     → IfSome o (λ s. NoneRose old new → Complete (asked words s) result)
 done_completes words path text None after told old mid new t result is said fell f = tt

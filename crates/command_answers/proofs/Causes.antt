@@ -30,7 +30,13 @@ print_fell old new rises =
 
 pub reads_fell : {old new : Counts} → ReadsMayRise old new → NoneFell old new
 reads_fell rises =
-    record { input = rises.input; disk = rises.disk; print = omega (arith, rises.print); service = omega (arith, rises.service) }
+    record {
+      input = rises.input;
+      disk = rises.disk;
+      print = omega (arith, rises.print);
+      service =
+          omega (arith, rises.service);
+    }
 
 pub rose_from : (a b c : ℕ) → a ≤ b → Rose b c → Rose a c
 rose_from a b c le rose = ⊎_elim (λ (less : b < c). inl (omega arith)) (λ (last : c ≡ last_count). inr last) rose

@@ -60,7 +60,8 @@ said_left asking (Some s) answer text says left (inr (part, rest, is, may)) =
     (part, memory_front (asking s) s part rest is, inl may)
 
 -- a request that writes may leave it with another output
-writing_on : (r : Request) (s : State) (left : Left) (base p q : List ℕ) → LeftWriting r (printed p s) (record left { output = base })
+writing_on : (r : Request) (s : State) (left : Left) (base p q : List ℕ)
+    → LeftWriting r (printed p s) (record left { output = base })
     → left.output ≡ s.output ++ q → LeftWriting r (printed q s) left
 writing_on (request.delete_checkpoint name) s left base p q h e =
     record { files = h.files; output = e; restarts = h.restarts }
@@ -69,7 +70,8 @@ writing_on (request.save_checkpoint name config) s left base p q h e =
 writing_on request.abandon s left base p q h e = record { files = h.files; output = e; restarts = h.restarts }
 writing_on other s left base p q never e = absurd never
 
-left_on : (asking : Asking Request) (s : State) (left : Left) (base p q : List ℕ) → LeftBy asking (printed p s) (record left { output = base })
+left_on : (asking : Asking Request) (s : State) (left : Left) (base p q : List ℕ)
+    → LeftBy asking (printed p s) (record left { output = base })
     → left.output ≡ s.output ++ q → LeftBy asking (printed q s) left
 left_on asking s left base p q (inl h) e = inl (record { files = h.files; output = e; restarts = h.restarts })
 left_on asking s left base p q (inr (r, given, h)) e = inr (r, given, writing_on r s left base p q h e)
@@ -81,8 +83,12 @@ printed_on : (asking : Asking Request) (s now : State) (part : List ℕ) (left :
     → LeftOf asking s left
 printed_on asking s now part left same front so_far may =
     let before = so_far (record left { output = now.output })
-    (record { files = may.files; output = λ i. now.output; restarts = may.restarts }) in
-    (part, front, left_on asking s left now.output before.0 part before.2 (may.output ∙ ap (λ (o : List ℕ). o ++ part) same))
+    (record { files = may.files; output = λ i. now.output; restarts = may.restarts }) in (
+      part,
+      front,
+      left_on asking s left now.output before.0 part
+          before.2 (may.output ∙ ap (λ (o : List ℕ). o ++ part) same),
+    )
 
 told_left : (asking : State → Asking Request) (before now : Option State) (out : Outcome) (written : Bool)
     → IsReady asking before now out
@@ -108,7 +114,8 @@ told_left asking (Some s) now out written (t, is, says, same) so_far left h =
 -- ---- of the words
 
 -- what a command may leave may be left by words that are that command
-left_by : (P : Option State → Left → Type 0) (words : List (List ℕ)) (f : Option Form) (before : Option State) (left : Left) → f ≡ form words
+left_by : (P : Option State → Left → Type 0) (words : List (List ℕ)) (f : Option Form) (before : Option State)
+    (left : Left) → f ≡ form words
     → ((s : State) → P (Some s) left → LeftByForm f s left) → P before left → LeftMeanwhile words before left
 left_by P words f None left is gives h = tt
 left_by P words f (Some s) left is gives h = subst (λ g. LeftByForm g s left) is (gives s h)
@@ -122,7 +129,8 @@ module _ {H : Type 0} (moment : H → ℕ) (left_since : H → ℕ → Left → 
       begins moment left_since old (LeftTo asking o) (λ left since. left_here asking o left (now left since))
 
   -- a question whose command prints alone
-  pub asking_says : (asking : State → Asking Request) (old mid new : H) (before told : Option State) (answer : Outcome) (text : List ℕ) → told ≡ before
+  pub asking_says : (asking : State → Asking Request) (old mid new : H) (before told : Option State) (answer : Outcome)
+      (text : List ℕ) → told ≡ before
       → IfSome before (λ s. Says (asking s) s s answer text)
       → LeavesOnly moment left_since old mid (LeftTo asking before)
       → Elapses moment left_since mid new (LeftInText text told)
@@ -133,7 +141,8 @@ module _ {H : Type 0} (moment : H → ℕ) (left_since : H → ℕ → Left → 
       (said_left asking before answer text says)
 
   -- a question whose command prints alone, once it has read what it needs
-  pub asking_leaves_behind : (asking : State → Asking Request) (old mid new : H) (before told : Option State) (answer : Outcome) (text : List ℕ) → told ≡ before
+  pub asking_leaves_behind : (asking : State → Asking Request) (old mid new : H) (before told : Option State)
+      (answer : Outcome) (text : List ℕ) → told ≡ before
       → IfSome before (λ s. Says (asking s) s s answer text)
       → ((left : Left) → left_since old (moment old) left → MayLeaveNow before left)
       → Elapses moment left_since old mid (MayLeaveNow before)
@@ -141,7 +150,8 @@ module _ {H : Type 0} (moment : H → ℕ) (left_since : H → ℕ → Left → 
       → LeavesOnly moment left_since old new (LeftTo asking before)
   asking_leaves_behind asking old mid new before told answer text same says only first second =
       asking_says asking old mid new before told answer text same says
-      (goes_on moment left_since old old mid (LeftTo asking before) (MayLeaveNow before) (asking_begins asking before old only) first (left_here asking before))
+      (goes_on moment left_since old old mid (LeftTo asking before) (MayLeaveNow before)
+      (asking_begins asking before old only) first (left_here asking before))
       second
 
   -- a question whose command prints after some of it was done
@@ -154,7 +164,8 @@ module _ {H : Type 0} (moment : H → ℕ) (left_since : H → ℕ → Left → 
   asking_prints asking old mid new before now out ready so_far here time =
       goes_on moment left_since old mid new (LeftTo asking before) (LeftInTold (may_have_written out) out now) so_far
       time
-      (told_left asking before now out (may_have_written out) ready (λ left may. so_far.each left (here left so_far.later may)))
+      (told_left asking before now out (may_have_written out) ready
+      (λ left may. so_far.each left (here left so_far.later may)))
 
   -- what may be left at a command's moments may be left at those of the words that it is
   pub leaves_by : (words : List (List ℕ)) (f : Option Form) (old new : H) (before : Option State) → f ≡ form words
@@ -172,7 +183,8 @@ module _ {H : Type 0} (moment : H → ℕ) (left_since : H → ℕ → Left → 
       → LeavesOnly moment left_since old new (LeftMeanwhile words before)
   changes_by words task budget old new before is run =
       weaker moment left_since old new (LeftToChange (change_asked task budget) before) (LeftMeanwhile words before)
-      (λ left h. left_by (LeftToChange (change_asked task budget)) words (Some (change task budget)) before left is (λ s changed. changed) h) run
+      (λ left h. left_by (LeftToChange (change_asked task budget)) words (Some (change task budget)) before left is
+      (λ s changed. changed) h) run
 
   -- and of a migration
   pub migrates_by : (words : List (List ℕ)) (old new : H) (before : Option State)
@@ -181,10 +193,12 @@ module _ {H : Type 0} (moment : H → ℕ) (left_since : H → ℕ → Left → 
       → LeavesOnly moment left_since old new (LeftMeanwhile words before)
   migrates_by words old new before is run =
       weaker moment left_since old new (LeftToMigration migrate_asked before) (LeftMeanwhile words before)
-      (λ left h. left_by (LeftToMigration migrate_asked) words (Some migrate_checkpoints) before left is (λ s migrated. migrated) h) run
+      (λ left h. left_by (LeftToMigration migrate_asked) words (Some migrate_checkpoints) before left is
+      (λ s migrated. migrated) h) run
 
   -- words whose command prints alone
-  pub command_leaves : (words : List (List ℕ)) (f : Option Form) (old new : H) (before : Option State) (answer : Outcome) (text : List ℕ) → f ≡ form words
+  pub command_leaves : (words : List (List ℕ)) (f : Option Form) (old new : H) (before : Option State)
+      (answer : Outcome) (text : List ℕ) → f ≡ form words
       → ((s : State) (left : Left) → LeftOf (form_asked f s) s left → LeftByForm f s left)
       → IfSome before (λ s. Says (asked words s) s s answer text)
       → ((left : Left) → left_since old (moment old) left → MayLeaveNow before left)
@@ -193,10 +207,12 @@ module _ {H : Type 0} (moment : H → ℕ) (left_since : H → ℕ → Left → 
   command_leaves words f old new before answer text is gives says only time =
       leaves_by words f old new before is gives
       (subst (λ (g : Option Form). LeavesOnly moment left_since old new (LeftTo (λ s. form_asked g s) before)) (sym is)
-      (asking_says (asked words) old old new before before answer text refl says (asking_begins (asked words) before old only) time))
+      (asking_says (asked words) old old new before before answer text refl says
+      (asking_begins (asked words) before old only) time))
 
   -- once it has read what it needs
-  pub command_leaves_behind : (words : List (List ℕ)) (f : Option Form) (old mid new : H) (before told : Option State) (answer : Outcome) (text : List ℕ) → f ≡ form words
+  pub command_leaves_behind : (words : List (List ℕ)) (f : Option Form) (old mid new : H) (before told : Option State)
+      (answer : Outcome) (text : List ℕ) → f ≡ form words
       → ((s : State) (left : Left) → LeftOf (form_asked f s) s left → LeftByForm f s left)
       → IfSome before (λ s. Says (asked words s) s s answer text) → told ≡ before
       → ((left : Left) → left_since old (moment old) left → MayLeaveNow before left)

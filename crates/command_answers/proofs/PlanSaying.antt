@@ -44,7 +44,8 @@ planned_found (Some s) from budget (Err e) h =
     (first_refused planning_of work_of e (planning_asked from budget s) _ h)
 
 -- a target that is refused is a task that is
-task_refused : (from : Target) (e : Outcome) → Gives {X = Unit {0}} (λ u. from) refusal (Err e) (target_answer from) → Gives {X = Unit {0}} (λ u. reach from) refusal (Err e) (task_answer (reach from))
+task_refused : (from : Target) (e : Outcome) → Gives {X = Unit {0}} (λ u. from) refusal (Err e) (target_answer from)
+    → Gives {X = Unit {0}} (λ u. reach from) refusal (Err e) (task_answer (reach from))
 task_refused from e h = by (target_answer from) (refusal e) h
   where
     by : (r : Result Target Outcome) (o : Option Outcome) → FailsAs o r → FailsAs o (map_ok reach r)
@@ -55,12 +56,14 @@ task_passes : (from : Target) → target_answer from ≡ Ok from → task_answer
 task_passes from h = ap (map_ok reach) h
 
 -- the target is by a name that no checkpoint has
-pub no_named : (o : Option State) (from : Target) (budget : ℕ) (e : Outcome) → Gives {X = Unit {0}} (λ u. from) refusal (Err e) (target_answer from)
+pub no_named : (o : Option State) (from : Target) (budget : ℕ) (e : Outcome)
+    → Gives {X = Unit {0}} (λ u. from) refusal (Err e) (target_answer from)
     → RefusesAlways e → Finds {X = code.Planning} o request_of (Err e) (dry_run_asked (reach from) budget)
 no_named None from budget e gives always = tt
 no_named (Some s) from budget e gives always =
     first_refused {X = Unit {0}} (λ u. reach from) request_of e (follows (task_answer (reach from))) _
-    (found_always {X = Unit {0}} (λ u. reach from) (Err e) (task_answer (reach from)) _ (λ q same. same) (task_refused from e gives) always)
+    (found_always {X = Unit {0}} (λ u. reach from) (Err e) (task_answer (reach from)) _ (λ q same. same)
+    (task_refused from e gives) always)
 
 -- it isn't
 pub named_found : (o : Option State) (from : Target) (budget : ℕ) (u : Unit {0}) (r : Result code.Planning Outcome)
@@ -82,7 +85,8 @@ solved_says asking s p (Err Unorderable) given h = ((request_of p, given, h), in
 solved_says asking s p (Err (Budget n)) given h = ((request_of p, given, h), inl refl, refl)
 solved_says asking s p (Err other) given never = absurd never
 
-pub plan_says : (o : Option State) (asking : State → Asking Request) (p : code.Planning) (r : Result (List Move) Outcome) → Finds o request_of (Ok p) asking
+pub plan_says : (o : Option State) (asking : State → Asking Request) (p : code.Planning)
+    (r : Result (List Move) Outcome) → Finds o request_of (Ok p) asking
     → IsSolved p r → IfSome o (λ s. SaysPlan (asking s) s r)
 plan_says None asking p r h solved = tt
 plan_says (Some s) asking p r h solved = solved_says (asking s) s p r h.gives solved

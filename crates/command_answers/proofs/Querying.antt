@@ -53,11 +53,13 @@ module _ {H : Type 0} (w : Ghosts H) (asking : State → Asking Request) (old ne
         by (Some s) h = (view x, h.gives, leaves s, done)
 
     -- what is refused is refused of the question
-    pub text_refused : (e : Outcome) → Finds {X = X} (w.told old) view (Err e) asking → Refuses (w.counts old) (w.counts new) e
+    pub text_refused : (e : Outcome) → Finds {X = X} (w.told old) view (Err e) asking
+        → Refuses (w.counts old) (w.counts new) e
         → FindsText w asking old new (Err e)
     text_refused e h refuses = text_ended e (by (w.told old) h) (refuses_ends (w.counts old) (w.counts new) e refuses)
       where
-        by : (o : Option State) → Finds {X = X} o view (Err e) asking → IfSome o (λ s. Says (asking s) s s e (last_line e))
+        by : (o : Option State) → Finds {X = X} o view (Err e) asking
+            → IfSome o (λ s. Says (asking s) s s e (last_line e))
         by None h = tt
         by (Some s) h = refused_says (asking s) s e (w.counts old) (w.counts new) refuses h.stands h.gives
 
@@ -116,7 +118,8 @@ module _ {H : Type 0} (w : Ghosts H) (asking : State → Asking Request) (before
       → Does w asking before new result
   text_answered text found said time =
       answered Done (text.items ++ last_line Done) found.says found.reads tt
-      (done_cause (w.counts before) (w.counts mid) (w.counts new) (reads_fell found.reads.faults) rises (text.items ++ last_line Done) (w.told mid) (w.told new) result said)
+      (done_cause (w.counts before) (w.counts mid) (w.counts new) (reads_fell found.reads.faults) rises
+      (text.items ++ last_line Done) (w.told mid) (w.told new) result said)
       (λ is. absurd cc) said time
 
   -- a refusal is told
@@ -126,7 +129,8 @@ module _ {H : Type 0} (w : Ghosts H) (asking : State → Asking Request) (before
   refusal_answered e found said time =
       answered e (last_line e) found.says found.reads
       (end_cause (w.counts before) (w.counts mid) e found.cause)
-      (unsolved_cause (w.counts before) (w.counts mid) (w.counts new) (reads_fell found.reads.faults) rises e (w.told mid) (w.told new) result found.cause said)
+      (unsolved_cause (w.counts before) (w.counts mid) (w.counts new) (reads_fell found.reads.faults) rises e
+      (w.told mid) (w.told new) result found.cause said)
       (λ is. subst (RefusesOrEnds (w.counts before) (w.counts mid)) is found.cause) said time
 
 -- what is found and told is what the command does

@@ -36,8 +36,11 @@ more_acks k (suc j) low = by (three_ways k j) (λ lt. more_acks k j lt)
               ∙ append_assoc (acks k) (ack (suc k) ++ so_far.0) (ack (suc j))
               ∙ ap (λ (t : List ℕ). acks k ++ t) (append_assoc (ack (suc k)) so_far.0 (ack (suc j))),
         )
-    by (inr (inl e)) before =
-        ([], subst (λ (n : ℕ). acks (suc n) ≡ acks k ++ (ack (suc k) ++ [])) e (ap (λ (t : List ℕ). acks k ++ t) (sym (append-nil (ack (suc k))))))
+    by (inr (inl e)) before = (
+      [],
+      subst (λ (n : ℕ). acks (suc n) ≡ acks k ++ (ack (suc k) ++ [])) e
+          (ap (λ (t : List ℕ). acks k ++ t) (sym (append-nil (ack (suc k))))),
+    )
     by (inr (inr gt)) before = absurd (omega (arith, low, gt))
 
 not_below : (k j : ℕ) (text : List ℕ) → AreAcknowledged k text → AreAcknowledged j text → k < j → ⊥
@@ -83,18 +86,22 @@ begins_or_not (c ∷ part) (d ∷ text) = by (three_ways c d) (begins_or_not par
 
 longer : (k : ℕ) (rest more : List ℕ) → rest ≡ ack (suc k) ++ more → length more < length rest
 longer k rest more is =
-    let long : length rest ≡ length (ack (suc k)) + length more = ap (λ (t : List ℕ). length t) is ∙ length-append (ack (suc k)) more in
+    let long : length rest ≡ length (ack (suc k)) + length more = ap (λ (t : List ℕ). length t) is
+    ∙ length-append (ack (suc k)) more in
     let some = some_length (ack (suc k)) (λ none. not_empty 97 _ (sym none)) in
     omega (arith, long, some)
 
 -- behind so many: these are all, or there is one more
-count_on : (k : ℕ) (text rest : List ℕ) → text ≡ acks k ++ rest → IsFront (ack (suc k)) rest ⊎ (¬ IsFront (ack (suc k)) rest)
-    → ((more : List ℕ) → rest ≡ ack (suc k) ++ more → (j : ℕ) × AreAcknowledged j text) → (j : ℕ) × AreAcknowledged j text
+count_on : (k : ℕ) (text rest : List ℕ) → text ≡ acks k ++ rest
+    → IsFront (ack (suc k)) rest ⊎ (¬ IsFront (ack (suc k)) rest)
+    → ((more : List ℕ) → rest ≡ ack (suc k) ++ more → (j : ℕ) × AreAcknowledged j text)
+    → (j : ℕ) × AreAcknowledged j text
 count_on k text rest e (inl (more, is)) further = further more is
 count_on k text rest e (inr none) further = (k, record { rest = rest; begins = e; no_more = none })
 
 -- the same, where the rest is no longer than that
-count_from : (most k : ℕ) (text rest : List ℕ) → text ≡ acks k ++ rest → length rest ≤ most → (j : ℕ) × AreAcknowledged j text
+count_from : (most k : ℕ) (text rest : List ℕ) → text ≡ acks k ++ rest → length rest ≤ most
+    → (j : ℕ) × AreAcknowledged j text
 count_from zero k text rest e short =
     count_on k text rest e (begins_or_not (ack (suc k)) rest)
     (λ more is. let low = longer k rest more is in absurd (omega (arith, low, short)))
@@ -103,7 +110,8 @@ count_from (suc most) k text rest e short =
     (λ more is.
     let low = longer k rest more is in
     count_from most (suc k) text more
-    (e ∙ ap (λ (t : List ℕ). acks k ++ t) is ∙ sym (append_assoc (acks k) (ack (suc k)) more)) (omega (arith, low, short)))
+    (e ∙ ap (λ (t : List ℕ). acks k ++ t) is ∙ sym (append_assoc (acks k) (ack (suc k)) more))
+    (omega (arith, low, short)))
 
 -- each text has one number of them
 pub has_one_number : (text : List ℕ) → HasOneNumber text
@@ -135,13 +143,16 @@ pub acknowledged_by : (k : ℕ) (text : List ℕ) → Quiet text → AreAcknowle
 acknowledged_by k text q = record { rest = text; begins = refl; no_more = quiet_has_no_ack text q (suc k) }
 
 -- the same with part of the next one
-pub cut_acknowledged : (k : ℕ) (part rest : List ℕ) → ack (suc k) ≡ part ++ rest → rest ≢ [] → AreAcknowledged k (acks k ++ part)
+pub cut_acknowledged : (k : ℕ) (part rest : List ℕ) → ack (suc k) ≡ part ++ rest → rest ≢ []
+    → AreAcknowledged k (acks k ++ part)
 cut_acknowledged k part rest line cut = record {
   rest = part;
   begins = refl;
   no_more = λ (more, e).
-      let long : length (ack (suc k)) ≡ length part + length rest = ap (λ (t : List ℕ). length t) line ∙ length-append part rest in
-      let back : length part ≡ length (ack (suc k)) + length more = ap (λ (t : List ℕ). length t) e ∙ length-append (ack (suc k)) more in
+      let long : length (ack (suc k)) ≡ length part + length rest = ap (λ (t : List ℕ). length t) line
+      ∙ length-append part rest in
+      let back : length part ≡ length (ack (suc k)) + length more = ap (λ (t : List ℕ). length t) e
+      ∙ length-append (ack (suc k)) more in
       let some = some_length rest cut in
       omega (arith, long, back, some);
 }

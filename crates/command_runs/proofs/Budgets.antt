@@ -35,7 +35,8 @@ number_is_within ds = by (list_all is_ascii_digit ds) (nat_le (number ds) most_b
 budget_is_within : (word : List ℕ) → IsWithin (budget_in word)
 budget_is_within [] = tt
 budget_is_within (d ∷ ds) =
-    elim (d == digit_zero) as (λ b. IsWithin (cond b None (number_within most_budget (d ∷ ds)))) [ true ↦ tt | false ↦ number_is_within (d ∷ ds) ]
+    elim (d == digit_zero) as (λ b. IsWithin (cond b None (number_within most_budget (d ∷ ds))))
+    [ true ↦ tt | false ↦ number_is_within (d ∷ ds) ]
 
 with_is_within : (dry_run : Bool) (word : List ℕ) → AreWithin (with_budget dry_run word)
 with_is_within dry_run word = by (budget_in word) (budget_is_within word)
@@ -52,11 +53,13 @@ options_are_within : (ws : List (List ℕ)) → AreWithin (options ws)
 options_are_within [] = omega arith
 options_are_within (a ∷ []) =
     either_within (is_word a dry_run_word) (Some (record { dry_run = true; budget = 2000 })) None (omega arith) tt
-options_are_within (a ∷ b ∷ []) = either_within (is_word a budget_word) (with_budget false b) None (with_is_within false b) tt
+options_are_within (a ∷ b ∷ []) =
+    either_within (is_word a budget_word) (with_budget false b) None (with_is_within false b) tt
 options_are_within (a ∷ b ∷ c ∷ []) =
     either_within (is_word a dry_run_word && is_word b budget_word) (with_budget true c)
     (cond (is_word a budget_word && is_word c dry_run_word) (with_budget true b) None) (with_is_within true c)
-    (either_within (is_word a budget_word && is_word c dry_run_word) (with_budget true b) None (with_is_within true b) tt)
+    (either_within (is_word a budget_word && is_word c dry_run_word) (with_budget true b) None (with_is_within true b)
+    tt)
 options_are_within (a ∷ b ∷ c ∷ d ∷ ws) = tt
 
 -- ---- forms
@@ -74,7 +77,8 @@ either_budgeted false x y h k = k
 planned_budgeted : (task : Task) (o : Option Options) → AreWithin o → IsBudgeted (option_map (planned task) o)
 planned_budgeted task None h = tt
 planned_budgeted task (Some given) h =
-    elim given.dry_run as (λ b. IsBudgeted (Some (cond b (plan task given.budget) (change task given.budget)))) [ true ↦ h | false ↦ h ]
+    elim given.dry_run as (λ b. IsBudgeted (Some (cond b (plan task given.budget) (change task given.budget))))
+    [ true ↦ h | false ↦ h ]
 
 plan_budgeted : (command word : List ℕ) (ws : List (List ℕ)) → IsBudgeted (form_of_plan command word ws)
 plan_budgeted command word ws = by (task_of command word)
@@ -94,7 +98,8 @@ demo_budgeted seed (a ∷ b ∷ ws) = tt
 
 check_budgeted : (patch : List ℕ) (ws : List (List ℕ)) → IsBudgeted (form_of_check patch ws)
 check_budgeted patch [] = tt
-check_budgeted patch (saved ∷ []) = either_budgeted (is_positional patch && is_positional saved) (Some (check_plan patch saved)) None tt tt
+check_budgeted patch (saved ∷ []) =
+    either_budgeted (is_positional patch && is_positional saved) (Some (check_plan patch saved)) None tt tt
 check_budgeted patch (a ∷ b ∷ ws) = tt
 
 resume_budgeted : (ws : List (List ℕ)) → IsBudgeted (form_of_resume ws)
@@ -136,7 +141,8 @@ listing a = cond (is_word a (codes "list-checkpoints")) (Some list_checkpoints) 
 
 -- the forms of two words that come after the first one
 abbrev deleting : (a b : List ℕ) → Option Form
-deleting a b = cond (is_word a (codes "delete-checkpoint") && is_positional b) (Some (delete_checkpoint b)) (form_of_plan a b [])
+deleting a b = cond (is_word a (codes "delete-checkpoint") && is_positional b) (Some (delete_checkpoint b))
+    (form_of_plan a b [])
 
 abbrev saving : (a b : List ℕ) → Option Form
 saving a b = cond (is_word a (codes "checkpoint") && is_positional b) (Some (save_checkpoint b)) (deleting a b)
@@ -146,12 +152,17 @@ form_is_budgeted [] = tt
 form_is_budgeted (a ∷ []) =
     either_budgeted (is_word a (codes "check")) (Some check) (listing a) tt
     (either_budgeted (is_word a (codes "list-checkpoints")) (Some list_checkpoints) (migrating a) tt
-    (either_budgeted (is_word a (codes "migrate-checkpoints")) (Some migrate_checkpoints) (form_of_interruption a) tt (interruption_budgeted a)))
+    (either_budgeted (is_word a (codes "migrate-checkpoints")) (Some migrate_checkpoints) (form_of_interruption a) tt
+    (interruption_budgeted a)))
 form_is_budgeted (a ∷ b ∷ []) =
     either_budgeted (is_word a (codes "preview") && is_positional b) (Some (preview b)) (saving a b) tt
     (either_budgeted (is_word a (codes "checkpoint") && is_positional b) (Some (save_checkpoint b)) (deleting a b) tt
-    (either_budgeted (is_word a (codes "delete-checkpoint") && is_positional b) (Some (delete_checkpoint b)) (form_of_plan a b []) tt (plan_budgeted a b [])))
+    (either_budgeted (is_word a (codes "delete-checkpoint") && is_positional b) (Some (delete_checkpoint b))
+    (form_of_plan a b []) tt (plan_budgeted a b [])))
 form_is_budgeted (a ∷ b ∷ c ∷ ws) =
-    either_budgeted (is_word a (codes "demo")) (form_of_demo b (c ∷ ws)) (resuming_more a b (c ∷ ws)) (demo_budgeted b (c ∷ ws))
-    (either_budgeted (is_word a (codes "resume")) (form_of_resume (b ∷ c ∷ ws)) (checking a b (c ∷ ws)) (resume_budgeted (b ∷ c ∷ ws))
-    (either_budgeted (is_word a (codes "check-plan")) (form_of_check b (c ∷ ws)) (form_of_plan a b (c ∷ ws)) (check_budgeted b (c ∷ ws)) (plan_budgeted a b (c ∷ ws))))
+    either_budgeted (is_word a (codes "demo")) (form_of_demo b (c ∷ ws)) (resuming_more a b (c ∷ ws))
+    (demo_budgeted b (c ∷ ws))
+    (either_budgeted (is_word a (codes "resume")) (form_of_resume (b ∷ c ∷ ws)) (checking a b (c ∷ ws))
+    (resume_budgeted (b ∷ c ∷ ws))
+    (either_budgeted (is_word a (codes "check-plan")) (form_of_check b (c ∷ ws)) (form_of_plan a b (c ∷ ws))
+    (check_budgeted b (c ∷ ws)) (plan_budgeted a b (c ∷ ws))))

@@ -45,8 +45,11 @@ promised_by words faults host began ended result is answers cause crash headline
 
 -- and so is what is promised of words that name a scope
 pub scoped_by : (words : List (List ℕ)) (faults : Faults) (host began ended : MemoryHost) (result : Outcome)
-    → began ≡ faulty_by faults host → IsPromisedInScope words began ended result → IsPromisedInScope words (faulty_by faults host) ended result
-scoped_by words faults host began ended result is promised = subst (λ (m : MemoryHost). IsPromisedInScope words m ended result) is promised
+    → began ≡ faulty_by faults host → IsPromisedInScope words began ended result
+    → IsPromisedInScope words (faulty_by faults host) ended result
+scoped_by words faults host began ended result is promised =
+    subst (λ (m : MemoryHost). IsPromisedInScope words m ended result) is promised
 
-pub goes_by : (faults : Faults) (host began ended : MemoryHost) → began ≡ faulty_by faults host → GoesOn began ended → GoesOn (faulty_by faults host) ended
+pub goes_by : (faults : Faults) (host began ended : MemoryHost) → began ≡ faulty_by faults host → GoesOn began ended
+    → GoesOn (faulty_by faults host) ended
 goes_by faults host began ended is goes = subst (λ (m : MemoryHost). GoesOn m ended) is goes

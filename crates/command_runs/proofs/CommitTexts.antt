@@ -22,7 +22,8 @@ use Rattle.command_runs.proofs.WorkOutputs.{AreToldBy}
 
 -- scripts keep what every world keeps
 abbrev pub KeepsWorlds : Type 0
-KeepsWorlds = (p : Operating) (text : List ℕ) (after : WorldState) → IsValidIn p.ctx p.start → IsOperated p text after → IsKept after
+KeepsWorlds = (p : Operating) (text : List ℕ) (after : WorldState) → IsValidIn p.ctx p.start → IsOperated p text after
+    → IsKept after
 
 -- ---- a turn
 
@@ -31,9 +32,11 @@ abbrev Adds : WorldState → Reply → WorldState → Type 0
 Adds w reply next = moves_of next.commits ≡ moves_of w.commits ++ committed reply []
 
 -- nothing is committed
-still : (w next : WorldState) (reply told : Reply) → reply ≡ told → next.commits ≡ w.commits → committed told [] ≡ [] → Adds w reply next
+still : (w next : WorldState) (reply told : Reply) → reply ≡ told → next.commits ≡ w.commits → committed told [] ≡ []
+    → Adds w reply next
 still w next reply told is same none =
-    ap moves_of same ∙ sym (append-nil (moves_of w.commits)) ∙ ap (λ (ms : List Move). moves_of w.commits ++ ms) (sym none)
+    ap moves_of same ∙ sym (append-nil (moves_of w.commits)) ∙ ap (λ (ms : List Move). moves_of w.commits ++ ms)
+    (sym none)
     ∙ ap (λ (r : Reply). moves_of w.commits ++ committed r []) (sym is)
 
 commits_of : {w next : WorldState} → next ≡ w → next.commits ≡ w.commits
@@ -54,22 +57,27 @@ module _ (w : WorldState) (name : List ℕ) (reply : Reply) (next : WorldState) 
 
   step_adds : (found : Option Session) → IsStep w name found reply next → Adds w reply next
   step_adds None turn = still w next reply Unknown turn.0 (commits_of turn.1) refl
-  step_adds (Some s) (inl turn) = still w next reply (Moved s.seen (length w.commits)) turn.1.0 (commits_of turn.1.1) refl
+  step_adds (Some s) (inl turn) =
+      still w next reply (Moved s.seen (length w.commits)) turn.1.0 (commits_of turn.1.1) refl
   step_adds (Some s) (inr turn) = next_adds s.goal s.rest turn.1
 
   retarget_adds : (aim : Aim) (found : Option Session) → IsRetarget w name aim found reply next → Adds w reply next
   retarget_adds aim None turn = still w next reply Unknown turn.0 (commits_of turn.1) refl
   retarget_adds (Refusal number) (Some s) turn = still w next reply (Refused number) turn.0 (commits_of turn.1) refl
-  retarget_adds (Towards goal plan) (Some s) turn = still w next reply (Retargeted (length plan)) turn.1 (commits_of turn.2) refl
+  retarget_adds (Towards goal plan) (Some s) turn =
+      still w next reply (Retargeted (length plan)) turn.1 (commits_of turn.2) refl
 
   end_adds : (found : Option Session) → IsEnd w name found reply next → Adds w reply next
   end_adds None turn = still w next reply Unknown turn.0 (commits_of turn.1) refl
   end_adds (Some s) turn = still w next reply (Ended turn.0) turn.2 (commits_of turn.3) refl
 
-turn_adds : (patches : List Patched) (budget : ℕ) (w next : WorldState) (line : ScriptLine) (reply : Reply) → IsTurnOf patches budget w line reply next → Adds w reply next
-turn_adds patches budget w next (Begin name file) reply turn = begin_adds w name reply next turn.0 (session_of name w) turn.2
+turn_adds : (patches : List Patched) (budget : ℕ) (w next : WorldState) (line : ScriptLine) (reply : Reply)
+    → IsTurnOf patches budget w line reply next → Adds w reply next
+turn_adds patches budget w next (Begin name file) reply turn =
+    begin_adds w name reply next turn.0 (session_of name w) turn.2
 turn_adds patches budget w next (Step name) reply turn = step_adds w name reply next (session_of name w) turn
-turn_adds patches budget w next (Retarget name file) reply turn = retarget_adds w name reply next turn.0 (session_of name w) turn.2
+turn_adds patches budget w next (Retarget name file) reply turn =
+    retarget_adds w name reply next turn.0 (session_of name w) turn.2
 turn_adds patches budget w next (End name) reply turn = end_adds w name reply next (session_of name w) turn
 
 -- ---- all lines
@@ -84,19 +92,23 @@ told_named [] replies named = tt
 told_named (line ∷ lines) [] named = tt
 told_named (line ∷ lines) (reply ∷ replies) named = (named.0, told_named lines replies named.1)
 
-lines_told : (lines : List ScriptLine) (replies : List Reply) → reply_lines lines replies ≡ told_lines (told_of lines replies)
+lines_told : (lines : List ScriptLine) (replies : List Reply)
+    → reply_lines lines replies ≡ told_lines (told_of lines replies)
 lines_told [] replies = refl
 lines_told (line ∷ lines) [] = refl
-lines_told (line ∷ lines) (reply ∷ replies) = ap (λ (t : List ℕ). reply_line (name_of line) reply ++ t) (lines_told lines replies)
+lines_told (line ∷ lines) (reply ∷ replies) =
+    ap (λ (t : List ℕ). reply_line (name_of line) reply ++ t) (lines_told lines replies)
 
 -- the one that is committed stands before the others
 committed_first : (r : Reply) (ms : List Move) → committed r [] ++ ms ≡ committed r ms
 committed_first (Applied m) ms = refl
 committed_first other ms = refl
 
-run_adds : (patches : List Patched) (budget : ℕ) (w after : WorldState) (lines : List ScriptLine) (replies : List Reply) → IsRunOf patches budget w lines replies after
+run_adds : (patches : List Patched) (budget : ℕ) (w after : WorldState) (lines : List ScriptLine)
+    (replies : List Reply) → IsRunOf patches budget w lines replies after
     → moves_of after.commits ≡ moves_of w.commits ++ moves_told (told_of lines replies)
-run_adds patches budget w after [] [] is = ap (λ (v : WorldState). moves_of v.commits) is ∙ sym (append-nil (moves_of w.commits))
+run_adds patches budget w after [] [] is =
+    ap (λ (v : WorldState). moves_of v.commits) is ∙ sym (append-nil (moves_of w.commits))
 run_adds patches budget w after [] (reply ∷ replies) never = absurd never
 run_adds patches budget w after (line ∷ lines) [] never = absurd never
 run_adds patches budget w after (line ∷ lines) (reply ∷ replies) (next, turn, run) =
@@ -109,7 +121,8 @@ run_adds patches budget w after (line ∷ lines) (reply ∷ replies) (next, turn
 -- ---- the whole
 
 -- what operators commit is told by what they are told
-pub operated_told : KeepsWorlds → (p : Operating) (ms : List Move) (text : List ℕ) (after : WorldState) → AreNamed p.lines → IsValidIn p.ctx p.start
+pub operated_told : KeepsWorlds → (p : Operating) (ms : List Move) (text : List ℕ) (after : WorldState)
+    → AreNamed p.lines → IsValidIn p.ctx p.start
     → IsOperated p text after → ms ≡ moves_of after.commits → AreToldBy ms text
 operated_told keeps p ms text after named valid is moves =
     inr (told, told_named p.lines is.0 named, moves ∙ same, subst FitTheirPlaces (sym moves) fit, text_is)

@@ -29,7 +29,8 @@ not_escaped x e = (
 )
 
 escaped_by : (x : ℕ) (b c : Bool) → nat_lt 0 (escape_letter x) ≡ b → nat_lt x 32 ≡ c
-    → Escaped x (cond b (92 ∷ escape_letter x ∷ []) (cond c (92 ∷ 117 ∷ 48 ∷ 48 ∷ digit_char (x / 16) ∷ digit_char (x % 16) ∷ []) (x ∷ [])))
+    → Escaped x (cond b (92 ∷ escape_letter x ∷ [])
+    (cond c (92 ∷ 117 ∷ 48 ∷ 48 ∷ digit_char (x / 16) ∷ digit_char (x % 16) ∷ []) (x ∷ [])))
 escaped_by x true c some low = short (grind (arith, nat_tests))
 escaped_by x false true none low = long (grind (arith, nat_tests))
 escaped_by x false false none high = let h = not_escaped x none in itself h.0 h.1
@@ -61,12 +62,16 @@ bytes_split x y _ _ r s (long low) (short some) e = let l : escape_letter y ≡ 
 bytes_split x y _ _ r s (long low) (long less) e =
     let high : digit_char (x / 16) ≡ digit_char (y / 16) = cc in
     let lower : digit_char (x % 16) ≡ digit_char (y % 16) = cc in
-    let rest : r ≡ s = cc in
-    (halves_are_one x y (digits_are_one (x / 16) (y / 16) (omega arith) (omega arith) high) (digits_are_one (x % 16) (y % 16) (omega arith) (omega arith) lower), rest)
+    let rest : r ≡ s = cc in (
+      halves_are_one x y (digits_are_one (x / 16) (y / 16) (omega arith) (omega arith) high)
+          (digits_are_one (x % 16) (y % 16) (omega arith) (omega arith) lower),
+      rest,
+    )
 bytes_split x y _ _ r s (long low) (itself unquoted unbroken) e = let l : y ≡ 92 = cc in absurd (unbroken l)
 bytes_split x y _ _ r s (itself unquoted unbroken) (short some) e = let l : x ≡ 92 = cc in absurd (unbroken l)
 bytes_split x y _ _ r s (itself unquoted unbroken) (long low) e = let l : x ≡ 92 = cc in absurd (unbroken l)
-bytes_split x y _ _ r s (itself unquoted unbroken) (itself plain whole) e = let l : x ≡ y = cc in let rest : r ≡ s = cc in (l, rest)
+bytes_split x y _ _ r s (itself unquoted unbroken) (itself plain whole) e = let l : x ≡ y = cc in
+    let rest : r ≡ s = cc in (l, rest)
 
 -- what is escaped doesn't begin with a quotation mark
 no_quote : (x : ℕ) (a r s : List ℕ) → Escaped x a → a ++ r ≡ 34 ∷ s → ⊥
@@ -79,11 +84,14 @@ no_quote x _ r s (itself unquoted unbroken) e = unquoted (heads x 34 r s e)
 texts_split : (s t : List ℕ) (x y : List ℕ) → escape s ++ 34 ∷ x ≡ escape t ++ 34 ∷ y → (s ≡ t) × (x ≡ y)
 texts_split [] [] x y e = let rest : x ≡ y = cc in (refl, rest)
 texts_split [] (b ∷ t) x y e =
-    absurd (no_quote b (escape_byte b) (escape t ++ 34 ∷ y) x (is_escaped b) (sym (append_assoc (escape_byte b) (escape t) (34 ∷ y)) ∙ sym e))
+    absurd (no_quote b (escape_byte b) (escape t ++ 34 ∷ y) x (is_escaped b)
+    (sym (append_assoc (escape_byte b) (escape t) (34 ∷ y)) ∙ sym e))
 texts_split (a ∷ s) [] x y e =
-    absurd (no_quote a (escape_byte a) (escape s ++ 34 ∷ x) y (is_escaped a) (sym (append_assoc (escape_byte a) (escape s) (34 ∷ x)) ∙ e))
+    absurd (no_quote a (escape_byte a) (escape s ++ 34 ∷ x) y (is_escaped a)
+    (sym (append_assoc (escape_byte a) (escape s) (34 ∷ x)) ∙ e))
 texts_split (a ∷ s) (b ∷ t) x y e =
-    let first = bytes_split a b (escape_byte a) (escape_byte b) (escape s ++ 34 ∷ x) (escape t ++ 34 ∷ y) (is_escaped a) (is_escaped b)
+    let first = bytes_split a b (escape_byte a) (escape_byte b) (escape s ++ 34 ∷ x) (escape t ++ 34 ∷ y)
+    (is_escaped a) (is_escaped b)
     (sym (append_assoc (escape_byte a) (escape s) (34 ∷ x)) ∙ e ∙ append_assoc (escape_byte b) (escape t) (34 ∷ y)) in
     let more = texts_split s t x y first.1 in
     let head : a ≡ b = first.0 in let tail : s ≡ t = more.0 in let same : a ∷ s ≡ b ∷ t = cc in
@@ -127,10 +135,12 @@ abbrev OthersSplit : Members → Type 0
 OthersSplit ms = (ns : Members) (x y : List ℕ) → members_behind ms ++ x ≡ members_behind ns ++ y → (ms ≡ ns) × (x ≡ y)
 
 member_split : (k l : List ℕ) (c d : Document) (ms ns : Members) (x y : List ℕ) → Splits c → OthersSplit ms
-    → (quoted k ++ 58 ∷ (compact c ++ members_behind ms)) ++ x ≡ (quoted l ++ 58 ∷ (compact d ++ members_behind ns)) ++ y
+    → (quoted k ++ 58 ∷ (compact c ++ members_behind ms)) ++ x ≡ (quoted l ++ 58 ∷ (compact d ++ members_behind ns)) ++
+    y
     → (member k c ms ≡ member l d ns) × (x ≡ y)
 member_split k l c d ms ns x y one later e =
-    let name = quoted_split k l (58 ∷ ((compact c ++ members_behind ms) ++ x)) (58 ∷ ((compact d ++ members_behind ns) ++ y))
+    let name = quoted_split k l (58 ∷ ((compact c ++ members_behind ms) ++ x))
+    (58 ∷ ((compact d ++ members_behind ns) ++ y))
     (sym (append_assoc (quoted k) (58 ∷ (compact c ++ members_behind ms)) x) ∙ e
     ∙ append_assoc (quoted l) (58 ∷ (compact d ++ members_behind ns)) y) in
     let inner = tails 58 58 ((compact c ++ members_behind ms) ++ x) ((compact d ++ members_behind ns) ++ y) name.1 in
@@ -157,7 +167,8 @@ mutual
   compacts_split (object ms) (object ns) x y e =
       let h = members_split ms ns x y (tails 123 123 _ _ e) in (ap object h.0, h.1)
 
-  items_split : (cs ds : Items) (x y : List ℕ) → items_text false (item_values cs) ++ x ≡ items_text false (item_values ds) ++ y
+  items_split : (cs ds : Items) (x y : List ℕ)
+      → items_text false (item_values cs) ++ x ≡ items_text false (item_values ds) ++ y
       → (cs ≡ ds) × (x ≡ y)
   items_split no_items no_items x y e = (refl, tails 93 93 x y e)
   items_split no_items (item d ds) x y e =
@@ -172,9 +183,11 @@ mutual
   later_split no_items (item d ds) x y e = let h : 93 ≡ 44 = heads 93 44 _ _ e in absurd (omega (arith, h))
   later_split (item c cs) no_items x y e = let h : 44 ≡ 93 = heads 44 93 _ _ e in absurd (omega (arith, h))
   later_split (item c cs) (item d ds) x y e =
-      one_split c d cs ds x y (λ w r s h. compacts_split c w r s h) (λ ws r s h. later_split cs ws r s h) (tails 44 44 _ _ e)
+      one_split c d cs ds x y (λ w r s h. compacts_split c w r s h) (λ ws r s h. later_split cs ws r s h)
+      (tails 44 44 _ _ e)
 
-  members_split : (ms ns : Members) (x y : List ℕ) → members_text false (member_values ms) ++ x ≡ members_text false (member_values ns) ++ y
+  members_split : (ms ns : Members) (x y : List ℕ)
+      → members_text false (member_values ms) ++ x ≡ members_text false (member_values ns) ++ y
       → (ms ≡ ns) × (x ≡ y)
   members_split no_members no_members x y e = (refl, tails 125 125 x y e)
   members_split no_members (member l d ns) x y e = let h : 125 ≡ 34 = heads 125 34 _ _ e in absurd (omega (arith, h))
@@ -182,9 +195,11 @@ mutual
   members_split (member k c ms) (member l d ns) x y e =
       member_split k l c d ms ns x y (λ w r s h. compacts_split c w r s h) (λ ws r s h. others_split ms ws r s h) e
 
-  others_split : (ms ns : Members) (x y : List ℕ) → members_behind ms ++ x ≡ members_behind ns ++ y → (ms ≡ ns) × (x ≡ y)
+  others_split : (ms ns : Members) (x y : List ℕ) → members_behind ms ++ x ≡ members_behind ns ++ y
+      → (ms ≡ ns) × (x ≡ y)
   others_split no_members no_members x y e = (refl, tails 125 125 x y e)
   others_split no_members (member l d ns) x y e = let h : 125 ≡ 44 = heads 125 44 _ _ e in absurd (omega (arith, h))
   others_split (member k c ms) no_members x y e = let h : 44 ≡ 125 = heads 44 125 _ _ e in absurd (omega (arith, h))
   others_split (member k c ms) (member l d ns) x y e =
-      member_split k l c d ms ns x y (λ w r s h. compacts_split c w r s h) (λ ws r s h. others_split ms ws r s h) (tails 44 44 _ _ e)
+      member_split k l c d ms ns x y (λ w r s h. compacts_split c w r s h) (λ ws r s h. others_split ms ws r s h)
+      (tails 44 44 _ _ e)

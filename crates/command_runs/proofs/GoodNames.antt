@@ -1,4 +1,5 @@
--- Good names, of operators and of checkpoints: none has a space or ends a line, and all checkpoints of a folder have them.
+-- Good names, of operators and of checkpoints: none has a space or ends a line, and all checkpoints of a
+-- folder have them.
 use Rattle.std.proofs.Common.{◌≡◌, ◌≢◌, ℕ, List, [], ◌∷◌, ◌++◌, Bool, true, false, cond, ◌&&◌, map, Some, refl, sym, ap, ◌∙◌, subst, Option, None}
 use Rattle.std.specs.Prelude.{filter, option_map}
 use Rattle.std.specs.List.{cons_option, list_all}
@@ -37,10 +38,14 @@ abbrev pub Lacks : ℕ → List ℕ → Type 0
 Lacks c [] = Unit {0}
 Lacks c (b ∷ bs) = (b ≢ c) × Lacks c bs
 
-pub name_lacks : (c : ℕ) → (is_name_character c ≡ true → ⊥) → (n : List ℕ) → list_all is_name_character n ≡ true → Lacks c n
+pub name_lacks : (c : ℕ) → (is_name_character c ≡ true → ⊥) → (n : List ℕ) → list_all is_name_character n ≡ true
+    → Lacks c n
 name_lacks c none [] good = tt
-name_lacks c none (b ∷ n) good =
-    (λ is. none (subst (λ d. is_name_character d ≡ true) is (first_true (is_name_character b) _ good)), name_lacks c none n (both_true (is_name_character b) _ good))
+name_lacks c none (b ∷ n) good = (
+  λ is. none (subst (λ d. is_name_character d ≡ true) is (first_true (is_name_character b) _ good)),
+  name_lacks c
+      none n (both_true (is_name_character b) _ good),
+)
 
 pub no_space : is_name_character 32 ≡ true → ⊥
 no_space e = cc
@@ -82,16 +87,20 @@ tie_of x y ties = finmap.slice_cmp-IsAntisymmetric finmap.nat_cmp-IsAntisymmetri
 abbrev points_in : List (List ℕ × List ℕ) → List (List ℕ × Held)
 points_in es = map point (filter (λ f. is_point_file f.0) es)
 
-found_good : (es : List (List ℕ × List ℕ)) (k : List ℕ) (v : Held) → find name_cmp k (points_in es) ≡ Some v → is_good_name k ≡ true
+found_good : (es : List (List ℕ × List ℕ)) (k : List ℕ) (v : Held) → find name_cmp k (points_in es) ≡ Some v
+    → is_good_name k ≡ true
 found_good [] k v e = absurd cc
-found_good (f ∷ es) k v e = by (is_point_file f.0) refl (is_eq (name_cmp k (point_name f.0))) refl (λ h. found_good es k v h) e
+found_good (f ∷ es) k v e =
+    by (is_point_file f.0) refl (is_eq (name_cmp k (point_name f.0))) refl (λ h. found_good es k v h) e
   where
     by : (b : Bool) → is_point_file f.0 ≡ b → (c : Bool) → is_eq (name_cmp k (point_name f.0)) ≡ c
         → (find name_cmp k (points_in es) ≡ Some v → is_good_name k ≡ true)
-        → find name_cmp k (map point (cond b (f ∷ filter (λ g. is_point_file g.0) es) (filter (λ g. is_point_file g.0) es))) ≡ Some v
+        → find name_cmp k (map point (cond b (f ∷ filter (λ g. is_point_file g.0) es)
+        (filter (λ g. is_point_file g.0) es))) ≡ Some v
         → is_good_name k ≡ true
     by false not c is later h = later h
-    by true good true is later h = ap is_good_name (tie_of k (point_name f.0) is) ∙ both_true _ (is_good_name (point_name f.0)) good
+    by true good true is later h =
+        ap is_good_name (tie_of k (point_name f.0) is) ∙ both_true _ (is_good_name (point_name f.0)) good
     by true good false is later h =
         later (sym (ap (λ t. cond t (Some (held f.1)) (find name_cmp k (points_in es))) is) ∙ h)
 
@@ -101,10 +110,14 @@ AreGood [] = Unit {0}
 AreGood (k ∷ ks) = (is_good_name k ≡ true) × AreGood ks
 
 -- each key of a map has a value
-all_found : (es : List (List ℕ × Held)) → ((k : List ℕ) (v : Held) → find name_cmp k es ≡ Some v → is_good_name k ≡ true) → AreGood (map (λ e. e.0) es)
+all_found : (es : List (List ℕ × Held))
+    → ((k : List ℕ) (v : Held) → find name_cmp k es ≡ Some v → is_good_name k ≡ true) → AreGood (map (λ e. e.0) es)
 all_found [] found = tt
-all_found (f ∷ es) found =
-    (found f.0 f.1 (ap (λ t. cond t (Some f.1) (find name_cmp f.0 es)) (ap is_eq (tied_itself nat_list_cmp_total f.0))), all_found es (λ k v e. later k v e))
+all_found (f ∷ es) found = (
+  found f.0 f.1 (ap (λ t. cond t (Some f.1) (find name_cmp f.0 es))
+      (ap is_eq (tied_itself nat_list_cmp_total f.0))),
+  all_found es (λ k v e. later k v e),
+)
   where
     later : (k : List ℕ) (v : Held) → find name_cmp k es ≡ Some v → is_good_name k ≡ true
     later k v e = by (is_eq (name_cmp k f.0)) refl
@@ -116,7 +129,9 @@ all_found (f ∷ es) found =
 pub points_good : (files : Files) → AreGood (keys (points files))
 points_good files =
     all_found (entries (points files))
-    (λ k v e. found_good (entries files) k v (sym (finmap.get-from_entries nat_list_cmp_total (points_in (entries files)) k) ∙ finmap.get-entries (points files) k ∙ e))
+    (λ k v e. found_good (entries files) k v
+    (sym (finmap.get-from_entries nat_list_cmp_total (points_in (entries files)) k)
+    ∙ finmap.get-entries (points files) k ∙ e))
 
 -- ---- those that are put anew
 
@@ -131,7 +146,8 @@ one_more_good k (Some c) news good all = (good, all)
 
 news_good : (files : Files) (ks : List (List ℕ)) → AreGood ks → HaveGoodNames (new_files files ks)
 news_good files [] good = tt
-news_good files (k ∷ ks) good = one_more_good k (old_point files k) (new_files files ks) good.0 (news_good files ks good.1)
+news_good files (k ∷ ks) good =
+    one_more_good k (old_point files k) (new_files files ks) good.0 (news_good files ks good.1)
 
 pub migration_good : (files : Files) → HaveGoodNames (migration files)
 migration_good files = news_good files (keys (points files)) (points_good files)

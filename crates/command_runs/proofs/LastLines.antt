@@ -18,13 +18,16 @@ last_line_is_quiet other = acked.other 114 _ (omega arith) (omega arith)
 
 numbered_has_no_told : (n : ℕ) (rest : List ℕ) → HasNoTold (numbered_line n rest)
 numbered_has_no_told n rest =
-    number_has_no_told (codes "refused") (omega arith, (omega arith, (omega arith, (omega arith, (omega arith, (omega arith, (omega arith, tt)))))))
+    number_has_no_told (codes "refused")
+    (omega arith, (omega arith, (omega arith, (omega arith, (omega arith, (omega arith, (omega arith, tt)))))))
     (λ e. let h = heads 99 114 _ _ e in omega (arith, h))
     (((decimal n ++ space) ++ rest) ++ line_feed)
-    (low_more ((decimal n ++ space) ++ rest) line_feed (low_more (decimal n ++ space) rest (low_more (decimal n) space (decimal_is_low n))))
+    (low_more ((decimal n ++ space) ++ rest) line_feed
+    (low_more (decimal n ++ space) rest (low_more (decimal n) space (decimal_is_low n))))
 
 pub last_line_has_no_told : (e : Outcome) → HasNoTold (last_line e)
-last_line_has_no_told Done = one_word_has_no_told (last_line Done) (omega arith, (omega arith, (omega arith, (omega arith, (omega arith, tt)))))
+last_line_has_no_told Done =
+    one_word_has_no_told (last_line Done) (omega arith, (omega arith, (omega arith, (omega arith, (omega arith, tt)))))
 last_line_has_no_told (PrintFault step) = one_word_has_no_told [] tt
 last_line_has_no_told other = numbered_has_no_told (number other) (said other)
 
@@ -41,5 +44,6 @@ pub service_is_plain : (step service : ℕ) (name text : List ℕ) → text ≡ 
 service_is_plain step service name text is =
     subst IsPlain (sym is) (
       acked.other 114 _ (omega arith) (omega arith),
-      numbered_has_no_told (number (ServiceFault step service)) ((said (ServiceFault step service) ++ space) ++ quoted name),
+      numbered_has_no_told (number (ServiceFault step service))
+          ((said (ServiceFault step service) ++ space) ++ quoted name),
     )

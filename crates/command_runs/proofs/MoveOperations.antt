@@ -108,52 +108,72 @@ puts_told : ReadsTokens → (m : List (List ℕ) → Part → Move) (p q : List 
     → pointer p ≡ pointer q → part_tree v ≡ part_tree w → m p v ≡ m q w
 puts_told reads m p q v w fit fits at e =
     let place = pointer_told reads p q at in
-    ap (λ (r : List (List ℕ)). m r v) place ∙ ap (m q) (part_told q v w (subst (λ (r : List (List ℕ)). Fits r v) place fit) fits e)
+    ap (λ (r : List (List ℕ)). m r v) place
+    ∙ ap (m q) (part_told q v w (subst (λ (r : List (List ℕ)). Fits r v) place fit) fits e)
 
 -- what a move of an item names is no place of a part
-no_part : ReadsTokens → (p q : Tokens) (i : ℕ) → length p ≤ 3 → length q ≡ 3 → pointer p ≡ pointer (q ++ index_text i ∷ []) → ⊥
+no_part : ReadsTokens → (p q : Tokens) (i : ℕ) → length p ≤ 3 → length q ≡ 3
+    → pointer p ≡ pointer (q ++ index_text i ∷ []) → ⊥
 no_part reads p q i few three e =
     let same = pointer_told reads p (q ++ index_text i ∷ []) e in
     omega (arith, few, three, ap length same, length-append q (index_text i ∷ []))
 
 -- the field and the index of an item are told by the pointer
-item_told : ReadsTokens → (p q : Tokens) (i j : ℕ) → pointer (p ++ index_text i ∷ []) ≡ pointer (q ++ index_text j ∷ []) → (p ≡ q) × (i ≡ j)
+item_told : ReadsTokens → (p q : Tokens) (i j : ℕ)
+    → pointer (p ++ index_text i ∷ []) ≡ pointer (q ++ index_text j ∷ []) → (p ≡ q) × (i ≡ j)
 item_told reads p q i j e = items_told p q i j (pointer_told reads (p ++ index_text i ∷ []) (q ++ index_text j ∷ []) e)
 
 pub move_is_told : ReadsTokens → (m n : Move) → FitsItsPlace m → FitsItsPlace n
     → operation_document (op m) ≡ operation_document (op n) → m ≡ n
-move_is_told reads (Add p v) (Add q w) fit fits e = puts_told reads Add p q v w fit fits (ap second_of_text e) (ap third e)
-move_is_told reads (Add p v) (Remove q) fit fits e = let h : 97 ≡ 114 = heads 97 114 _ _ (ap first_of_text e) in absurd (omega (arith, h))
-move_is_told reads (Add p v) (Replace q w) fit fits e = let h : 97 ≡ 114 = heads 97 114 _ _ (ap first_of_text e) in absurd (omega (arith, h))
-move_is_told reads (Add p v) (AddItem q j y) fit fits e = absurd (no_part reads p q j (few_names p v fit) fits (ap second_of_text e))
-move_is_told reads (Add p v) (RemoveItem q j) fit fits e = let h : 97 ≡ 114 = heads 97 114 _ _ (ap first_of_text e) in absurd (omega (arith, h))
-move_is_told reads (Remove p) (Add q w) fit fits e = let h : 114 ≡ 97 = heads 114 97 _ _ (ap first_of_text e) in absurd (omega (arith, h))
+move_is_told reads (Add p v) (Add q w) fit fits e =
+    puts_told reads Add p q v w fit fits (ap second_of_text e) (ap third e)
+move_is_told reads (Add p v) (Remove q) fit fits e = let h : 97 ≡ 114 = heads 97 114 _ _ (ap first_of_text e) in
+    absurd (omega (arith, h))
+move_is_told reads (Add p v) (Replace q w) fit fits e = let h : 97 ≡ 114 = heads 97 114 _ _ (ap first_of_text e) in
+    absurd (omega (arith, h))
+move_is_told reads (Add p v) (AddItem q j y) fit fits e =
+    absurd (no_part reads p q j (few_names p v fit) fits (ap second_of_text e))
+move_is_told reads (Add p v) (RemoveItem q j) fit fits e = let h : 97 ≡ 114 = heads 97 114 _ _ (ap first_of_text e) in
+    absurd (omega (arith, h))
+move_is_told reads (Remove p) (Add q w) fit fits e = let h : 114 ≡ 97 = heads 114 97 _ _ (ap first_of_text e) in
+    absurd (omega (arith, h))
 move_is_told reads (Remove p) (Remove q) fit fits e = ap Remove (pointer_told reads p q (ap second_of_text e))
 move_is_told reads (Remove p) (Replace q w) fit fits e =
     let h : 109 ≡ 112 = heads 109 112 _ _ (ap (λ d. third_on (first_of_text d)) e) in absurd (omega (arith, h))
-move_is_told reads (Remove p) (AddItem q j y) fit fits e = let h : 114 ≡ 97 = heads 114 97 _ _ (ap first_of_text e) in absurd (omega (arith, h))
+move_is_told reads (Remove p) (AddItem q j y) fit fits e = let h : 114 ≡ 97 = heads 114 97 _ _ (ap first_of_text e) in
+    absurd (omega (arith, h))
 move_is_told reads (Remove p) (RemoveItem q j) fit fits e = absurd (no_part reads p q j fit fits (ap second_of_text e))
-move_is_told reads (Replace p v) (Add q w) fit fits e = let h : 114 ≡ 97 = heads 114 97 _ _ (ap first_of_text e) in absurd (omega (arith, h))
+move_is_told reads (Replace p v) (Add q w) fit fits e = let h : 114 ≡ 97 = heads 114 97 _ _ (ap first_of_text e) in
+    absurd (omega (arith, h))
 move_is_told reads (Replace p v) (Remove q) fit fits e =
     let h : 112 ≡ 109 = heads 112 109 _ _ (ap (λ d. third_on (first_of_text d)) e) in absurd (omega (arith, h))
-move_is_told reads (Replace p v) (Replace q w) fit fits e = puts_told reads Replace p q v w fit fits (ap second_of_text e) (ap third e)
-move_is_told reads (Replace p v) (AddItem q j y) fit fits e = let h : 114 ≡ 97 = heads 114 97 _ _ (ap first_of_text e) in absurd (omega (arith, h))
+move_is_told reads (Replace p v) (Replace q w) fit fits e =
+    puts_told reads Replace p q v w fit fits (ap second_of_text e) (ap third e)
+move_is_told reads (Replace p v) (AddItem q j y) fit fits e =
+    let h : 114 ≡ 97 = heads 114 97 _ _ (ap first_of_text e) in absurd (omega (arith, h))
 move_is_told reads (Replace p v) (RemoveItem q j) fit fits e =
     let h : 112 ≡ 109 = heads 112 109 _ _ (ap (λ d. third_on (first_of_text d)) e) in absurd (omega (arith, h))
-move_is_told reads (AddItem p i x) (Add q w) fit fits e = absurd (no_part reads q p i (few_names q w fits) fit (sym (ap second_of_text e)))
-move_is_told reads (AddItem p i x) (Remove q) fit fits e = let h : 97 ≡ 114 = heads 97 114 _ _ (ap first_of_text e) in absurd (omega (arith, h))
-move_is_told reads (AddItem p i x) (Replace q w) fit fits e = let h : 97 ≡ 114 = heads 97 114 _ _ (ap first_of_text e) in absurd (omega (arith, h))
+move_is_told reads (AddItem p i x) (Add q w) fit fits e =
+    absurd (no_part reads q p i (few_names q w fits) fit (sym (ap second_of_text e)))
+move_is_told reads (AddItem p i x) (Remove q) fit fits e = let h : 97 ≡ 114 = heads 97 114 _ _ (ap first_of_text e) in
+    absurd (omega (arith, h))
+move_is_told reads (AddItem p i x) (Replace q w) fit fits e =
+    let h : 97 ≡ 114 = heads 97 114 _ _ (ap first_of_text e) in absurd (omega (arith, h))
 move_is_told reads (AddItem p i x) (AddItem q j y) fit fits e =
     let texts : text x ≡ text y = ap third e in
     let same : x ≡ y = cc in
     let told = item_told reads p q i j (ap second_of_text e) in
     (λ k. AddItem (told.0 k) (told.1 k) (same k))
-move_is_told reads (AddItem p i x) (RemoveItem q j) fit fits e = let h : 97 ≡ 114 = heads 97 114 _ _ (ap first_of_text e) in absurd (omega (arith, h))
-move_is_told reads (RemoveItem p i) (Add q w) fit fits e = let h : 114 ≡ 97 = heads 114 97 _ _ (ap first_of_text e) in absurd (omega (arith, h))
-move_is_told reads (RemoveItem p i) (Remove q) fit fits e = absurd (no_part reads q p i fits fit (sym (ap second_of_text e)))
+move_is_told reads (AddItem p i x) (RemoveItem q j) fit fits e =
+    let h : 97 ≡ 114 = heads 97 114 _ _ (ap first_of_text e) in absurd (omega (arith, h))
+move_is_told reads (RemoveItem p i) (Add q w) fit fits e = let h : 114 ≡ 97 = heads 114 97 _ _ (ap first_of_text e) in
+    absurd (omega (arith, h))
+move_is_told reads (RemoveItem p i) (Remove q) fit fits e =
+    absurd (no_part reads q p i fits fit (sym (ap second_of_text e)))
 move_is_told reads (RemoveItem p i) (Replace q w) fit fits e =
     let h : 109 ≡ 112 = heads 109 112 _ _ (ap (λ d. third_on (first_of_text d)) e) in absurd (omega (arith, h))
-move_is_told reads (RemoveItem p i) (AddItem q j y) fit fits e = let h : 114 ≡ 97 = heads 114 97 _ _ (ap first_of_text e) in absurd (omega (arith, h))
+move_is_told reads (RemoveItem p i) (AddItem q j y) fit fits e =
+    let h : 114 ≡ 97 = heads 114 97 _ _ (ap first_of_text e) in absurd (omega (arith, h))
 move_is_told reads (RemoveItem p i) (RemoveItem q j) fit fits e =
     let told = item_told reads p q i j (ap second_of_text e) in
     (λ k. RemoveItem (told.0 k) (told.1 k))

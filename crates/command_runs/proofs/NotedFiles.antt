@@ -15,7 +15,8 @@ entries_back files =
     (λ q. finmap.get-from_entries nat_list_cmp_total (finmap.entries files) q ∙ sym (finmap.get-entries files q))
 
 -- all entries give the files
-pub noted_are_files : (noted : List (List ℕ × List ℕ)) (files : Files) → noted ≡ finmap.entries files → finmap.from_entries noted ≡ files
+pub noted_are_files : (noted : List (List ℕ × List ℕ)) (files : Files) → noted ≡ finmap.entries files
+    → finmap.from_entries noted ≡ files
 noted_are_files noted files e = ap (λ (es : List (List ℕ × List ℕ)). finmap.from_entries es) e ∙ entries_back files
 
 -- what is read of entries one by one is read of all of them

@@ -20,7 +20,8 @@ handed_counts None ended = refl
 handed_counts (Some pick) ended = refl
 
 -- what was printed behind so much
-behind : (base front whole output : List ℕ) → whole ≡ base ++ front → output ≡ drop (length base) whole → whole ≡ base ++ output
+behind : (base front whole output : List ℕ) → whole ≡ base ++ front → output ≡ drop (length base) whole
+    → whole ≡ base ++ output
 behind base front whole output is rest =
     is ∙ ap (λ (t : List ℕ). base ++ t)
     (sym (rest ∙ ap (λ (t : List ℕ). drop (length base) t) is ∙ drop-append_seam base front))
@@ -35,22 +36,28 @@ pub run_is : (stop : Stop) (host ended after : MemoryHost) (ran : Ran) (result :
     → ended.calls < 2 ^ 64 → ended.starved < 2 ^ 64
     → after ≡ handed_on stop.pick ended
     → IsRun stop host after ran
-run_is stop host ended after ran result goes promised scoped notes output status calls starved calls_fit starved_fits handed = record {
-  ended = ended;
-  result = result;
-  goes = goes;
-  notes = notes;
-  finds = noted_are_files ran.before host.state.files notes;
-  output = behind host.state.output goes.state.output.0 ended.state.output ran.output goes.state.output.1 output;
-  status = status;
-  calls = calls;
-  starved = starved;
-  promised = promised;
-  scoped = scoped;
-  handed = handed;
-  reason = λ fault.
-      let counts : after.counts ≡ ended.counts = ap (λ (m : MemoryHost). m.counts) handed ∙ handed_counts stop.pick ended in
-      let is : IsFault (number result) = (subst (λ (n : ℕ). 3 ≤ n) status fault.0, subst (λ (n : ℕ). n ≤ 6) status fault.1) in
-      subst (HasReason stop.faults ran) (sym counts)
-      (reason_of stop.faults host ended ran goes calls starved calls_fit starved_fits result promised.cause is);
-}
+run_is stop host ended after ran result goes promised scoped notes output status calls starved calls_fit starved_fits
+    handed = record {
+      ended = ended;
+      result = result;
+      goes = goes;
+      notes = notes;
+      finds = noted_are_files ran.before host.state.files notes;
+      output = behind host.state.output goes.state.output.0 ended.state.output ran.output goes.state.output.1 output;
+      status = status;
+      calls = calls;
+      starved = starved;
+      promised = promised;
+      scoped = scoped;
+      handed = handed;
+      reason = λ fault.
+          let counts : after.counts ≡ ended.counts = ap (λ (m : MemoryHost). m.counts) handed
+          ∙ handed_counts stop.pick ended in
+          let is : IsFault (number result) = (
+            subst (λ (n : ℕ). 3 ≤ n) status fault.0,
+            subst (λ (n : ℕ). n ≤ 6) status
+                fault.1,
+          ) in
+          subst (HasReason stop.faults ran) (sym counts)
+          (reason_of stop.faults host ended ran goes calls starved calls_fit starved_fits result promised.cause is);
+    }

@@ -10,10 +10,12 @@ use Rattle.command_runs.proofs.MoveOperations.{ReadsTokens}
 use Rattle.command_runs.proofs.PlanLines.{plans_split}
 
 -- a plan is told by its text
-pub plans_are_told : ReadsTokens → (ms ns : List Move) → FitTheirPlaces ms → FitTheirPlaces ns → length ms < 2 ^ 64 → length ns < 2 ^ 64
+pub plans_are_told : ReadsTokens → (ms ns : List Move) → FitTheirPlaces ms → FitTheirPlaces ns → length ms < 2 ^ 64
+    → length ns < 2 ^ 64
     → plan_text ms ≡ plan_text ns → ms ≡ ns
 plans_are_told reads ms ns fit fits few fewer e =
-    let h = plans_split reads ms ns [] [] fit fits few fewer (append-nil (plan_text ms) ∙ e ∙ sym (append-nil (plan_text ns))) in
+    let h = plans_split reads ms ns [] [] fit fits few fewer
+    (append-nil (plan_text ms) ∙ e ∙ sym (append-nil (plan_text ns))) in
     h.0
 
 -- a text at whose head stands no whole plan

@@ -1,4 +1,5 @@
--- What is printed of checkpoints begins with no step of a plan and with no reply: their names have no space and rise, so
+-- What is printed of checkpoints begins with no step of a plan and with no reply: their names have no space
+-- and rise, so
 -- that a line `plan N` or `commits N` has at most names behind it that come later.
 use Rattle.std.proofs.Common.{◌≡◌, ◌≢◌, ℕ, List, [], ◌∷◌, ◌++◌, Bool, true, false, ◌&&◌, T, map, refl, sym, ap, ◌∙◌, subst, arith, length, append_assoc, Option, Some, None, is_lt}
 use Rattle.std.specs.Prelude.{codes, decimal}
@@ -47,13 +48,16 @@ less_of Equal p = absurd p
 less_of Greater p = absurd p
 
 -- the second name comes later than the first
-second_later : (es : List (List ℕ × Held)) (n k : List ℕ) (ks : List (List ℕ)) → T (is_sorted name_cmp es) → map (λ e. e.0) es ≡ n ∷ k ∷ ks → name_cmp n k ≡ Less
+second_later : (es : List (List ℕ × Held)) (n k : List ℕ) (ks : List (List ℕ)) → T (is_sorted name_cmp es)
+    → map (λ e. e.0) es ≡ n ∷ k ∷ ks → name_cmp n k ≡ Less
 second_later [] n k ks sorted e = absurd cc
 second_later (a ∷ []) n k ks sorted e = absurd cc
 second_later (a ∷ b ∷ es) n k ks sorted e =
     let first : a.0 ≡ n = cc in
     let second : b.0 ≡ k = cc in
-    let less = less_of (name_cmp a.0 b.0) (first_part (is_lt (name_cmp a.0 b.0)) (below_all name_cmp a.0 es) (first_part (below_all name_cmp a.0 (b ∷ es)) (is_sorted name_cmp (b ∷ es)) sorted)) in
+    let less = less_of (name_cmp a.0 b.0) (first_part (is_lt (name_cmp a.0 b.0)) (below_all name_cmp a.0 es)
+    (first_part (below_all name_cmp a.0 (b ∷ es)) (is_sorted name_cmp (b ∷ es))
+    sorted)) in
     subst (λ (m : List ℕ). name_cmp m k ≡ Less) first (subst (λ (m : List ℕ). name_cmp a.0 m ≡ Less) second less)
 
 -- ---- a first line
@@ -68,9 +72,11 @@ line p = p.0 ++ 32 ∷ number_or_broken p.1
 
 line_is_one : (p : List ℕ × Option ℕ) → list_all is_name_character p.0 ≡ true → IsOneLine (line p)
 line_is_one p good =
-    one_line-append p.0 (32 ∷ number_or_broken p.1) (characters_are_one_line p.0 good) (omega arith, number_is_one_line p.1)
+    one_line-append p.0 (32 ∷ number_or_broken p.1) (characters_are_one_line p.0 good)
+    (omega arith, number_is_one_line p.1)
 
-first_point : (p : List ℕ × Option ℕ) (ps : List (List ℕ × Option ℕ)) (behind : List ℕ) → point_lines (p ∷ ps) ++ behind ≡ line p ++ 10 ∷ (point_lines ps ++ behind)
+first_point : (p : List ℕ × Option ℕ) (ps : List (List ℕ × Option ℕ)) (behind : List ℕ)
+    → point_lines (p ∷ ps) ++ behind ≡ line p ++ 10 ∷ (point_lines ps ++ behind)
 first_point p ps behind =
     append_assoc (named_number p ++ 10 ∷ []) (point_lines ps) behind
     ∙ append_assoc (named_number p) (10 ∷ []) (point_lines ps ++ behind)
@@ -79,27 +85,57 @@ first_point p ps behind =
 -- the name, and what stands behind it
 first_name : (p : List ℕ × Option ℕ) (ps : List (List ℕ × Option ℕ)) (behind : List ℕ)
     → point_lines (p ∷ ps) ++ behind ≡ p.0 ++ 32 ∷ (number_or_broken p.1 ++ 10 ∷ (point_lines ps ++ behind))
-first_name p ps behind = first_point p ps behind ∙ append_assoc p.0 (32 ∷ number_or_broken p.1) (10 ∷ (point_lines ps ++ behind))
+first_name p ps behind =
+    first_point p ps behind ∙ append_assoc p.0 (32 ∷ number_or_broken p.1) (10 ∷ (point_lines ps ++ behind))
 
 -- where a plan stands at the head, the first checkpoint has the name `plan`
-heads_plan : (p : List ℕ × Option ℕ) (ps : List (List ℕ × Option ℕ)) (behind : List ℕ) (ms : List Move) (x : List ℕ) → list_all is_name_character p.0 ≡ true
-    → point_lines (p ∷ ps) ++ behind ≡ plan_text ms ++ x → (p.0 ≡ codes "plan") × (point_lines ps ++ behind ≡ plan_lines 1 ms ++ x)
+heads_plan : (p : List ℕ × Option ℕ) (ps : List (List ℕ × Option ℕ)) (behind : List ℕ) (ms : List Move) (x : List ℕ)
+    → list_all is_name_character p.0 ≡ true
+    → point_lines (p ∷ ps) ++ behind ≡ plan_text ms ++ x
+    → (p.0 ≡ codes "plan") × (point_lines ps ++ behind ≡ plan_lines 1 ms ++ x)
 heads_plan p ps behind ms x good e =
-    let both = first_lines (line p) (count (length ms)) (point_lines ps ++ behind) (plan_lines 1 ms ++ x) (line_is_one p good) (count_is_one (length ms))
+    let both = first_lines (line p) (count (length ms)) (point_lines ps ++ behind) (plan_lines 1 ms ++ x)
+    (line_is_one p good) (count_is_one (length ms))
     (sym (first_point p ps behind) ∙ e ∙ counted ms x) in
-    let plain : Lacks 32 (codes "plan") = (omega arith, (omega arith, (omega arith, (omega arith, tt)))) in
-    (first_words p.0 (codes "plan") (number_or_broken p.1) (decimal (length ms)) (name_lacks 32 no_space p.0 good) plain both.0, both.1)
+    let plain : Lacks 32 (codes "plan") = (omega arith, (omega arith, (omega arith, (omega arith, tt)))) in (
+      first_words p.0 (codes "plan") (number_or_broken p.1) (decimal (length ms)) (name_lacks 32 no_space p.0 good)
+          plain both.0,
+      both.1,
+    )
 
 -- where it is how many are committed, it has the name `commits`
-heads_commits : (p : List ℕ × Option ℕ) (ps : List (List ℕ × Option ℕ)) (behind x : List ℕ) → list_all is_name_character p.0 ≡ true
+heads_commits : (p : List ℕ × Option ℕ) (ps : List (List ℕ × Option ℕ)) (behind x : List ℕ)
+    → list_all is_name_character p.0 ≡ true
     → point_lines (p ∷ ps) ++ behind ≡ told_text [] ++ x → (p.0 ≡ codes "commits") × (point_lines ps ++ behind ≡ x)
 heads_commits p ps behind x good e =
     let same : line p ++ 10 ∷ (point_lines ps ++ behind) ≡ (codes "commits" ++ 32 ∷ decimal 0) ++ 10 ∷ x =
-    sym (first_point p ps behind) ∙ e ∙ commits_is 0 x ∙ sym (append_assoc (codes "commits") (32 ∷ decimal 0) (10 ∷ x)) in
-    let whole : IsOneLine (codes "commits" ++ 32 ∷ decimal 0) =
-    (omega arith, (omega arith, (omega arith, (omega arith, (omega arith, (omega arith, (omega arith, (omega arith, decimal_is_one_line 0)))))))) in
-    let both = first_lines (line p) (codes "commits" ++ 32 ∷ decimal 0) (point_lines ps ++ behind) x (line_is_one p good) whole same in
-    (first_words p.0 (codes "commits") (number_or_broken p.1) (decimal 0) (name_lacks 32 no_space p.0 good) commits_plain both.0, both.1)
+    sym (first_point p ps behind) ∙ e ∙ commits_is 0 x ∙ sym (append_assoc (codes "commits") (32 ∷ decimal 0) (10 ∷ x))
+    in
+    let whole : IsOneLine (codes "commits" ++ 32 ∷ decimal 0) = (
+      omega arith,
+      (
+        omega arith,
+        (
+          omega arith,
+          (
+            omega arith,
+            (
+              omega arith,
+              (
+                omega arith,
+                (omega arith, (omega arith, decimal_is_one_line 0)),
+              ),
+            ),
+          ),
+        ),
+      ),
+    ) in
+    let both = first_lines (line p) (codes "commits" ++ 32 ∷ decimal 0) (point_lines ps ++ behind) x
+    (line_is_one p good) whole same in (
+      first_words p.0 (codes "commits") (number_or_broken p.1) (decimal 0) (name_lacks 32 no_space p.0 good)
+          commits_plain both.0,
+      both.1,
+    )
 
 -- ---- what stands behind it
 
@@ -144,12 +180,14 @@ module _ (name : List ℕ) (ahead : IsAhead name) where
       (λ is. ahead.one k (subst (λ d. name_cmp name (d ∷ k) ≡ Less) is e))
       (λ is. ahead.a k (subst (λ d. name_cmp name (d ∷ k) ≡ Less) is e))
 
-  late_lines : (files : Files) (ks : List (List ℕ)) → ((k : List ℕ) (more : List (List ℕ)) → ks ≡ k ∷ more → name_cmp name k ≡ Less)
+  late_lines : (files : Files) (ks : List (List ℕ))
+      → ((k : List ℕ) (more : List (List ℕ)) → ks ≡ k ∷ more → name_cmp name k ≡ Less)
       → IsLate (point_lines (map (with_its_number files) ks) ++ last_line Done)
   late_lines files [] later = late 100 _ (omega arith) (omega arith)
   late_lines files (k ∷ ks) later =
       subst IsLate
-      (sym (first_point (with_its_number files k) (map (with_its_number files) ks) (last_line Done) ∙ append_assoc k _ _))
+      (sym (first_point (with_its_number files k) (map (with_its_number files) ks) (last_line Done)
+      ∙ append_assoc k _ _))
       (late_name k _ (later k ks refl))
 
 step_first : (m : Move) (ms : List Move) (x : List ℕ) → (more : List ℕ) × (plan_lines 1 (m ∷ ms) ++ x ≡ 49 ∷ more)
@@ -157,16 +195,20 @@ unfolding digits
 step_first m ms x = (_, refl)
 
 -- what stands behind the name is no reply
-number_no_reply : (p : List ℕ × Option ℕ) (ps : List (List ℕ × Option ℕ)) (behind : List ℕ) → list_all is_name_character p.0 ≡ true
-    → (t : Told) (ts : List Told) → HaveNames (t ∷ ts) → (x : List ℕ) → point_lines (p ∷ ps) ++ behind ≡ told_text (t ∷ ts) ++ x → ⊥
+number_no_reply : (p : List ℕ × Option ℕ) (ps : List (List ℕ × Option ℕ)) (behind : List ℕ)
+    → list_all is_name_character p.0 ≡ true
+    → (t : Told) (ts : List Told) → HaveNames (t ∷ ts) → (x : List ℕ)
+    → point_lines (p ∷ ps) ++ behind ≡ told_text (t ∷ ts) ++ x → ⊥
 number_no_reply p ps behind good t ts named x e =
     no_reply_there p.1 _ (point_lines ps ++ behind)
-    (reply_behind p.0 (name_lacks 32 no_space p.0 good) t ts (length (moves_told (t ∷ ts))) named.0 (number_or_broken p.1 ++ 10 ∷ (point_lines ps ++ behind)) x
+    (reply_behind p.0 (name_lacks 32 no_space p.0 good) t ts (length (moves_told (t ∷ ts)))
+    named.0 (number_or_broken p.1 ++ 10 ∷ (point_lines ps ++ behind)) x
     (sym (first_name p ps behind) ∙ e))
   where
     no_reply_there : (o : Option ℕ) (more rest : List ℕ) → said t.1 ++ 10 ∷ more ≡ number_or_broken o ++ 10 ∷ rest → ⊥
     no_reply_there None more rest same =
-        let both = first_lines (said t.1) (codes "broken") more rest (said_is_line t.1) (number_is_one_line None) same in no_broken t.1 both.0
+        let both = first_lines (said t.1) (codes "broken") more rest (said_is_line t.1) (number_is_one_line None)
+        same in no_broken t.1 both.0
     no_reply_there (Some n) more rest same =
         no_low_reply t.1 (10 ∷ more) (decimal n ++ 10 ∷ rest) (low_more (decimal n) (10 ∷ rest) (decimal_is_low n)) same
 
@@ -174,7 +216,8 @@ number_no_reply p ps behind good t ts named x e =
 pub points_have_no_steps : (files : Files) → HasNoSteps (point_lines (numbered_points files) ++ last_line Done)
 points_have_no_steps files = by (keys (points files)) refl (points_good files)
   where
-    by : (ns : List (List ℕ)) → keys (points files) ≡ ns → AreGood (keys (points files)) → HasNoSteps (point_lines (map (with_its_number files) ns) ++ last_line Done)
+    by : (ns : List (List ℕ)) → keys (points files) ≡ ns → AreGood (keys (points files))
+        → HasNoSteps (point_lines (map (with_its_number files) ns) ++ last_line Done)
     by [] is all =
         let none = quiet_has_none (last_line Done) (last_line_is_quiet Done) in
         let untold = last_line_has_no_told Done in
@@ -192,7 +235,8 @@ points_have_no_steps files = by (keys (points files)) refl (points_good files)
         let after : (name : List ℕ) → IsAhead name → n ≡ name → IsLate behind =
         λ name ahead named. late_lines name ahead files ns (λ k ks e.
         subst (λ (m : List ℕ). name_cmp m k ≡ Less) named
-        (second_later (entries (points files)) n k ks (finmap.entries_sorted (points files)) (is ∙ ap (λ (ms : List (List ℕ)). n ∷ ms) e))) in
+        (second_later (entries (points files)) n k ks (finmap.entries_sorted (points files))
+        (is ∙ ap (λ (ms : List (List ℕ)). n ∷ ms) e))) in
         record {
           none = λ m ms (x, e).
               let h = heads_plan p ps (last_line Done) (m ∷ ms) x good e in

@@ -78,7 +78,8 @@ pub data Query (s : State) : Request → Type 0 where
   gives_up : Query s request.abandon
 
 -- a plan is asked for with the budget of the words
-pub planning_budget : (from : Target) (budget : ℕ) (s : State) (p : Planning) → (planning_asked from budget s).Gives (Ok p) → p.budget ≡ budget
+pub planning_budget : (from : Target) (budget : ℕ) (s : State) (p : Planning)
+    → (planning_asked from budget s).Gives (Ok p) → p.budget ≡ budget
 planning_budget from budget s p (inl never) = absurd never
 planning_budget from budget s p (inr (u, gate, inl never)) = absurd never
 planning_budget from budget s p (inr (u, gate, inr (ctx, g, inl never))) = absurd never
@@ -92,7 +93,8 @@ answer_named : (r : Result (List ScriptLine) ℕ) (lines : List ScriptLine) → 
 answer_named (Ok ls) lines e = let same : ls ≡ lines = cc in ap (λ (x : List ScriptLine). Ok x) same
 answer_named (Err line) lines e = absurd cc
 
-script_is_named : (path : List ℕ) (s : State) (lines : List ScriptLine) → (script_asked path s).Gives (Ok lines) → AreNamed lines
+script_is_named : (path : List ℕ) (s : State) (lines : List ScriptLine) → (script_asked path s).Gives (Ok lines)
+    → AreNamed lines
 script_is_named path s lines (inl never) = absurd never
 script_is_named path s lines (inr (bytes, g, e)) = script_named bytes lines (answer_named (script bytes) lines e)
 
@@ -101,7 +103,8 @@ start_is_valid : (ctx : Ctx) (s : State) (start : Config) → (start_asked ctx s
 start_is_valid ctx s start (inl never) = absurd never
 start_is_valid ctx s start (inr (stored, g, (valid, same))) = subst (IsValidIn ctx) (sym same) valid
 
-operating_ready : (path : List ℕ) (budget : ℕ) (s : State) (p : Operating) → (operating_asked path budget s).Gives (Ok p) → IsReady (operated p)
+operating_ready : (path : List ℕ) (budget : ℕ) (s : State) (p : Operating)
+    → (operating_asked path budget s).Gives (Ok p) → IsReady (operated p)
 operating_ready path budget s p (inl never) = absurd never
 operating_ready path budget s p (inr (u, gate, inl never)) = absurd never
 operating_ready path budget s p (inr (u, gate, inr (ctx, g, inl never))) = absurd never
@@ -112,7 +115,8 @@ operating_ready path budget s p (inr (u, gate, inr (ctx, g, inr (start, h, inr (
     subst (λ (q : Operating). IsReady (operated q)) same (script_is_named path s lines k, start_is_valid ctx s start h)
 
 -- what a task needs may be done
-pub work_ready : (task : Task) (budget : ℕ) → budget ≤ most_budget → (s : State) (w : Work) → (work_asked task budget s).Gives (Ok w) → IsReady w
+pub work_ready : (task : Task) (budget : ℕ) → budget ≤ most_budget → (s : State) (w : Work)
+    → (work_asked task budget s).Gives (Ok w) → IsReady w
 work_ready (reach from) budget few s w (inl never) = absurd never
 work_ready (reach from) budget few s w (inr (p, given, e)) =
     let same : planned p ≡ w = cc in
@@ -127,16 +131,21 @@ IsNoChange (Some (forms.change task budget)) = ⊥
 IsNoChange (Some forms.migrate_checkpoints) = ⊥
 IsNoChange other = Unit {0}
 
-saved : (s : State) (name : List ℕ) (c : Config) (r : Request) (full : Bool) (o : Option Held) → absent_answer name c full o ≡ Ok r → Query s r
-saved s name c r false None e = let same : request.save_checkpoint name c ≡ r = cc in subst (Query s) same (saves name c)
+saved : (s : State) (name : List ℕ) (c : Config) (r : Request) (full : Bool) (o : Option Held)
+    → absent_answer name c full o ≡ Ok r → Query s r
+saved s name c r false None e = let same : request.save_checkpoint name c ≡ r = cc in
+    subst (Query s) same (saves name c)
 saved s name c r true None e = absurd cc
 saved s name c r full (Some held) e = absurd cc
 
-deleted : (s : State) (name : List ℕ) (r : Request) (o : Option Held) → map_ok request.delete_checkpoint (there_answer name o) ≡ Ok r → Query s r
+deleted : (s : State) (name : List ℕ) (r : Request) (o : Option Held)
+    → map_ok request.delete_checkpoint (there_answer name o) ≡ Ok r → Query s r
 deleted s name r None e = absurd cc
-deleted s name r (Some held) e = let same : request.delete_checkpoint name ≡ r = cc in subst (Query s) same (deletes name)
+deleted s name r (Some held) e = let same : request.delete_checkpoint name ≡ r = cc in
+    subst (Query s) same (deletes name)
 
-pub query_given : (o : Option Form) → IsNoChange o → IsBudgeted o → (s : State) (r : Request) → (form_asked o s).Gives (Ok r) → Query s r
+pub query_given : (o : Option Form) → IsNoChange o → IsBudgeted o → (s : State) (r : Request)
+    → (form_asked o s).Gives (Ok r) → Query s r
 query_given None none few s r e = absurd cc
 query_given (Some (forms.preview path)) none few s r (inl never) = absurd never
 query_given (Some (forms.preview path)) none few s r (inr (c, g, e)) =
@@ -144,15 +153,18 @@ query_given (Some (forms.preview path)) none few s r (inr (c, g, e)) =
 query_given (Some forms.check) none few s r (inl never) = absurd never
 query_given (Some forms.check) none few s r (inr (u, gate, inl never)) = absurd never
 query_given (Some forms.check) none few s r (inr (u, gate, inr (models, g, inl never))) = absurd never
-query_given (Some forms.check) none few s r (inr (u, gate, inr (models, g, inr (start, h, judged)))) = subst (Query s) (sym judged.1) checks
+query_given (Some forms.check) none few s r (inr (u, gate, inr (models, g, inr (start, h, judged)))) =
+    subst (Query s) (sym judged.1) checks
 query_given (Some forms.list_checkpoints) none few s r (inl never) = absurd never
 query_given (Some forms.list_checkpoints) none few s r (inr (u, gate, e)) =
     let same : request.list_checkpoints (numbered_points s.files) ≡ r = cc in subst (Query s) same lists
 query_given (Some (forms.save_checkpoint word)) none few s r (inl never) = absurd never
 query_given (Some (forms.save_checkpoint word)) none few s r (inr (name, g, inl never)) = absurd never
 query_given (Some (forms.save_checkpoint word)) none few s r (inr (name, g, inr (u, h, inl never))) = absurd never
-query_given (Some (forms.save_checkpoint word)) none few s r (inr (name, g, inr (u, h, inr (q, k, inl never)))) = absurd never
-query_given (Some (forms.save_checkpoint word)) none few s r (inr (name, g, inr (u, h, inr (q, k, inr (start, l, e))))) =
+query_given (Some (forms.save_checkpoint word)) none few s r (inr (name, g, inr (u, h, inr (q, k, inl never)))) =
+    absurd never
+query_given (Some (forms.save_checkpoint word)) none few s r (inr (name, g, inr (u, h, inr (q, k, inr (start, l, e)))))
+    =
     saved s name start r (is_full s.files) (get (points s.files) name) e
 query_given (Some (forms.delete_checkpoint word)) none few s r (inl never) = absurd never
 query_given (Some (forms.delete_checkpoint word)) none few s r (inr (name, g, inl never)) = absurd never
@@ -182,10 +194,12 @@ query_given (Some (forms.check_plan patch plan)) none few s r
 query_given (Some forms.status) none few s r (inl never) = absurd never
 query_given (Some forms.status) none few s r (inr (c, g, inl never)) = absurd never
 query_given (Some forms.status) none few s r (inr (c, g, inr (found, h, e))) =
-    let same : request.status (intent_of found) (applied s.files) ≡ r = cc in subst (Query s) same (tells (intent_of found) (applied s.files))
+    let same : request.status (intent_of found) (applied s.files) ≡ r = cc in
+    subst (Query s) same (tells (intent_of found) (applied s.files))
 query_given (Some forms.abandon) none few s r (inl never) = absurd never
 query_given (Some forms.abandon) none few s r (inr (u, g, inl never)) = absurd never
-query_given (Some forms.abandon) none few s r (inr (u, g, inr (v, gate, e))) = let same : request.abandon ≡ r = cc in subst (Query s) same gives_up
+query_given (Some forms.abandon) none few s r (inr (u, g, inr (v, gate, e))) = let same : request.abandon ≡ r = cc in
+    subst (Query s) same gives_up
 
 -- ---- what is printed
 
@@ -200,7 +214,8 @@ Printed text =
 printed_front : (part rest : List ℕ) → Printed (part ++ rest) → (ms : List Move) × IsWork part ms 0
 printed_front part rest (inl neither) = ([], unplanned_front part rest neither)
 printed_front part rest (inr (inr few)) = front_of_no_steps part rest few
-printed_front part rest (inr (inl (ms, front, told, e))) = front_of_work ms front (last_line Done) part rest (last_line_is_quiet Done) told e
+printed_front part rest (inr (inl (ms, front, told, e))) =
+    front_of_work ms front (last_line Done) part rest (last_line_is_quiet Done) told e
 
 pub plain_has_neither : (text : List ℕ) → IsPlain text → HasNeither text
 plain_has_neither text plain = (quiet_has_none text plain.0, plain.1)
@@ -220,18 +235,24 @@ unfolding pretty_from
 brace_first c behind = (_, refl)
 
 -- what is printed before a work tells its moves
-pub work_told : KeepsWorlds → (w : Work) (ms : List Move) (text : List ℕ) → IsReady w → IsWorkOf w ms text → AreToldBy ms text
+pub work_told : KeepsWorlds → (w : Work) (ms : List Move) (text : List ℕ) → IsReady w → IsWorkOf w ms text
+    → AreToldBy ms text
 work_told keeps (planned p) ms text few (is, e) = inl (plan_fits p ms is, plan_is_short p ms few is, e)
-work_told keeps (operated p) ms text (named, valid) (after, is, moves) = operated_told keeps p ms text after named valid is moves
+work_told keeps (operated p) ms text (named, valid) (after, is, moves) =
+    operated_told keeps p ms text after named valid is moves
 
 -- a text that begins with a word and a number
-counted_has_no_told : (w : List ℕ) → Lacks 32 w → (codes "commits" ≡ w → ⊥) → (n : ℕ) (x : List ℕ) → HasNoTold (w ++ 32 ∷ (decimal n ++ x))
-counted_has_no_told w plain other n x = number_has_no_told w plain other (decimal n ++ x) (low_more (decimal n) x (decimal_is_low n))
+counted_has_no_told : (w : List ℕ) → Lacks 32 w → (codes "commits" ≡ w → ⊥) → (n : ℕ) (x : List ℕ)
+    → HasNoTold (w ++ 32 ∷ (decimal n ++ x))
+counted_has_no_told w plain other n x =
+    number_has_no_told w plain other (decimal n ++ x) (low_more (decimal n) x (decimal_is_low n))
 
-ports_have_no_told : (n : ℕ) (rest x text : List ℕ) → text ≡ ((counted (codes "ports") n ++ line_feed) ++ rest) ++ x → HasNoTold text
+ports_have_no_told : (n : ℕ) (rest x text : List ℕ) → text ≡ ((counted (codes "ports") n ++ line_feed) ++ rest) ++ x
+    → HasNoTold text
 ports_have_no_told n rest x text is =
     subst HasNoTold
-    (sym (is ∙ append_assoc (counted (codes "ports") n ++ line_feed) rest x ∙ append_assoc (counted (codes "ports") n) line_feed (rest ++ x)
+    (sym (is ∙ append_assoc (counted (codes "ports") n ++ line_feed) rest x ∙ append_assoc (counted (codes "ports") n)
+    line_feed (rest ++ x)
     ∙ append_assoc (codes "ports ") (decimal n) (line_feed ++ (rest ++ x))))
     (counted_has_no_told (codes "ports") (omega arith, (omega arith, (omega arith, (omega arith, (omega arith, tt)))))
     (λ e. let h = heads 99 112 _ _ e in omega (arith, h)) n (line_feed ++ (rest ++ x)))
@@ -242,7 +263,8 @@ demo_has_no_told ports steps text is = ports_have_no_told ports _ (last_line Don
 yes_has_no_told : (count : ℕ) (text : List ℕ) → text ≡ yes_line count ++ last_line Done → HasNoTold text
 yes_has_no_told count text is =
     subst HasNoTold
-    (sym (is ∙ append_assoc (counted (codes "yes") count) line_feed (last_line Done) ∙ append_assoc (codes "yes ") (decimal count) (line_feed ++ last_line Done)))
+    (sym (is ∙ append_assoc (counted (codes "yes") count) line_feed (last_line Done) ∙ append_assoc (codes "yes ")
+    (decimal count) (line_feed ++ last_line Done)))
     (counted_has_no_told (codes "yes") (omega arith, (omega arith, (omega arith, tt)))
     (λ e. let h = heads 99 121 _ _ e in omega (arith, h)) count (line_feed ++ last_line Done))
 
@@ -259,9 +281,12 @@ status_has_no_told intent steps = by intent
     rest = ((codes "steps " ++ decimal steps) ++ line_feed) ++ last_line Done
 
     by : (intent : Intent) → HasNoTold (status_text intent steps ++ last_line Done)
-    by Absent = line_has_no_told (codes "intent") intent_is other (codes "none") rest (omega arith, (omega arith, (omega arith, (omega arith, tt)))) no_none
-    by Whole = line_has_no_told (codes "intent") intent_is other (codes "whole") rest (omega arith, (omega arith, (omega arith, (omega arith, (omega arith, tt))))) no_whole
-    by Broken = line_has_no_told (codes "intent") intent_is other (codes "broken") rest (omega arith, (omega arith, (omega arith, (omega arith, (omega arith, (omega arith, tt)))))) no_broken
+    by Absent = line_has_no_told (codes "intent") intent_is other (codes "none") rest
+        (omega arith, (omega arith, (omega arith, (omega arith, tt)))) no_none
+    by Whole = line_has_no_told (codes "intent") intent_is other (codes "whole") rest
+        (omega arith, (omega arith, (omega arith, (omega arith, (omega arith, tt))))) no_whole
+    by Broken = line_has_no_told (codes "intent") intent_is other (codes "broken") rest
+        (omega arith, (omega arith, (omega arith, (omega arith, (omega arith, (omega arith, tt)))))) no_broken
 
 query_printed : KeepsWorlds → (s : State) (r : Request) (text : List ℕ) → Query s r → IsDoneOutput r text → Printed text
 query_printed keeps s _ text (previews c) out =
@@ -274,7 +299,8 @@ query_printed keeps s _ text checks out = last_printed text Done out
 query_printed keeps s _ text lists out = inr (inr (subst HasNoSteps (sym out) (points_have_no_steps s.files)))
 query_printed keeps s _ text (saves name c) out = last_printed text Done out
 query_printed keeps s _ text (deletes name) out = last_printed text Done out
-query_printed keeps s _ text (plans w ready) (ms, front, is, e) = inr (inl (ms, front, work_told keeps w ms front ready is, e))
+query_printed keeps s _ text (plans w ready) (ms, front, is, e) =
+    inr (inl (ms, front, work_told keeps w ms front ready is, e))
 query_printed keeps s _ text (demos p ports) (ms, is, e) =
     inl (
       (λ ns (rest, same).
@@ -282,9 +308,16 @@ query_printed keeps s _ text (demos p ports) (ms, is, e) =
       demo_has_no_told ports (length ms) text e,
     )
 query_printed keeps s _ text (accepts count) out =
-    inl (quiet_has_none text (subst Quiet (sym out) (acked.other 121 _ (omega arith) (omega arith))), yes_has_no_told count text out)
+    inl (
+      quiet_has_none text (subst Quiet (sym out) (acked.other 121 _ (omega arith) (omega arith))),
+      yes_has_no_told count text out,
+    )
 query_printed keeps s _ text (tells intent steps) out =
-    inl (quiet_has_none text (subst Quiet (sym out) (acked.other 105 _ (omega arith) (omega arith))), subst HasNoTold (sym out) (status_has_no_told intent steps))
+    inl (
+      quiet_has_none text (subst Quiet (sym out) (acked.other 105 _ (omega arith) (omega arith))),
+      subst HasNoTold
+          (sym out) (status_has_no_told intent steps),
+    )
 query_printed keeps s _ text gives_up out = last_printed text Done out
 
 -- ---- what is left before it
@@ -301,7 +334,8 @@ leaves_output s now _ (accepts count) h = ap (λ (t : State). t.output) h
 leaves_output s now _ (tells intent steps) h = ap (λ (t : State). t.output) h
 leaves_output s now _ gives_up h = ap (λ (t : State). t.output) h
 
-stopped_output : (s now : State) (r : Request) (step : ℕ) → Query s r → LeavesStopped r step s now → now.output ≡ s.output
+stopped_output : (s now : State) (r : Request) (step : ℕ) → Query s r → LeavesStopped r step s now
+    → now.output ≡ s.output
 stopped_output s now _ step (previews c) h = absurd h
 stopped_output s now _ step checks h = absurd h
 stopped_output s now _ step lists h = absurd h
@@ -337,7 +371,8 @@ no_migration s news _ e (accepts count) = cc
 no_migration s news _ e (tells intent steps) = cc
 no_migration s news _ e gives_up = cc
 
-module _ (keeps : KeepsWorlds) (s now : State) (asking : Asking Request) (query : (r : Request) → asking.Gives (Ok r) → Query s r) where
+module _ (keeps : KeepsWorlds) (s now : State) (asking : Asking Request)
+    (query : (r : Request) → asking.Gives (Ok r) → Query s r) where
   untouched_output : IsUntouched asking s now → now.output ≡ s.output
   untouched_output (inl same) = ap (λ (t : State). t.output) same
   untouched_output (inr (reads, same)) = ap (λ (t : State). t.output) same
@@ -347,16 +382,19 @@ module _ (keeps : KeepsWorlds) (s now : State) (asking : Asking Request) (query 
       let q = query r given in (query_printed keeps s r text q out, leaves_output s now r q leaves)
   says_printed Memory text h = (last_printed text Memory h.1, untouched_output h.0)
   says_printed InputFault text h = (last_printed text InputFault h.2, untouched_output h.1)
-  says_printed (DiskFault step) text (reads, inl (first, same), is) = (last_printed text (DiskFault step) is, untouched_output same)
+  says_printed (DiskFault step) text (reads, inl (first, same), is) =
+      (last_printed text (DiskFault step) is, untouched_output same)
   says_printed (DiskFault step) text (reads, inr (r, given, stopped), is) =
       (last_printed text (DiskFault step) is, stopped_output s now r step (query r given) stopped)
   says_printed (PrintFault step) text never = absurd never
-  says_printed (ServiceFault step service) text (w, given, halted, is) = absurd (no_change s w (request.change w) refl (query (request.change w) given))
+  says_printed (ServiceFault step service) text (w, given, halted, is) =
+      absurd (no_change s w (request.change w) refl (query (request.change w) given))
   says_printed Unorderable text h = (last_printed text Unorderable h.2, untouched_output h.1)
   says_printed (Budget n) text h = (last_printed text (Budget n) h.2, untouched_output h.1)
   says_printed other text h = (last_printed text other h.2, untouched_output h.1)
 
-  whole_printed : (e : Outcome) (text : List ℕ) → Says asking s now e text → ((ms : List Move) × IsWork text ms 0) × (now.output ≡ s.output)
+  whole_printed : (e : Outcome) (text : List ℕ) → Says asking s now e text
+      → ((ms : List Move) × IsWork text ms 0) × (now.output ≡ s.output)
   whole_printed e text says =
       let h = says_printed e text says in
       (printed_front text [] (subst Printed (sym (append-nil text)) h.0), h.1)
@@ -366,7 +404,9 @@ module _ (keeps : KeepsWorlds) (s now : State) (asking : Asking Request) (query 
       → ((ms : List Move) × IsWork text ms 0) × (now.output ≡ s.output)
   prints_printed old new (PrintFault step) text (inl (acked, (answer, rest, cause, says))) =
       let h = says_printed answer (text ++ rest) says in (printed_front text rest h.0, h.1)
-  prints_printed old new (PrintFault step) text (inr (inl (w, given, cut))) = absurd (no_change s w (request.change w) refl (query (request.change w) given))
+  prints_printed old new (PrintFault step) text (inr (inl (w, given, cut))) =
+      absurd (no_change s w (request.change w) refl (query (request.change w) given))
   prints_printed old new (PrintFault step) text (inr (inr (news, given, cut, none))) =
-      absurd (no_migration s news (request.migrate_checkpoints news) refl (query (request.migrate_checkpoints news) given))
+      absurd (no_migration s news (request.migrate_checkpoints news) refl
+      (query (request.migrate_checkpoints news) given))
   prints_printed old new other text says = whole_printed other text says

@@ -27,19 +27,24 @@ module _ (faults : Faults) (host ended : MemoryHost) (ran : Ran) (goes : GoesOn 
   fault_reason : HasFault (faulty_by faults host) ended → HasReason faults ran ended.counts
   fault_reason (inl (call, from, inl less, is)) = inl (call, subst (λ (n : ℕ). call < n) (sym calls) less, is)
   fault_reason (inl (call, from, inr last, is)) = inr (inr (inl (omega (arith, calls, last, calls_fit))))
-  fault_reason (inr past) = inr (inl (subst (λ (n : ℕ). n ≢ 0) (sym starved) (rises host.starved ended.starved past starved_fits)))
+  fault_reason (inr past) =
+      inr (inl (subst (λ (n : ℕ). n ≢ 0) (sym starved) (rises host.starved ended.starved past starved_fits)))
 
-  rose_reason : (count : Counts → ℕ) → (count ended.counts ≡ last_count → IsFull ended.counts) → Rose (count host.counts) (count ended.counts)
+  rose_reason : (count : Counts → ℕ) → (count ended.counts ≡ last_count → IsFull ended.counts)
+      → Rose (count host.counts) (count ended.counts)
       → HasReason faults ran ended.counts
   rose_reason count full rose = by goes.counts rose
     where
-      by : (ended.counts ≡ host.counts) ⊎ HasFault (faulty_by faults host) ended → Rose (count host.counts) (count ended.counts)
+      by : (ended.counts ≡ host.counts) ⊎ HasFault (faulty_by faults host) ended
+          → Rose (count host.counts) (count ended.counts)
           → HasReason faults ran ended.counts
-      by (inl same) (inl less) = let one : count ended.counts ≡ count host.counts = ap count same in absurd (omega (arith, one, less))
+      by (inl same) (inl less) = let one : count ended.counts ≡ count host.counts = ap count same in
+          absurd (omega (arith, one, less))
       by (inl same) (inr last) = inr (inr (inr (full last)))
       by (inr fault) rose = fault_reason fault
 
-  pub reason_of : (result : Outcome) → HasCause host.counts ended.counts result → IsFault (number result) → HasReason faults ran ended.counts
+  pub reason_of : (result : Outcome) → HasCause host.counts ended.counts result → IsFault (number result)
+      → HasReason faults ran ended.counts
   reason_of InputFault cause is = rose_reason (λ c. c.input) (λ last. inl last) cause
   reason_of (DiskFault step) cause is = rose_reason (λ c. c.disk) (λ last. inr (inl last)) cause
   reason_of (PrintFault step) cause is = rose_reason (λ c. c.print) (λ last. inr (inr (inl last))) cause

@@ -33,13 +33,15 @@ onto_is_low : (k n : ℕ) (acc : List ℕ) → IsLow acc → IsLow (digits_onto 
 onto_is_low zero n acc h = h
 onto_is_low (suc k) n acc h =
     elim (n / 10 == 0)
-    as (λ b. IsLow (cond b (digit_glyph false (n % 10) ∷ acc) (digits_onto k 10 false (n / 10) (digit_glyph false (n % 10) ∷ acc))))
+    as (λ b. IsLow (cond b (digit_glyph false (n % 10) ∷ acc)
+    (digits_onto k 10 false (n / 10) (digit_glyph false (n % 10) ∷ acc))))
     [ true ↦ glyph_is_low n | false ↦ onto_is_low k (n / 10) (digit_glyph false (n % 10) ∷ acc) (glyph_is_low n) ]
 
 some_is_low : (k n : ℕ) (acc : List ℕ) → IsLow (digits_onto (suc k) 10 false n acc)
 some_is_low k n acc =
     elim (n / 10 == 0)
-    as (λ b. IsLow (cond b (digit_glyph false (n % 10) ∷ acc) (digits_onto k 10 false (n / 10) (digit_glyph false (n % 10) ∷ acc))))
+    as (λ b. IsLow (cond b (digit_glyph false (n % 10) ∷ acc)
+    (digits_onto k 10 false (n / 10) (digit_glyph false (n % 10) ∷ acc))))
     [ true ↦ glyph_is_low n | false ↦ onto_is_low k (n / 10) (digit_glyph false (n % 10) ∷ acc) (glyph_is_low n) ]
 
 pub decimal_is_low : (n : ℕ) → IsLow (decimal n)
@@ -141,15 +143,19 @@ behind_space (c ∷ a) [] x y ha hb e = let first = heads c 32 (a ++ 32 ∷ x) y
 behind_space (c ∷ a) (d ∷ b) x y ha hb e = behind_space a b x y ha.1 hb.1 (tails c d (a ++ 32 ∷ x) (b ++ 32 ∷ y) e)
 
 -- the line of a reply, with more behind it
-pub one_reply : (name : List ℕ) (r : Reply) (more : List ℕ) → reply_line name r ++ more ≡ name ++ 32 ∷ (said r ++ 10 ∷ more)
+pub one_reply : (name : List ℕ) (r : Reply) (more : List ℕ)
+    → reply_line name r ++ more ≡ name ++ 32 ∷ (said r ++ 10 ∷ more)
 one_reply name r more =
     append_assoc ((name ++ codes " ") ++ said r) (10 ∷ []) more
     ∙ append_assoc (name ++ codes " ") (said r) (10 ∷ more)
     ∙ append_assoc name (codes " ") (said r ++ 10 ∷ more)
 
-pub no_plan_first : (name : List ℕ) (r : Reply) (more : List ℕ) → is_good_name name ≡ true → HasNone (reply_line name r ++ more)
+pub no_plan_first : (name : List ℕ) (r : Reply) (more : List ℕ) → is_good_name name ≡ true
+    → HasNone (reply_line name r ++ more)
 no_plan_first name r more good ms (x, e) =
     let plain : Lacks 32 (codes "plan") = (omega arith, (omega arith, (omega arith, (omega arith, tt)))) in
-    let behind = behind_space name (codes "plan") (said r ++ 10 ∷ more) (decimal (length ms) ++ 10 ∷ (plan_lines 1 ms ++ x))
+    let behind = behind_space name (codes "plan") (said r ++ 10 ∷ more)
+    (decimal (length ms) ++ 10 ∷ (plan_lines 1 ms ++ x))
     (name_lacks 32 no_space name (characters name good)) plain (sym (one_reply name r more) ∙ e ∙ counted ms x) in
-    no_low_reply r (10 ∷ more) (decimal (length ms) ++ 10 ∷ (plan_lines 1 ms ++ x)) (low_more (decimal (length ms)) _ (decimal_is_low (length ms))) behind
+    no_low_reply r (10 ∷ more) (decimal (length ms) ++ 10 ∷ (plan_lines 1 ms ++ x))
+    (low_more (decimal (length ms)) _ (decimal_is_low (length ms))) behind

@@ -28,15 +28,21 @@ module _ (reads : ReadsTokens) (output : List ℕ) (ms ns : List Move) (k j : �
   same_told a b =
       let same = sym a.begins ∙ b.begins in
       let rests = rests_split a.told b.told a.rest b.rest a.named b.named same in
-      let moves = moves_split reads a.told b.told a.rest b.rest a.named b.named (subst FitTheirPlaces a.moves a.fit) (subst FitTheirPlaces b.moves b.fit) same in
-      (a.moves ∙ moves ∙ sym b.moves, acknowledged_is_one k j a.rest a.acknowledged (subst (AreAcknowledged j) (sym rests) b.acknowledged))
+      let moves = moves_split reads a.told b.told a.rest b.rest a.named b.named (subst FitTheirPlaces a.moves a.fit)
+      (subst FitTheirPlaces b.moves b.fit) same in (
+        a.moves ∙ moves ∙ sym b.moves,
+        acknowledged_is_one k j
+            a.rest a.acknowledged (subst (AreAcknowledged j) (sym rests) b.acknowledged),
+      )
 
   -- one list of moves, and one number of acknowledgements
   pub work_is_one : IsWork output ms k → IsWork output ns j → IsOne
   work_is_one (inl a) (inl b) = same_plan a b
-  work_is_one (inl a) (inr (inl b)) = absurd (told_has_no_plan b.told b.named b.rest ms (a.rest, sym b.begins ∙ a.begins))
+  work_is_one (inl a) (inr (inl b)) =
+      absurd (told_has_no_plan b.told b.named b.rest ms (a.rest, sym b.begins ∙ a.begins))
   work_is_one (inl a) (inr (inr b)) = absurd (b.none ms (a.rest, a.begins))
-  work_is_one (inr (inl a)) (inl b) = absurd (told_has_no_plan a.told a.named a.rest ns (b.rest, sym a.begins ∙ b.begins))
+  work_is_one (inr (inl a)) (inl b) =
+      absurd (told_has_no_plan a.told a.named a.rest ns (b.rest, sym a.begins ∙ b.begins))
   work_is_one (inr (inl a)) (inr (inl b)) = same_told a b
   work_is_one (inr (inl a)) (inr (inr b)) = absurd (b.untold a.told a.named (a.rest, a.begins))
   work_is_one (inr (inr a)) (inl b) = absurd (a.none ns (b.rest, b.begins))
@@ -59,7 +65,8 @@ unplanned output neither = inr (inr (record {
 
 -- a front of such a text
 pub unplanned_front : (part rest : List ℕ) → HasNeither (part ++ rest) → IsWork part [] 0
-unplanned_front part rest neither = unplanned part (none_in_front part rest neither.0, no_told_in_front part rest neither.1)
+unplanned_front part rest neither =
+    unplanned part (none_in_front part rest neither.0, no_told_in_front part rest neither.1)
 
 -- ---- what stands before the acknowledgements
 
@@ -70,7 +77,8 @@ AreToldBy ms text =
     ⊎ ((told : List Told) × HaveNames told × (ms ≡ moves_told told) × FitTheirPlaces ms × (text ≡ told_text told))
 
 -- behind it so many are acknowledged
-pub told_work : (ms : List Move) (text more output : List ℕ) (k : ℕ) → AreToldBy ms text → output ≡ text ++ more → AreAcknowledged k more → IsWork output ms k
+pub told_work : (ms : List Move) (text more output : List ℕ) (k : ℕ) → AreToldBy ms text → output ≡ text ++ more
+    → AreAcknowledged k more → IsWork output ms k
 told_work ms text more output k (inl (fit, few, is)) begins acknowledged = inl (record {
   fit = fit;
   few = few;
@@ -93,7 +101,8 @@ nothing_more [] rest e = e
 nothing_more (x ∷ more) rest e = absurd cc
 
 -- a front of it that isn't all of it
-cut_short : (ms : List Move) (text part : List ℕ) (r : ℕ) (rest : List ℕ) → AreToldBy ms text → text ≡ part ++ r ∷ rest → HasNeither part
+cut_short : (ms : List Move) (text part : List ℕ) (r : ℕ) (rest : List ℕ) → AreToldBy ms text → text ≡ part ++ r ∷ rest
+    → HasNeither part
 cut_short ms text part r rest (inl (fit, few, is)) e = (
   (λ ns (more, same).
       let all : plan_text ms ≡ plan_text ns ++ (more ++ r ∷ rest) =
@@ -103,33 +112,42 @@ cut_short ms text part r rest (inl (fit, few, is)) e = (
   no_told_in_front part (r ∷ rest) (subst HasNoTold (append-nil (plan_text ms) ∙ sym is ∙ e) (plan_has_no_told ms [])),
 )
 cut_short ms text part r rest (inr (told, named, moves, fit, is)) e = (
-  none_in_front part (r ∷ rest) (subst HasNone (append-nil (told_text told) ∙ sym is ∙ e) (told_has_no_plan told named [])),
+  none_in_front part (r ∷ rest) (subst HasNone (append-nil (told_text told) ∙ sym is ∙ e)
+      (told_has_no_plan told named [])),
   cut_has_no_told told named part r rest (sym is ∙ e),
 )
 
 -- a front of it: all of it, or neither
-pub cut_work : (ms : List Move) (text part rest : List ℕ) → AreToldBy ms text → text ≡ part ++ rest → (ns : List Move) × IsWork part ns 0
-cut_work ms text part [] told e =
-    (ms, told_work ms text [] part 0 told (sym (append-nil part) ∙ sym e ∙ sym (append-nil text)) (acknowledged_by 0 [] silent))
+pub cut_work : (ms : List Move) (text part rest : List ℕ) → AreToldBy ms text → text ≡ part ++ rest
+    → (ns : List Move) × IsWork part ns 0
+cut_work ms text part [] told e = (
+  ms,
+  told_work ms text [] part 0 told (sym (append-nil part) ∙ sym e ∙ sym (append-nil text))
+      (acknowledged_by 0 [] silent),
+)
 cut_work ms text part (r ∷ rest) told e = ([], unplanned part (cut_short ms text part r rest told e))
 
-split_by : (a b c d : List ℕ) → a ++ b ≡ c ++ d → ((x : List ℕ) × (a ≡ c ++ x) × (d ≡ x ++ b)) ⊎ ((y : List ℕ) × (c ≡ a ++ y) × (b ≡ y ++ d))
+split_by : (a b c d : List ℕ) → a ++ b ≡ c ++ d
+    → ((x : List ℕ) × (a ≡ c ++ x) × (d ≡ x ++ b)) ⊎ ((y : List ℕ) × (c ≡ a ++ y) × (b ≡ y ++ d))
 split_by a b [] d e = inl (a, refl, sym e)
 split_by [] b (z ∷ c) d e = inr (z ∷ c, refl, e)
 split_by (w ∷ a) b (z ∷ c) d e =
     let head : w ≡ z = cc in let tail : a ++ b ≡ c ++ d = cc in again head (split_by a b c d tail)
   where
     again : w ≡ z → ((x : List ℕ) × (a ≡ c ++ x) × (d ≡ x ++ b)) ⊎ ((y : List ℕ) × (c ≡ a ++ y) × (b ≡ y ++ d))
-        → ((x : List ℕ) × (w ∷ a ≡ (z ∷ c) ++ x) × (d ≡ x ++ b)) ⊎ ((y : List ℕ) × (z ∷ c ≡ (w ∷ a) ++ y) × (b ≡ y ++ d))
+        → ((x : List ℕ) × (w ∷ a ≡ (z ∷ c) ++ x) × (d ≡ x ++ b))
+        ⊎ ((y : List ℕ) × (z ∷ c ≡ (w ∷ a) ++ y) × (b ≡ y ++ d))
     again head (inl (x, p, q)) = inl (x, (λ i. head i ∷ p i), q)
     again head (inr (y, p, q)) = inr (y, (λ i. sym head i ∷ p i), q)
 
 -- a front of it with a quiet text behind it: nothing is acknowledged
-pub front_of_work : (ms : List Move) (text behind part rest : List ℕ) → Quiet behind → AreToldBy ms text → part ++ rest ≡ text ++ behind
+pub front_of_work : (ms : List Move) (text behind part rest : List ℕ) → Quiet behind → AreToldBy ms text
+    → part ++ rest ≡ text ++ behind
     → (ns : List Move) × IsWork part ns 0
 front_of_work ms text behind part rest quiet told e = by (split_by part rest text behind e)
   where
-    by : ((x : List ℕ) × (part ≡ text ++ x) × (behind ≡ x ++ rest)) ⊎ ((y : List ℕ) × (text ≡ part ++ y) × (rest ≡ y ++ behind))
+    by : ((x : List ℕ) × (part ≡ text ++ x) × (behind ≡ x ++ rest))
+        ⊎ ((y : List ℕ) × (text ≡ part ++ y) × (rest ≡ y ++ behind))
         → (ns : List Move) × IsWork part ns 0
     by (inl (x, whole, is)) =
         (ms, told_work ms text x part 0 told whole (acknowledged_by 0 x (quiet_front x rest (subst Quiet is quiet))))
@@ -162,7 +180,8 @@ begins (c ∷ a) (d ∷ t) = by (three_ways c d) (begins a t)
 
 module _ (part rest : List ℕ) (few : HasNoSteps (part ++ rest)) where
   -- nothing is acknowledged behind such a head
-  nothing_behind : (head x : List ℕ) → ((more : List ℕ) → part ++ rest ≡ head ++ more → ¬ IsFront (ack 1) more) → part ≡ head ++ x → AreAcknowledged 0 x
+  nothing_behind : (head x : List ℕ) → ((more : List ℕ) → part ++ rest ≡ head ++ more → ¬ IsFront (ack 1) more)
+      → part ≡ head ++ x → AreAcknowledged 0 x
   nothing_behind head x quiet e = record {
     rest = x;
     begins = refl;
@@ -171,7 +190,8 @@ module _ (part rest : List ℕ) (few : HasNoSteps (part ++ rest)) where
         (more ++ rest, ap (λ (t : List ℕ). t ++ rest) is ∙ append_assoc (ack 1) more rest);
   }
 
-  no_head : (((x : List ℕ) → part ≡ plan_text [] ++ x → ⊥)) → ((x : List ℕ) → part ≡ told_text [] ++ x → ⊥) → IsUnplanned part [] 0
+  no_head : (((x : List ℕ) → part ≡ plan_text [] ++ x → ⊥)) → ((x : List ℕ) → part ≡ told_text [] ++ x → ⊥)
+      → IsUnplanned part [] 0
   no_head plan told = record { none = none; untold = untold; empty = refl; nothing = refl }
     where
       none : HasNone part
@@ -182,15 +202,25 @@ module _ (part rest : List ℕ) (few : HasNoSteps (part ++ rest)) where
       untold : (ts : List Told) → HaveNames ts → ¬ IsFront (told_text ts) part
       untold [] named (more, e) = told more e
       untold (t ∷ ts) named (more, e) =
-          few.untold t ts named (more ++ rest, ap (λ (b : List ℕ). b ++ rest) e ∙ append_assoc (told_text (t ∷ ts)) more rest)
+          few.untold t ts named (
+            more ++ rest,
+            ap (λ (b : List ℕ). b ++ rest) e ∙ append_assoc (told_text (t ∷ ts))
+                more rest,
+          )
 
   -- a front of it acknowledges nothing
   pub front_of_no_steps : (ms : List Move) × IsWork part ms 0
   front_of_no_steps = by (begins (plan_text []) part) (begins (told_text []) part)
     where
       by : BeginsOrNot (plan_text []) part → BeginsOrNot (told_text []) part → (ms : List Move) × IsWork part ms 0
-      by (inl (x, e)) told =
-          ([], told_work [] (plan_text []) x part 0 (inl (tt, omega arith, refl)) e (nothing_behind (plan_text []) x few.quiet e))
-      by (inr none) (inl (x, e)) =
-          ([], told_work [] (told_text []) x part 0 (inr ([], tt, refl, tt, refl)) e (nothing_behind (told_text []) x few.still e))
+      by (inl (x, e)) told = (
+        [],
+        told_work [] (plan_text []) x part 0 (inl (tt, omega arith, refl)) e
+            (nothing_behind (plan_text []) x few.quiet e),
+      )
+      by (inr none) (inl (x, e)) = (
+        [],
+        told_work [] (told_text []) x part 0 (inr ([], tt, refl, tt, refl)) e
+            (nothing_behind (told_text []) x few.still e),
+      )
       by (inr none) (inr untold) = ([], inr (inr (no_head none untold)))

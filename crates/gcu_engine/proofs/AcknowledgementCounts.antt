@@ -16,11 +16,13 @@ three_ways (suc d) (suc k) = up (three_ways d k)
 one_length : (k : ℕ) → length (acks (suc k)) ≡ length (acks k) + length (ack (suc k))
 one_length k = length-append (acks k) (ack (suc k))
 
-more_by : (d k : ℕ) → (d < k → length (acks d) + length (ack (suc d)) ≤ length (acks k)) → d < suc k → (d < k) ⊎ ((d ≡ k) ⊎ (k < d))
+more_by : (d k : ℕ) → (d < k → length (acks d) + length (ack (suc d)) ≤ length (acks k)) → d < suc k
+    → (d < k) ⊎ ((d ≡ k) ⊎ (k < d))
     → length (acks d) + length (ack (suc d)) ≤ length (acks (suc k))
 more_by d k so_far low (inl lt) = let less = so_far lt in let one = one_length k in omega (arith, less, one)
 more_by d k so_far low (inr (inl e)) =
-    subst (λ (n : ℕ). length (acks d) + length (ack (suc d)) ≤ length (acks (suc n))) e (let one = one_length d in omega (arith, one))
+    subst (λ (n : ℕ). length (acks d) + length (ack (suc d)) ≤ length (acks (suc n))) e (let one = one_length d in
+    omega (arith, one))
 more_by d k so_far low (inr (inr gt)) = absurd (omega (arith, low, gt))
 
 -- with more steps there is at least the next acknowledgement more
@@ -48,6 +50,8 @@ acked_is d k base h = by (three_ways d k)
     line = ap (λ (l : List ℕ). length l) h.line ∙ length-append h.part h.rest
 
     by : (d < k) ⊎ ((d ≡ k) ⊎ (k < d)) → d ≡ k
-    by (inl lt) = absurd (let more = more_length d k lt in let some = some_length h.rest h.cut in let l = long in let e = line in omega (arith, more, some, l, e))
+    by (inl lt) = absurd (let more = more_length d k lt in let some = some_length h.rest h.cut in let l = long in
+        let e = line in omega (arith, more, some, l, e))
     by (inr (inl e)) = e
-    by (inr (inr gt)) = absurd (let more = more_length k d gt in let some = ack_length (suc k) in let l = long in omega (arith, more, some, l))
+    by (inr (inr gt)) = absurd (let more = more_length k d gt in let some = ack_length (suc k) in let l = long in
+        omega (arith, more, some, l))

@@ -47,7 +47,8 @@ abbrev pub names_told : List ScriptLine → List Reply → List (List ℕ × Rep
 names_told (line ∷ lines) (reply ∷ replies) = (name_of line, reply) ∷ names_told lines replies
 names_told lines replies = []
 
-pub lines_are : (lines : List ScriptLine) (replies : List Reply) → reply_lines lines replies ≡ flat_map (λ t. reply_line t.0 t.1) (names_told lines replies)
+pub lines_are : (lines : List ScriptLine) (replies : List Reply)
+    → reply_lines lines replies ≡ flat_map (λ t. reply_line t.0 t.1) (names_told lines replies)
 lines_are [] replies = refl
 lines_are (line ∷ lines) [] = refl
 lines_are (line ∷ lines) (reply ∷ replies) =
@@ -62,15 +63,18 @@ module _ (s : State) where
   AreHeld [] = ⊤
   AreHeld (p ∷ ps) = (patch_asked p.0 s).Gives (Ok p.1) × AreHeld ps
 
-  held_more : (ps : List Patched) (path : List ℕ) (ops : List Operation) → AreHeld ps → (patch_asked path s).Gives (Ok ops) → AreHeld (ps ++ (path, ops) ∷ [])
+  held_more : (ps : List Patched) (path : List ℕ) (ops : List Operation) → AreHeld ps
+      → (patch_asked path s).Gives (Ok ops) → AreHeld (ps ++ (path, ops) ∷ [])
   held_more [] path ops held given = (given, tt)
   held_more (p ∷ ps) path ops held given = (held.0, held_more ps path ops held.1 given)
 
-  held_at : (ps : List Patched) → AreHeld ps → (file : List ℕ) (ops : List Operation) → patch_at file ps ≡ Some ops → (patch_asked file s).Gives (Ok ops)
+  held_at : (ps : List Patched) → AreHeld ps → (file : List ℕ) (ops : List Operation) → patch_at file ps ≡ Some ops
+      → (patch_asked file s).Gives (Ok ops)
   held_at [] held file ops e = absurd cc
   held_at (p ∷ ps) held file ops e = by (is_word p.0 file) refl (held_at ps held.1 file ops) e
     where
-      by : (b : Bool) → is_word p.0 file ≡ b → (patch_at file ps ≡ Some ops → (patch_asked file s).Gives (Ok ops)) → (if b then Some p.1 else patch_at file ps) ≡ Some ops
+      by : (b : Bool) → is_word p.0 file ≡ b → (patch_at file ps ≡ Some ops → (patch_asked file s).Gives (Ok ops))
+          → (if b then Some p.1 else patch_at file ps) ≡ Some ops
           → (patch_asked file s).Gives (Ok ops)
       by true is others e =
           let same : p.1 ≡ ops = cc in
@@ -78,23 +82,28 @@ module _ (s : State) where
           (subst (λ (q : List ℕ). (patch_asked q s).Gives (Ok p.1)) ((bytes_decides p.0 file).0 is) held.0)
       by false is others e = others e
 
-  unread_held : (found : List Patched) (path : List ℕ) (o : Option (List Operation)) (more : List Patched) → AreHeld found → (unread_asked found path o s).Gives (Ok more) → AreHeld more
+  unread_held : (found : List Patched) (path : List ℕ) (o : Option (List Operation)) (more : List Patched)
+      → AreHeld found → (unread_asked found path o s).Gives (Ok more) → AreHeld more
   unread_held found path (Some ops) more held e = let same : found ≡ more = cc in subst AreHeld same held
   unread_held found path None more held (inl never) = absurd never
   unread_held found path None more held (inr (ops, given, e)) =
       let same : found ++ (path, ops) ∷ [] ≡ more = cc in subst AreHeld same (held_more found path ops held given)
 
-  line_held : (found : List Patched) (o : Option (List ℕ)) (more : List Patched) → AreHeld found → (line_asked found o s).Gives (Ok more) → AreHeld more
+  line_held : (found : List Patched) (o : Option (List ℕ)) (more : List Patched) → AreHeld found
+      → (line_asked found o s).Gives (Ok more) → AreHeld more
   line_held found None more held e = let same : found ≡ more = cc in subst AreHeld same held
   line_held found (Some path) more held h = unread_held found path (patch_at path found) more held h
 
-  pub lines_held : (found : List Patched) (lines : List ScriptLine) (ps : List Patched) → AreHeld found → (patches_asked found lines s).Gives (Ok ps) → AreHeld ps
+  pub lines_held : (found : List Patched) (lines : List ScriptLine) (ps : List Patched) → AreHeld found
+      → (patches_asked found lines s).Gives (Ok ps) → AreHeld ps
   lines_held found [] ps held e = let same : found ≡ ps = cc in subst AreHeld same held
   lines_held found (line ∷ lines) ps held (inl never) = absurd never
-  lines_held found (line ∷ lines) ps held (inr (more, given, rest)) = lines_held more lines ps (line_held found (file_of line) more held given) rest
+  lines_held found (line ∷ lines) ps held (inr (more, given, rest)) =
+      lines_held more lines ps (line_held found (file_of line) more held given) rest
 
 -- a goal is what its patch makes of the configuration then
-aim_holds : (s : State) (patches : List Patched) (budget : ℕ) (ctx : Ctx) (file : List ℕ) (now goal : Config) (plan : List Move) → AreHeld s patches
+aim_holds : (s : State) (patches : List Patched) (budget : ℕ) (ctx : Ctx) (file : List ℕ) (now goal : Config)
+    (plan : List Move) → AreHeld s patches
     → IsAimOf patches budget ctx file now (Towards goal plan) → HoldsPatch s.inputs file now goal
 aim_holds s patches budget ctx file now goal plan held (ops, at, inl never) = absurd never
 aim_holds s patches budget ctx file now goal plan held (ops, at, inr (found, given, planned)) =
@@ -105,7 +114,8 @@ aim_holds s patches budget ctx file now goal plan held (ops, at, inr (found, giv
     makes made (inr (g, e, inl never)) = absurd never
     makes made (inr (g, e, inr (u, same, inl never))) = absurd never
     makes made (inr (g, e, inr (u, same, inr (v, keys, (valid, is))))) =
-        subst (HoldsPatch s.inputs file now) (sym is) (patch_makes file now s g ops (held_at s patches held file ops at) e)
+        subst (HoldsPatch s.inputs file now) (sym is)
+        (patch_makes file now s g ops (held_at s patches held file ops at) e)
 
 -- ---- goals by the names of sessions
 
@@ -129,15 +139,19 @@ module _ (goals : FinMap name_cmp Config) (w : WorldState) (tracks : Tracks goal
       by true e = ap (λ (y : Session). Some y.goal) (some_is aimed t e)
       by false e = tracks q t e
 
-  tracks_commit : (x : Session) → session_of name w ≡ Some x → (m : Move) (rest : List Move) → Tracks goals (with_commit w name x.goal m rest)
-  tracks_commit x there m rest q t found = by (name_cmp q name) refl (sym (finmap.get-insert nat_list_cmp_total w.sessions name next q) ∙ found)
+  tracks_commit : (x : Session) → session_of name w ≡ Some x → (m : Move) (rest : List Move)
+      → Tracks goals (with_commit w name x.goal m rest)
+  tracks_commit x there m rest q t found =
+      by (name_cmp q name) refl (sym (finmap.get-insert nat_list_cmp_total w.sessions name next q) ∙ found)
     where
       next : Session
       next = record { goal = x.goal; seen = suc (length w.commits); rest = rest }
 
-      by : (r : Ordering) → name_cmp q name ≡ r → cond (is_eq r) (Some next) (get w.sessions q) ≡ Some t → get goals q ≡ Some t.goal
+      by : (r : Ordering) → name_cmp q name ≡ r → cond (is_eq r) (Some next) (get w.sessions q) ≡ Some t
+          → get goals q ≡ Some t.goal
       by Less e h = tracks q t h
-      by Equal e h = sym (finmap.get_tied nat_list_cmp_total goals q name e) ∙ tracks name x there ∙ ap (λ (y : Session). Some y.goal) (some_is next t h)
+      by Equal e h = sym (finmap.get_tied nat_list_cmp_total goals q name e) ∙ tracks name x there
+          ∙ ap (λ (y : Session). Some y.goal) (some_is next t h)
       by Greater e h = tracks q t h
 
   tracks_end : Tracks (remove goals name) (without_session w name)
@@ -156,56 +170,79 @@ module _ (s : State) (ctx : Ctx) (total : List Move) where
   abbrev Rest : List (List ℕ × Reply) → Config → FinMap name_cmp Config → List Move → Type 0
   Rest told now goals before = (ms : List Move) × AreCommitted ctx s now goals told ms × (total ≡ before ++ ms)
 
-  module _ (patches : List Patched) (budget : ℕ) (held : AreHeld s patches) (w next : WorldState) (same : w.ctx ≡ ctx) (kept : IsKept w) (goals : FinMap name_cmp Config) (tracks : Tracks goals w)
-      (name : List ℕ) (told : List (List ℕ × Reply)) (on : (after : FinMap name_cmp Config) → Tracks after next → Rest told next.config after (moves_of next.commits)) where
+  module _ (patches : List Patched) (budget : ℕ) (held : AreHeld s patches) (w next : WorldState) (same : w.ctx ≡ ctx)
+      (kept : IsKept w) (goals : FinMap name_cmp Config) (tracks : Tracks goals w)
+      (name : List ℕ) (told : List (List ℕ × Reply)) (on : (after : FinMap name_cmp Config) → Tracks after next
+      → Rest told next.config after (moves_of next.commits)) where
     -- all goes on where nothing is changed
     stays : next ≡ w → Rest told w.config goals (moves_of w.commits)
-    stays e = subst (λ (v : WorldState). Rest told v.config goals (moves_of v.commits)) e (on goals (subst (Tracks goals) (sym e) tracks))
+    stays e = subst (λ (v : WorldState). Rest told v.config goals (moves_of v.commits)) e
+        (on goals (subst (Tracks goals) (sym e) tracks))
 
     -- behind a reply
     abbrev Behind : Reply → Type 0
     Behind reply = Rest ((name, reply) ∷ told) w.config goals (moves_of w.commits)
 
-    aimed_goes : (goal : Config) (plan : List Move) → next ≡ with_aim w name goal plan → Rest told w.config (insert goals name goal) (moves_of w.commits)
+    aimed_goes : (goal : Config) (plan : List Move) → next ≡ with_aim w name goal plan
+        → Rest told w.config (insert goals name goal) (moves_of w.commits)
     aimed_goes goal plan e =
         subst (λ (v : WorldState). Rest told v.config (insert goals name goal) (moves_of v.commits)) e
-        (on (insert goals name goal) (subst (Tracks (insert goals name goal)) (sym e) (tracks_aim goals w tracks name goal plan)))
+        (on (insert goals name goal) (subst (Tracks (insert goals name goal)) (sym e)
+        (tracks_aim goals w tracks name goal plan)))
 
-    begin_goes : (file : List ℕ) (aim : Aim) (reply : Reply) (o : Option Session) → (IsNone o → IsAimOf patches budget w.ctx file w.config aim)
+    begin_goes : (file : List ℕ) (aim : Aim) (reply : Reply) (o : Option Session)
+        → (IsNone o → IsAimOf patches budget w.ctx file w.config aim)
         → IsBegin w name aim o reply next → Behind reply
     begin_goes file aim reply (Some x) is turn = subst Behind (sym turn.0) (stays turn.1)
     begin_goes file (Refusal number) reply None is turn = subst Behind (sym turn.0) (stays turn.1)
     begin_goes file (Towards goal plan) reply None is turn =
         let more = aimed_goes goal plan turn.2 in
-        subst Behind (sym turn.1) (more.0, (file, goal, aim_holds s patches budget w.ctx file w.config goal plan held (is refl), more.1), more.2)
+        subst Behind (sym turn.1) (
+          more.0,
+          (file, goal, aim_holds s patches budget w.ctx file w.config goal plan held (is refl), more.1),
+          more.2,
+        )
 
-    retarget_goes : (file : List ℕ) (aim : Aim) (reply : Reply) (o : Option Session) → (IsSome o → IsAimOf patches budget w.ctx file w.config aim)
+    retarget_goes : (file : List ℕ) (aim : Aim) (reply : Reply) (o : Option Session)
+        → (IsSome o → IsAimOf patches budget w.ctx file w.config aim)
         → IsRetarget w name aim o reply next → Behind reply
     retarget_goes file aim reply None is turn = subst Behind (sym turn.0) (stays turn.1)
     retarget_goes file (Refusal number) reply (Some x) is turn = subst Behind (sym turn.0) (stays turn.1)
     retarget_goes file (Towards goal plan) reply (Some x) is turn =
         let more = aimed_goes goal plan turn.2 in
-        subst Behind (sym turn.1) (more.0, (file, goal, aim_holds s patches budget w.ctx file w.config goal plan held (is refl), more.1), more.2)
+        subst Behind (sym turn.1) (
+          more.0,
+          (file, goal, aim_holds s patches budget w.ctx file w.config goal plan held (is refl), more.1),
+          more.2,
+        )
 
-    next_goes : (x : Session) → session_of name w ≡ Some x → length w.commits ≤ x.seen → (moves : List Move) → x.rest ≡ moves → (reply : Reply)
+    next_goes : (x : Session) → session_of name w ≡ Some x → length w.commits ≤ x.seen → (moves : List Move)
+        → x.rest ≡ moves → (reply : Reply)
         → IsNext w name x.goal moves reply next → Behind reply
     next_goes x there seen [] is reply turn = subst Behind (sym turn.0) (stays turn.1)
     next_goes x there seen (m ∷ moves) is reply turn =
         let course : IsOnCourse w x = kept.courses name x there in
         let below = course.seen in
         let all : x.seen ≡ length w.commits = omega (arith, below, seen) in
-        let plan : IsPlan (rulebook w.ctx) w.config x.goal (m ∷ moves) = subst (λ (ms : List Move). IsPlan (rulebook w.ctx) w.config x.goal ms) is (course.plan all) in
-        let allowed : IsAllowed (rulebook ctx) x.goal w.config m = subst (λ (k : Ctx). IsAllowed (rulebook k) x.goal w.config m) same plan.0 in
+        let plan : IsPlan (rulebook w.ctx)
+        w.config x.goal (m ∷ moves) =
+        subst (λ (ms : List Move). IsPlan (rulebook w.ctx) w.config x.goal ms) is (course.plan all) in
+        let allowed : IsAllowed (rulebook ctx)
+        x.goal w.config m = subst (λ (k : Ctx). IsAllowed (rulebook k) x.goal w.config m) same plan.0 in
         let after : WorldState = with_commit w name x.goal m moves in
-        let more = subst (λ (v : WorldState). Rest told v.config goals (moves_of v.commits)) turn.1 (on goals (subst (Tracks goals) (sym turn.1) (tracks_commit goals w tracks name x there m moves))) in
-        let committed : moves_of after.commits ≡ moves_of w.commits ++ m ∷ [] = map-append (λ (k : Commit). k.mv) w.commits (record { name = name; goal = x.goal; mv = m } ∷ []) in
+        let more = subst (λ (v : WorldState). Rest told v.config goals (moves_of v.commits))
+        turn.1 (on goals (subst (Tracks goals) (sym turn.1) (tracks_commit goals w tracks name x there m moves)))
+        in
+        let committed : moves_of after.commits ≡ moves_of w.commits ++ m ∷ [] = map-append (λ (k : Commit). k.mv)
+        w.commits (record { name = name; goal = x.goal; mv = m } ∷ []) in
         subst Behind (sym turn.0) (
           m ∷ more.0,
           (x.goal, more.0, tracks name x there, refl, allowed, more.1),
           more.2 ∙ ap (λ (ms : List Move). ms ++ more.0) committed ∙ append_assoc (moves_of w.commits) (m ∷ []) more.0,
         )
 
-    step_goes : (o : Option Session) → session_of name w ≡ o → (reply : Reply) → IsStep w name o reply next → Behind reply
+    step_goes : (o : Option Session) → session_of name w ≡ o → (reply : Reply) → IsStep w name o reply next
+        → Behind reply
     step_goes None there reply turn = subst Behind (sym turn.0) (stays turn.1)
     step_goes (Some x) there reply (inl (less, turn)) = subst Behind (sym turn.0) (stays turn.1)
     step_goes (Some x) there reply (inr (seen, turn)) = next_goes x there seen x.rest refl reply turn
@@ -220,20 +257,26 @@ module _ (s : State) (ctx : Ctx) (total : List Move) where
   -- ---- all lines
 
   module _ (patches : List Patched) (budget : ℕ) (held : AreHeld s patches) where
-    line_goes : (line : ScriptLine) (w next : WorldState) → w.ctx ≡ ctx → IsKept w → (goals : FinMap name_cmp Config) → Tracks goals w → (reply : Reply) → IsTurnOf patches budget w line reply next
-        → (told : List (List ℕ × Reply)) → ((after : FinMap name_cmp Config) → Tracks after next → Rest told next.config after (moves_of next.commits))
+    line_goes : (line : ScriptLine) (w next : WorldState) → w.ctx ≡ ctx → IsKept w → (goals : FinMap name_cmp Config)
+        → Tracks goals w → (reply : Reply) → IsTurnOf patches budget w line reply next
+        → (told : List (List ℕ × Reply))
+        → ((after : FinMap name_cmp Config) → Tracks after next → Rest told next.config after (moves_of next.commits))
         → Rest ((name_of line, reply) ∷ told) w.config goals (moves_of w.commits)
     line_goes (Begin name file) w next same kept goals tracks reply turn told on =
-        begin_goes patches budget held w next same kept goals tracks name told on file turn.0 reply (session_of name w) turn.1 turn.2
+        begin_goes patches budget held w next same kept goals tracks name told on file turn.0 reply (session_of name w)
+        turn.1 turn.2
     line_goes (Step name) w next same kept goals tracks reply turn told on =
         step_goes patches budget held w next same kept goals tracks name told on (session_of name w) refl reply turn
     line_goes (Retarget name file) w next same kept goals tracks reply turn told on =
-        retarget_goes patches budget held w next same kept goals tracks name told on file turn.0 reply (session_of name w) turn.1 turn.2
+        retarget_goes patches budget held w next same kept goals tracks name told on file turn.0 reply
+        (session_of name w) turn.1 turn.2
     line_goes (End name) w next same kept goals tracks reply turn told on =
         end_goes patches budget held w next same kept goals tracks name told on (session_of name w) reply turn
 
-    lines_go : (w after : WorldState) (lines : List ScriptLine) (replies : List Reply) → total ≡ moves_of after.commits → w.ctx ≡ ctx → IsKept w
-        → (goals : FinMap name_cmp Config) → Tracks goals w → IsRunOf patches budget w lines replies after → Rest (names_told lines replies) w.config goals (moves_of w.commits)
+    lines_go : (w after : WorldState) (lines : List ScriptLine) (replies : List Reply)
+        → total ≡ moves_of after.commits → w.ctx ≡ ctx → IsKept w
+        → (goals : FinMap name_cmp Config) → Tracks goals w → IsRunOf patches budget w lines replies after
+        → Rest (names_told lines replies) w.config goals (moves_of w.commits)
     lines_go w after [] [] whole same kept goals tracks run =
         ([], refl, whole ∙ ap (λ (v : WorldState). moves_of v.commits) run ∙ sym (append-nil (moves_of w.commits)))
     lines_go w after [] (reply ∷ replies) whole same kept goals tracks never = absurd never
@@ -242,17 +285,21 @@ module _ (s : State) (ctx : Ctx) (total : List Move) where
         let one = turn_is patches budget w next line reply turn in
         let goes = run_goes_on w next ((one.0, reply) ∷ []) (next, one.1, refl) in
         line_goes line w next same kept goals tracks reply turn (names_told lines replies)
-        (λ more track. lines_go next after lines replies whole (goes.ctx ∙ same) (turn_keeps w one.0 reply next kept one.1) more track run)
+        (λ more track. lines_go next after lines replies whole (goes.ctx ∙ same)
+        (turn_keeps w one.0 reply next kept one.1) more track run)
 
 -- ---- a whole script
 
 none_tracked : (ctx : Ctx) (start : Config) → Tracks empty (opened ctx start)
-none_tracked ctx start name x found = let none : None ≡ Some x = sym (finmap.get-empty name_cmp name) ∙ found in absurd cc
+none_tracked ctx start name x found = let none : None ≡ Some x = sym (finmap.get-empty name_cmp name) ∙ found in
+    absurd cc
 
 -- the moves that are committed are those that are told, each allowed for the goal of its session
-pub run_commits : (s : State) (ctx : Ctx) (start : Config) (patches : List Patched) (budget : ℕ) (lines : List ScriptLine) (replies : List Reply) (after : WorldState)
+pub run_commits : (s : State) (ctx : Ctx) (start : Config) (patches : List Patched) (budget : ℕ)
+    (lines : List ScriptLine) (replies : List Reply) (after : WorldState)
     → IsValidIn ctx start → AreHeld s patches → IsRunOf patches budget (opened ctx start) lines replies after
     → AreCommitted ctx s start empty (names_told lines replies) (moves_of after.commits)
 run_commits s ctx start patches budget lines replies after valid held run =
-    let all = lines_go s ctx (moves_of after.commits) patches budget held (opened ctx start) after lines replies refl refl (opened_is_kept ctx start valid) empty (none_tracked ctx start) run in
+    let all = lines_go s ctx (moves_of after.commits) patches budget held (opened ctx start) after lines replies refl
+    refl (opened_is_kept ctx start valid) empty (none_tracked ctx start) run in
     subst (AreCommitted ctx s start empty (names_told lines replies)) (sym all.2) all.1

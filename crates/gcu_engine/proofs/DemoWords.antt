@@ -40,7 +40,8 @@ grouped_is k n e = by (nat_lt k generated.group || not (k % generated.group == 0
 ports_are : (digits : List ℕ) (n : ℕ) → ports_in digits ≡ Some n → number digits ≡ n
 ports_are digits n e = by (decimal_within generated.most_ports digits) refl e
   where
-    by : (o : Option ℕ) → decimal_within generated.most_ports digits ≡ o → option_and_then in_groups o ≡ Some n → number digits ≡ n
+    by : (o : Option ℕ) → decimal_within generated.most_ports digits ≡ o → option_and_then in_groups o ≡ Some n
+        → number digits ≡ n
     by None is e = absurd cc
     by (Some k) is e = decimal_is generated.most_ports digits k is ∙ grouped_is k n e
 
@@ -48,20 +49,25 @@ ports_are digits n e = by (decimal_within generated.most_ports digits) refl e
 
 -- a command that is a demonstration plans between those of its seed and its number of ports
 abbrev pub IsDemonstrated : Option Form → (start goal : Config) → Type 0
-IsDemonstrated (Some (forms.demo seed ports)) start goal = (start ≡ generated.start seed ports) × (goal ≡ generated.goal seed ports)
+IsDemonstrated (Some (forms.demo seed ports)) start goal =
+    (start ≡ generated.start seed ports) × (goal ≡ generated.goal seed ports)
 IsDemonstrated other start goal = Unit {0}
 
 module _ (seed ports : List ℕ) (start goal : Config) where
   -- the form of such words
   abbrev worded : Option ℕ → Option ℕ → Option Form
-  worded a b = option_map (λ (d : Demo). forms.demo d.seed d.ports) (option_and_then (λ s. option_map (λ n. record { seed = s; ports = n }) b) a)
+  worded a b = option_map (λ (d : Demo). forms.demo d.seed d.ports)
+      (option_and_then (λ s. option_map (λ n. record { seed = s; ports = n }) b) a)
 
-  pub by_words : form (codes "demo" ∷ seed ∷ ports ∷ []) ≢ None → IsDemonstrated (form (codes "demo" ∷ seed ∷ ports ∷ [])) start goal
+  pub by_words : form (codes "demo" ∷ seed ∷ ports ∷ []) ≢ None
+      → IsDemonstrated (form (codes "demo" ∷ seed ∷ ports ∷ [])) start goal
       → (start ≡ generated.start (number seed) (number ports)) × (goal ≡ generated.goal (number seed) (number ports))
   by_words some is = by (seed_in seed) refl (ports_in ports) refl some is
     where
-      by : (a : Option ℕ) → seed_in seed ≡ a → (b : Option ℕ) → ports_in ports ≡ b → worded a b ≢ None → IsDemonstrated (worded a b) start goal
-          → (start ≡ generated.start (number seed) (number ports)) × (goal ≡ generated.goal (number seed) (number ports))
+      by : (a : Option ℕ) → seed_in seed ≡ a → (b : Option ℕ) → ports_in ports ≡ b → worded a b ≢ None
+          → IsDemonstrated (worded a b) start goal
+          → (start ≡ generated.start (number seed) (number ports))
+          × (goal ≡ generated.goal (number seed) (number ports))
       by None a b have some is = absurd (some refl)
       by (Some s) a None have some is = absurd (some refl)
       by (Some s) a (Some n) have some is =

@@ -69,9 +69,11 @@ PointsAfter f s files = Image s.pending s.files files ⊎ ((points files ≡ poi
 -- ---- by its words
 
 -- words that begin as a command with a task are none, or have that task
-pub task_of_words : (task : Task) (words : List (List ℕ)) → IsTaskCommand task words → (form words ≡ None) ⊎ (task_in (form words) ≡ Some task)
+pub task_of_words : (task : Task) (words : List (List ℕ)) → IsTaskCommand task words
+    → (form words ≡ None) ⊎ (task_in (form words) ≡ Some task)
 task_of_words task words (options, is) =
-    by (form words) (subst (λ (ws : List (List ℕ)). IsPlanForm task options (form ws)) (sym is) (plan_form task options))
+    by (form words) (subst (λ (ws : List (List ℕ)). IsPlanForm task options (form ws)) (sym is)
+    (plan_form task options))
   where
     by : (f : Option Form) → IsPlanForm task options f → (f ≡ None) ⊎ (task_in f ≡ Some task)
     by f (inl none) = inl none
@@ -79,16 +81,20 @@ task_of_words task words (options, is) =
     by f (inr (inr (budget, e, not))) = inr (ap task_in e)
 
 -- words that begin as a command that does a task are none, or do that one
-pub change_of_words : (task : Task) (words : List (List ℕ)) → IsChangeCommand task words → (form words ≡ None) ⊎ ((budget : ℕ) × (form words ≡ Some (forms.change task budget)))
+pub change_of_words : (task : Task) (words : List (List ℕ)) → IsChangeCommand task words
+    → (form words ≡ None) ⊎ ((budget : ℕ) × (form words ≡ Some (forms.change task budget)))
 change_of_words task words (options, is, done) =
-    by (form words) (subst (λ (ws : List (List ℕ)). IsPlanForm task options (form ws)) (sym is) (plan_form task options))
+    by (form words) (subst (λ (ws : List (List ℕ)). IsPlanForm task options (form ws)) (sym is)
+    (plan_form task options))
   where
-    by : (f : Option Form) → IsPlanForm task options f → (f ≡ None) ⊎ ((budget : ℕ) × (f ≡ Some (forms.change task budget)))
+    by : (f : Option Form) → IsPlanForm task options f
+        → (f ≡ None) ⊎ ((budget : ℕ) × (f ≡ Some (forms.change task budget)))
     by f (inl none) = inl none
     by f (inr (inl (budget, e, there))) = absurd (done there)
     by f (inr (inr (budget, e, not))) = inr (budget, e)
 
-pub order_by_words : (words : List (List ℕ)) (s : State) → form words ≢ None → LacksOrder (form words) s → HasNoOrder words s
+pub order_by_words : (words : List (List ℕ)) (s : State) → form words ≢ None → LacksOrder (form words) s
+    → HasNoOrder words s
 order_by_words words s some lacks = record {
   ctx = written_ctx s lacks.ctx lacks.read;
   read = read_written s lacks.ctx lacks.read;
@@ -101,7 +107,8 @@ order_by_words words s some lacks = record {
   none = none_written s lacks.ctx lacks.read lacks.goal lacks.start lacks.goal lacks.none;
 }
   where
-    by : (from : Target) → (form words ≡ None) ⊎ (task_in (form words) ≡ Some (reach from)) → Stores s.files lacks.start × IsMade from s lacks.start lacks.goal
+    by : (from : Target) → (form words ≡ None) ⊎ (task_in (form words) ≡ Some (reach from))
+        → Stores s.files lacks.start × IsMade from s lacks.start lacks.goal
     by from (inl none) = absurd (some none)
     by from (inr e) =
         let planned = subst (λ (o : Option Task). IfSome o (IsPlannedBy s lacks.start lacks.goal)) e lacks.planned in
@@ -129,8 +136,15 @@ points_by_words words s files (inl image) = inl image
 points_by_words words s files (inr (inl same)) = inr (inl same)
 points_by_words words s files (inr (inr one)) = inr (inr (by (form words) (form_words words) one))
   where
-    by : (f : Option Form) → IfSome f (IsFormOf words) → IsOneChange f s files → AddsPoint words s files ⊎ RemovesPoint words s files
+    by : (f : Option Form) → IfSome f (IsFormOf words) → IsOneChange f s files
+        → AddsPoint words s files ⊎ RemovesPoint words s files
     by (Some (forms.save_checkpoint name)) is (config, there, e) =
-        inl (record { name = name; config = config; words_are = is; stands = (stores_is s.files config).1 there; points_are = e })
+        inl (record {
+          name = name;
+          config = config;
+          words_are = is;
+          stands = (stores_is s.files config).1 there;
+          points_are = e;
+        })
     by (Some (forms.delete_checkpoint name)) is e = inr (record { name = name; words_are = is; points_are = e })
     by other is never = absurd never

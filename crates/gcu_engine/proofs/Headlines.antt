@@ -1,5 +1,5 @@
 -- The promise of the whole program follows from what it answers and what a crash leaves.
-use Rattle.std.proofs.Common.{◌≡◌, ◌≢◌, ◌≤◌, ◌⊎◌, inl, inr, ℕ, suc, List, ◌++◌, length, refl, sym, ap, ◌∙◌, subst, Option, Some, None, Ok, Err, IfSome, ⊎_elim}
+use Rattle.std.proofs.Common.{◌≡◌, ◌≢◌, ◌≤◌, ◌⊎◌, inl, inr, ℕ, suc, List, ◌++◌, length, refl, sym, ap, ◌∙◌, subst, Option, Some, None, Ok, IfSome, ⊎_elim}
 use Rattle.host_core.specs.Counts.{Counts}
 use Rattle.host_core.specs.Crashes.{Image, Left, LeavesOnly}
 use Rattle.host_core.specs.State.{State, printed}
@@ -407,75 +407,69 @@ words_keep words f None left is query h = tt
 words_keep words f (Some s) left is query h =
     form_keeps f s left query (subst (λ (g : Option Form). LeftByForm g s left) (sym is) h)
 
-early_keeps : (task : Task) (budget : ℕ) (o : Option State) (left : Left)
+pub early_keeps : (task : Task) (budget : ℕ) (o : Option State) (left : Left)
     → LeftToEarly (change_asked task budget) o left → LeftUnwritten o left
 early_keeps task budget None left h = tt
 early_keeps task budget (Some s) left (part, front, may) = may.files
 
 -- ---- all of it
 
+headline_of : (words : List (List ℕ)) (s : State) (after : Option State) (old new : Counts) (result : Outcome)
+    (IsLeft : Left → Type 0) → Answers words (Some s) after old new result
+    → ((left : Left) → IsLeft left → LeftMeanwhile words (Some s) left)
+    → (IsRefusal result → (left : Left) → IsLeft left → LeftUnwritten (Some s) left)
+    → IsHeadline words s after result IsLeft
+headline_of words s after old new result IsLeft answers crash early = record {
+  printed = λ task is. prints task (task_of_words task words is);
+  no_order = no_order_is words s after old new result answers;
+  crash = λ left since. whole_of words s left (crash left since);
+  refused = early;
+  quiet = λ any. quiet_is (asked words s) s answers.0 after answers.1 answers.2 old new result answers.3 any;
+  finished = λ from is done. changes from (change_of_words (reach from) words is) done;
+  rolled = λ name is done.
+      rolls_back name s after (changes (rolled_back name) (change_of_words (reach (rolled_back name)) words is) done);
+}
+  where
+    prints : (task : Task) → (form words ≡ None) ⊎ (task_in (form words) ≡ Some task) → PrintsTask task s after
+    prints task (inl none) =
+        let h = subst (λ (f : Option Form). Leaves (form_asked f s) s after old new result) none answers in
+        unknown_prints task s h.0 after old new h.1 h.2 result h.3
+    prints task (inr e) = plans_print (form words) task s after old new result e answers
+
+    changes : (from : Target) → (form words ≡ None) ⊎ ((budget : ℕ) × (form words ≡ Some (forms.change (reach from) budget)))
+        → result ≡ Done → StoresTarget from s after
+    changes from (inl none) done =
+        absurd (unknown_fails s after old new
+        (subst (λ (e : Outcome). Leaves (form_asked None s) s after old new e) done
+        (subst (λ (f : Option Form). Leaves (form_asked f s) s after old new result) none answers)))
+    changes from (inr (budget, is)) done =
+        finishes from budget s after old new
+        (subst (λ (e : Outcome). Leaves (change_asked (reach from) budget s) s after old new e) done
+        (subst (λ (f : Option Form). Leaves (form_asked f s) s after old new result) is answers))
+
+-- of a host that may not tell its state
+pub headline_in : (words : List (List ℕ)) (o after : Option State) (old new : Counts) (result : Outcome)
+    (IsLeft : Left → Type 0) → Answers words o after old new result
+    → ((left : Left) → IsLeft left → LeftMeanwhile words o left)
+    → (IsRefusal result → (left : Left) → IsLeft left → LeftUnwritten o left)
+    → IfSome o (λ s. IsHeadline words s after result IsLeft)
+headline_in words None after old new result IsLeft answers crash early = tt
+headline_in words (Some s) after old new result IsLeft answers crash early =
+    headline_of words s after old new result IsLeft answers crash early
+
 module _ {H : Type 0} (moment : H → ℕ) (left_since : H → ℕ → Left → Type 0) where
-  headline_of : (words : List (List ℕ)) (s : State) (after : Option State) (old new : H) (before later : Counts) (result : Outcome)
-      → Answers words (Some s) after before later result → LeavesOnly moment left_since old new (LeftMeanwhile words (Some s))
-      → (IsRefusal result → LeavesOnly moment left_since old new (LeftUnwritten (Some s)))
-      → IsHeadline words s after result (left_since new (moment old))
-  headline_of words s after old new before later result answers crash keeps = record {
-    printed = λ task is. prints task (task_of_words task words is);
-    no_order = no_order_is words s after before later result answers;
-    crash = λ left since. whole_of words s left (crash.each left since);
-    refused = λ any left since. (keeps any).each left since;
-    quiet = λ any. quiet_is (asked words s) s answers.0 after answers.1 answers.2 before later result answers.3 any;
-    finished = λ from is done. changes from (change_of_words (reach from) words is) done;
-    rolled = λ name is done. rolls_back name s after (changes (rolled_back name) (change_of_words (reach (rolled_back name)) words is) done);
-  }
-    where
-      prints : (task : Task) → (form words ≡ None) ⊎ (task_in (form words) ≡ Some task) → PrintsTask task s after
-      prints task (inl none) =
-          let h = subst (λ (f : Option Form). Leaves (form_asked f s) s after before later result) none answers in
-          unknown_prints task s h.0 after before later h.1 h.2 result h.3
-      prints task (inr e) = plans_print (form words) task s after before later result e answers
+  -- words whose command never writes leave the files
+  pub query_keeps_all : (words : List (List ℕ)) (f : Option Form) (o : Option State) (old new : H) → f ≡ form words → IsQuery f
+      → LeavesOnly moment left_since old new (LeftMeanwhile words o)
+      → LeavesOnly moment left_since old new (LeftUnwritten o)
+  query_keeps_all words f o old new is query =
+      weaker moment left_since old new (LeftMeanwhile words o) (LeftUnwritten o)
+      (λ left h. words_keep words f o left is query h)
 
-      changes : (from : Target) → (form words ≡ None) ⊎ ((budget : ℕ) × (form words ≡ Some (forms.change (reach from) budget))) → result ≡ Done → StoresTarget from s after
-      changes from (inl none) done =
-          absurd (unknown_fails s after before later
-          (subst (λ (e : Outcome). Leaves (form_asked None s) s after before later e) done
-          (subst (λ (f : Option Form). Leaves (form_asked f s) s after before later result) none answers)))
-      changes from (inr (budget, is)) done =
-          finishes from budget s after before later
-          (subst (λ (e : Outcome). Leaves (change_asked (reach from) budget s) s after before later e) done
-          (subst (λ (f : Option Form). Leaves (form_asked f s) s after before later result) is answers))
-
-  -- of a host that may not tell its state
-  headline_in : (words : List (List ℕ)) (o after : Option State) (old new : H) (before later : Counts) (result : Outcome)
-      → Answers words o after before later result → LeavesOnly moment left_since old new (LeftMeanwhile words o)
-      → (IsRefusal result → LeavesOnly moment left_since old new (LeftUnwritten o))
-      → IfSome o (λ s. IsHeadline words s after result (left_since new (moment old)))
-  headline_in words None after old new before later result answers crash keeps = tt
-  headline_in words (Some s) after old new before later result answers crash keeps = headline_of words s after old new before later result answers crash keeps
-
-  -- of words whose command never writes
-  pub headline : (words : List (List ℕ)) (f : Option Form) (o after : Option State) (old new : H) (before later : Counts) (result : Outcome) → f ≡ form words → IsQuery f
-      → Answers words o after before later result → LeavesOnly moment left_since old new (LeftMeanwhile words o)
-      → IfSome o (λ s. IsHeadline words s after result (left_since new (moment old)))
-  headline words f o after old new before later result is query answers crash =
-      headline_in words o after old new before later result answers crash
-      (λ any. weaker moment left_since old new (LeftMeanwhile words o) (LeftUnwritten o)
-      (λ left h. words_keep words f o left is query h) crash)
-
-  -- of words whose command does a task
-  pub change_headline : (words : List (List ℕ)) (task : Task) (budget : ℕ) (o after : Option State) (old new : H) (before later : Counts) (result : Outcome)
-      → Answers words o after before later result → LeavesOnly moment left_since old new (LeftMeanwhile words o)
-      → (IsRefusal result → LeavesOnly moment left_since old new (LeftToEarly (change_asked task budget) o))
-      → IfSome o (λ s. IsHeadline words s after result (left_since new (moment old)))
-  change_headline words task budget o after old new before later result answers crash early =
-      headline_in words o after old new before later result answers crash
-      (λ any. weaker moment left_since old new (LeftToEarly (change_asked task budget) o) (LeftUnwritten o)
-      (λ left h. early_keeps task budget o left h) (early any))
-
-  -- of words whose command writes otherwise
-  pub early_headline : (words : List (List ℕ)) (o after : Option State) (old new : H) (before later : Counts) (result : Outcome)
-      → Answers words o after before later result → LeavesOnly moment left_since old new (LeftMeanwhile words o)
-      → (IsRefusal result → LeavesOnly moment left_since old new (LeftUnwritten o))
-      → IfSome o (λ s. IsHeadline words s after result (left_since new (moment old)))
-  early_headline words o after old new before later result answers crash early =
-      headline_in words o after old new before later result answers crash early
+  -- and so does a task before its first write
+  pub early_keeps_all : (task : Task) (budget : ℕ) (o : Option State) (old new : H)
+      → LeavesOnly moment left_since old new (LeftToEarly (change_asked task budget) o)
+      → LeavesOnly moment left_since old new (LeftUnwritten o)
+  early_keeps_all task budget o old new =
+      weaker moment left_since old new (LeftToEarly (change_asked task budget) o) (LeftUnwritten o)
+      (λ left h. early_keeps task budget o left h)

@@ -29,20 +29,24 @@ digit_told c is =
     let parts = and_parts (nat_le 48 c) (nat_le c 57) is in
     record { low = leb-true 48 c parts.0; high = leb-true c 57 parts.1 }
 
-last_of : (n c : ℕ) → 0 < n → IsDigit c → characters (digits_of decimal_base (with_digit n c)) ≡ characters (digits_of decimal_base n) ++ c ∷ []
+last_of : (n c : ℕ) → 0 < n → IsDigit c
+    → characters (digits_of decimal_base (with_digit n c)) ≡ characters (digits_of decimal_base n) ++ c ∷ []
 last_of n c some is =
     let step = digits_of_step decimal_base (with_digit n c) (omega arith) (omega arith) in
     let front : with_digit n c / decimal_base ≡ n = omega arith in
     let end : character (with_digit n c % decimal_base) ≡ c = omega arith in
-    ap characters step ∙ map-append character (digits_of decimal_base (with_digit n c / decimal_base)) (with_digit n c % decimal_base ∷ [])
+    ap characters step ∙ map-append character (digits_of decimal_base (with_digit n c / decimal_base))
+    (with_digit n c % decimal_base ∷ [])
     ∙ ap (λ m. characters (digits_of decimal_base m) ++ character (with_digit n c % decimal_base) ∷ []) front
     ∙ ap (λ x. characters (digits_of decimal_base n) ++ x ∷ []) end
 
-digits_behind : (n : ℕ) (cs : List ℕ) → 0 < n → list_all is_ascii_digit cs ≡ true → characters (digits_of decimal_base (fold with_digit n cs)) ≡ characters (digits_of decimal_base n) ++ cs
+digits_behind : (n : ℕ) (cs : List ℕ) → 0 < n → list_all is_ascii_digit cs ≡ true
+    → characters (digits_of decimal_base (fold with_digit n cs)) ≡ characters (digits_of decimal_base n) ++ cs
 digits_behind n [] some are = sym (append-nil (characters (digits_of decimal_base n)))
 digits_behind n (c ∷ cs) some are =
     let parts = and_parts (is_ascii_digit c) (list_all is_ascii_digit cs) are in
-    digits_behind (with_digit n c) cs (omega arith) parts.1 ∙ ap (λ ds. ds ++ cs) (last_of n c some (digit_told c parts.0))
+    digits_behind (with_digit n c) cs (omega arith) parts.1 ∙ ap (λ ds. ds ++ cs)
+    (last_of n c some (digit_told c parts.0))
     ∙ append_assoc (characters (digits_of decimal_base n)) (c ∷ []) cs
 
 first_digit : (c : ℕ) → 48 < c → IsDigit c → characters (digits_of decimal_base (with_digit 0 c)) ≡ c ∷ []
@@ -50,7 +54,8 @@ first_digit c some is =
     let step = digits_of_step decimal_base (with_digit 0 c) (omega arith) (omega arith) in
     let front : with_digit 0 c / decimal_base ≡ 0 = omega arith in
     let end : character (with_digit 0 c % decimal_base) ≡ c = omega arith in
-    ap characters step ∙ ap (λ m. characters (digits_of decimal_base m ++ with_digit 0 c % decimal_base ∷ [])) front ∙ ap (λ x. x ∷ []) end
+    ap characters step ∙ ap (λ m. characters (digits_of decimal_base m ++ with_digit 0 c % decimal_base ∷ [])) front
+    ∙ ap (λ x. x ∷ []) end
 
 text_of_some : (n : ℕ) → 0 < n → index_text n ≡ characters (digits_of decimal_base n)
 text_of_some zero some = absurd (omega arith)
@@ -78,17 +83,20 @@ index_is (c ∷ d ∷ ds) is =
     let other = eqb-false c digit_zero (not-true _ parts.0) in
     let more : 48 < c = above c digit other in
     let some : 0 < number (c ∷ d ∷ ds) = omega (arith, fold_grows (with_digit 0 c) (d ∷ ds)) in
-    sym (text_of_some (number (c ∷ d ∷ ds)) some ∙ digits_behind (with_digit 0 c) (d ∷ ds) (omega arith) all.1 ∙ ap (λ xs. xs ++ d ∷ ds) (first_digit c more digit))
+    sym (text_of_some (number (c ∷ d ∷ ds)) some ∙ digits_behind (with_digit 0 c) (d ∷ ds) (omega arith) all.1 ∙
+    ap (λ xs. xs ++ d ∷ ds) (first_digit c more digit))
   where
     above : (c : ℕ) → IsDigit c → (c ≡ digit_zero → ⊥) → 48 < c
     above c digit other = omega arith
 
-picks_index : (a b : Bool) (n i : ℕ) → (if a then behind_last else if b then index n else no_index) ≡ index i → (b ≡ true) × (n ≡ i)
+picks_index : (a b : Bool) (n i : ℕ) → (if a then behind_last else if b then index n else no_index) ≡ index i
+    → (b ≡ true) × (n ≡ i)
 picks_index true b n i e = absurd cc
 picks_index false false n i e = absurd cc
 picks_index false true n i e = (refl, cc)
 
-picks_dash : (a b : Bool) (n : ℕ) → (if a then behind_last else if b then index n else no_index) ≡ behind_last → a ≡ true
+picks_dash : (a b : Bool) (n : ℕ) → (if a then behind_last else if b then index n else no_index) ≡ behind_last
+    → a ≡ true
 picks_dash true b n e = refl
 picks_dash false false n e = absurd cc
 picks_dash false true n e = absurd cc

@@ -1,7 +1,7 @@
 -- The file `intent` at each moment of a command that does a task.
 use Rattle.std.proofs.Common.{◌≡◌, ◌≤◌, ◌<◌, ◌⊎◌, inl, inr, ℕ, List, [], ◌∷◌, ◌++◌, length, refl, sym, ap, ◌∙◌, subst, arith, Option, Some, None, Ok, IfSome}
 use Rattle.std.specs.FinMap.{get}
-use Rattle.host_core.specs.Crashes.{Left, LeavesOnly}
+use Rattle.host_core.specs.Crashes.{Left}
 use Rattle.host_core.specs.State.{Files, State}
 use Rattle.conf_doc.specs.Texts.{file_text}
 use Rattle.conf_doc.specs.declared.configuration.Config.{Config}
@@ -114,10 +114,10 @@ change_intent task budget s left (inr (w, c, told, given, fits, h, kept)) =
     let g = change_given task budget s (request.change w) given in
     inr (intended_next task s w c told (subst (IsWorkAsked task s) (same_change g.0 w g.2) g.1) fits left h)
 
-module _ {H : Type 0} (moment : H → ℕ) (left_since : H → ℕ → Left → Type 0) where
-  -- of a host that may not tell its state
-  pub keeps_intent : (words : List (List ℕ)) (o : Option State) (old new : H) → LeavesOnly moment left_since old new (LeftMeanwhile words o)
-      → IfSome o (λ s. intending.KeepsIntent words s (left_since new (moment old)))
-  keeps_intent words None old new run = tt
-  keeps_intent words (Some s) old new run = λ task budget is left since.
-      change_intent task budget s left (subst (λ (f : Option Form). LeftByForm f s left) is (run.each left since))
+-- of a host that may not tell its state
+pub keeps_intent : (words : List (List ℕ)) (o : Option State) (IsLeft : Left → Type 0)
+    → ((left : Left) → IsLeft left → LeftMeanwhile words o left)
+    → IfSome o (λ s. intending.KeepsIntent words s IsLeft)
+keeps_intent words None IsLeft crash = tt
+keeps_intent words (Some s) IsLeft crash = λ task budget is left since.
+    change_intent task budget s left (subst (λ (f : Option Form). LeftByForm f s left) is (crash left since))

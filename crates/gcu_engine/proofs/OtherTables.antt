@@ -40,7 +40,8 @@ module _ {A : Type 0} (q k : List ℕ) (apart : q ≡ k → ⊥) where
       skipped same Equal e = absurd (apart (same_name q p.0 e ∙ sym same))
       skipped same Greater e = refl
 
-      by : find q (without k ps) ≡ find q ps → (r : Ordering) → name_cmp k p.0 ≡ r → find q (cond (not (is_eq r)) (p ∷ without k ps) (without k ps)) ≡ find q (p ∷ ps)
+      by : find q (without k ps) ≡ find q ps → (r : Ordering) → name_cmp k p.0 ≡ r
+          → find q (cond (not (is_eq r)) (p ∷ without k ps) (without k ps)) ≡ find q (p ∷ ps)
       by rest Less e = ap (λ (o : Option A). cond (is_eq (name_cmp q p.0)) (Some p.1) o) rest
       by rest Equal e = rest ∙ skipped (same_name k p.0 e) (name_cmp q p.0) refl
       by rest Greater e = ap (λ (o : Option A). cond (is_eq (name_cmp q p.0)) (Some p.1) o) rest
@@ -54,7 +55,8 @@ module _ {A : Type 0} (q k : List ℕ) (apart : q ≡ k → ⊥) where
 
 -- ---- another table
 
-part_other : (c : Config) (names : List (List ℕ)) (o : Option Part) (u : List ℕ) → (u ≡ table_of names → ⊥) → find u (with_part c names o) ≡ find u c
+part_other : (c : Config) (names : List (List ℕ)) (o : Option Part) (u : List ℕ) → (u ≡ table_of names → ⊥)
+    → find u (with_part c names o) ≡ find u c
 part_other c [] o u apart = refl
 part_other c (t ∷ []) None u apart = without_other u t apart c
 part_other c (t ∷ []) (Some (part.Table table)) u apart = put_other u t apart table c
@@ -75,20 +77,24 @@ part_other c (t ∷ k ∷ f ∷ n ∷ ns) o u apart = refl
 -- no listed move has its place in a table without a model
 abbrev pub HaveModels : Type 0
 HaveModels =
-    (ctx : Ctx) (cur goal : Config) (m : Move) → AgreeElsewhere ctx cur goal → IsListed (rulebook ctx) cur goal m → IsModelled ctx.models (table_of (place m))
+    (ctx : Ctx) (cur goal : Config) (m : Move) → AgreeElsewhere ctx cur goal → IsListed (rulebook ctx) cur goal m
+    → IsModelled ctx.models (table_of (place m))
 
-pub half_elsewhere : HaveModels → (ctx : Ctx) (goal c : Config) (ms : List Move) (x : Config) → IsWay (rulebook ctx) goal c ms x → AgreeElsewhere ctx c goal
+pub half_elsewhere : HaveModels → (ctx : Ctx) (goal c : Config) (ms : List Move) (x : Config)
+    → IsWay (rulebook ctx) goal c ms x → AgreeElsewhere ctx c goal
     → (k : ℕ) → AgreeElsewhere ctx (conf c ms k) goal
 half_elsewhere law ctx goal c [] x way agree k = agree
 half_elsewhere law ctx goal c (m ∷ ms) x way agree zero = agree
 half_elsewhere law ctx goal c (m ∷ ms) x way agree (suc k) =
     half_elsewhere law ctx goal (step c m) ms x way.1
     (λ t isnt.
-    part_other c (place m) (part_after c m) t (λ e. isnt (subst (IsModelled ctx.models) (sym e) (law ctx c goal m agree way.0.listed)))
+    part_other c (place m) (part_after c m) t
+    (λ e. isnt (subst (IsModelled ctx.models) (sym e) (law ctx c goal m agree way.0.listed)))
     ∙ agree t isnt) k
 
 -- the rest of a way is one
-pub rest_reaches : (ctx : Ctx) (goal c : Config) (ms : List Move) (x : Config) → IsWay (rulebook ctx) goal c ms x → (k : ℕ) → IsReachable (rulebook ctx) goal (conf c ms k) x
+pub rest_reaches : (ctx : Ctx) (goal c : Config) (ms : List Move) (x : Config) → IsWay (rulebook ctx) goal c ms x
+    → (k : ℕ) → IsReachable (rulebook ctx) goal (conf c ms k) x
 rest_reaches ctx goal c [] x way k = ([], way)
 rest_reaches ctx goal c (m ∷ ms) x way zero = (m ∷ ms, way)
 rest_reaches ctx goal c (m ∷ ms) x way (suc k) = rest_reaches ctx goal (step c m) ms x way.1 k

@@ -23,28 +23,33 @@ use Rattle.gcu_engine.proofs.IndexTexts.{token_is_dash, token_is_index}
 
 -- ---- results
 
-pub first_ok : {A B E : Type 0} (r : Result A E) (f : A → Result B E) (b : B) → (r >>= f) ≡ Ok b → (a : A) × (r ≡ Ok a) × (f a ≡ Ok b)
+pub first_ok : {A B E : Type 0} (r : Result A E) (f : A → Result B E) (b : B) → (r >>= f) ≡ Ok b
+    → (a : A) × (r ≡ Ok a) × (f a ≡ Ok b)
 first_ok (Ok a) f b e = (a, refl, e)
 first_ok (Err why) f b e = absurd cc
 
-pub then_ok : {A B E : Type 0} (r : Result A E) (f : A → Result B E) (a : A) (b : B) → r ≡ Ok a → f a ≡ Ok b → (r >>= f) ≡ Ok b
+pub then_ok : {A B E : Type 0} (r : Result A E) (f : A → Result B E) (a : A) (b : B) → r ≡ Ok a → f a ≡ Ok b
+    → (r >>= f) ≡ Ok b
 then_ok r f a b is e = ap (λ x. x >>= f) is ∙ e
 
 -- ---- the child that a token names
 
-there_at : (why : FailWhy) (token : List ℕ) (ds : Items) (child : Document) (i : ℕ) → list_token token ≡ index i → (o : Option Document) → slice_get (documents ds) i ≡ o
+there_at : (why : FailWhy) (token : List ℕ) (ds : Items) (child : Document) (i : ℕ) → list_token token ≡ index i
+    → (o : Option Document) → slice_get (documents ds) i ≡ o
     → below why token (list ds) ≡ Ok child → slice_get (documents ds) i ≡ Some child
 there_at why token ds child i at None none h = let k = rw (at, none) at h in absurd cc
 there_at why token ds child i at (Some d) some h =
     let k = rw (at, some) at h in
     let same : d ≡ child = cc in some ∙ ap (λ x. Some x) same
 
-named_item : (why : FailWhy) (token : List ℕ) (ds : Items) (child : Document) (t : ListToken) → list_token token ≡ t → below why token (list ds) ≡ Ok child → Names token (list ds) child
+named_item : (why : FailWhy) (token : List ℕ) (ds : Items) (child : Document) (t : ListToken) → list_token token ≡ t
+    → below why token (list ds) ≡ Ok child → Names token (list ds) child
 named_item why token ds child (index i) e h = (i, token_is_index token i e, there_at why token ds child i e _ refl h)
 named_item why token ds child behind_last e h = let k = rw e at h in absurd cc
 named_item why token ds child no_index e h = let k = rw e at h in absurd cc
 
-named_member : (why : FailWhy) (token : List ℕ) (ms : Members) (child : Document) (o : Option Document) → find token (pairs ms) ≡ o → below why token (object ms) ≡ Ok child → o ≡ Some child
+named_member : (why : FailWhy) (token : List ℕ) (ms : Members) (child : Document) (o : Option Document)
+    → find token (pairs ms) ≡ o → below why token (object ms) ≡ Ok child → o ≡ Some child
 named_member why token ms child None e h = let k = rw e at h in absurd cc
 named_member why token ms child (Some d) e h =
     let k = rw e at h in
@@ -76,7 +81,8 @@ there_leads : (path : Tokens) (d x : Document) → Lead path d x → target path
 there_leads [] d x e = ap (λ y. Ok y) (sym e)
 there_leads (token ∷ []) d x (child, at, e) = there_names NoTarget token d child at ∙ ap (λ y. Ok y) (sym e)
 there_leads (token ∷ next ∷ rest) d x (child, at, more) =
-    then_ok (below NoParent token d) (target (next ∷ rest)) child x (there_names NoParent token d child at) (there_leads (next ∷ rest) child x more)
+    then_ok (below NoParent token d) (target (next ∷ rest)) child x (there_names NoParent token d child at)
+    (there_leads (next ∷ rest) child x more)
 
 -- ---- the three edits at a token
 
@@ -88,13 +94,15 @@ is_some : {A : Type 0} (o : Option A) (a : A) → o ≡ Some a → IsSome o
 is_some {A = A} o a e = subst (λ (p : Option A). IsSome p) (sym e) refl
 
 -- what is set of a child that is there is its replacement
-replaces_named : (token : List ℕ) (v d child e : Document) → Names token d child → e ≡ with_below token v d → IsReplaced v token d e
+replaces_named : (token : List ℕ) (v d child e : Document) → Names token d child → e ≡ with_below token v d
+    → IsReplaced v token d e
 replaces_named token v (text s) child e never is = absurd never
 replaces_named token v (list ds) child e (i, at, found) is =
     (i, at, slice_get_within (documents ds) i child found, is ∙ rw (index_at token i at) refl)
 replaces_named token v (object ms) child e found is = (is_some (find token (pairs ms)) child found, is)
 
-named_replaces : (token : List ℕ) (v d e : Document) → IsReplaced v token d e → (child : Document) × Names token d child × (e ≡ with_below token v d)
+named_replaces : (token : List ℕ) (v d e : Document) → IsReplaced v token d e
+    → (child : Document) × Names token d child × (e ≡ with_below token v d)
 named_replaces token v (text s) e never = absurd never
 named_replaces token v (list ds) e (i, at, below, is) =
     let found = slice_get-get_or (documents ds) i v below in
@@ -102,13 +110,15 @@ named_replaces token v (list ds) e (i, at, below, is) =
 named_replaces token v (object ms) e (some, is) =
     let (child, found) = some_is (find token (pairs ms)) some in (child, found, is)
 
-removes_named : (token : List ℕ) (d child e : Document) → Names token d child → e ≡ without_below token d → IsRemoved token d e
+removes_named : (token : List ℕ) (d child e : Document) → Names token d child → e ≡ without_below token d
+    → IsRemoved token d e
 removes_named token (text s) child e never is = absurd never
 removes_named token (list ds) child e (i, at, found) is =
     (i, at, slice_get_within (documents ds) i child found, is ∙ rw (index_at token i at) refl)
 removes_named token (object ms) child e found is = (is_some (find token (pairs ms)) child found, is)
 
-named_removes : (token : List ℕ) (d e : Document) → IsRemoved token d e → (child : Document) × Names token d child × (e ≡ without_below token d)
+named_removes : (token : List ℕ) (d e : Document) → IsRemoved token d e
+    → (child : Document) × Names token d child × (e ≡ without_below token d)
 named_removes token (text s) e never = absurd never
 named_removes token (list ds) e (i, at, below, is) =
     let found = slice_get-get_or (documents ds) i (text []) below in
@@ -116,7 +126,8 @@ named_removes token (list ds) e (i, at, below, is) =
 named_removes token (object ms) e (some, is) =
     let (child, found) = some_is (find token (pairs ms)) some in (child, found, is)
 
-added_item : (v : Document) (token : List ℕ) (ds : Items) (e : Document) (t : ListToken) → list_token token ≡ t → with_new token v (list ds) ≡ Ok e → IsAdded v token (list ds) e
+added_item : (v : Document) (token : List ℕ) (ds : Items) (e : Document) (t : ListToken) → list_token token ≡ t
+    → with_new token v (list ds) ≡ Ok e → IsAdded v token (list ds) e
 added_item v token ds e (index i) at h = by (nat_le i (length (documents ds))) refl
   where
     by : (b : Bool) → nat_le i (length (documents ds)) ≡ b → IsAdded v token (list ds) e
@@ -148,7 +159,8 @@ there_added v token (list ds) e (i, inr (dash, end), within, same) =
     let behind : list_token token ≡ behind_last = ap list_token dash in
     let inserted = insert_end (documents ds) v in
     rw behind (ap (λ x. Ok x)
-    (ap (λ (es : List Document). list (items_of es)) (sym inserted ∙ ap (λ n. insert (documents ds) n v) (sym end)) ∙ sym same))
+    (ap (λ (es : List Document). list (items_of es)) (sym inserted ∙ ap (λ n. insert (documents ds) n v) (sym end))
+    ∙ sym same))
 there_added v token (object ms) e same = ap (λ x. Ok x) (sym same)
 
 removed_there : (token : List ℕ) (d e : Document) → edit_there without_below token d ≡ Ok e → IsRemoved token d e
@@ -160,7 +172,8 @@ removed_there token d e h =
 there_removed : (token : List ℕ) (d e : Document) → IsRemoved token d e → edit_there without_below token d ≡ Ok e
 there_removed token d e h =
     let (child, names, same) = named_removes token d e h in
-    then_ok (below NoTarget token d) (λ _. Ok (without_below token d)) child e (there_names NoTarget token d child names) (ap (λ x. Ok x) (sym same))
+    then_ok (below NoTarget token d) (λ _. Ok (without_below token d)) child e
+    (there_names NoTarget token d child names) (ap (λ x. Ok x) (sym same))
 
 -- with a value in the place of what is there
 abbrev with_other : Document → apply.NodeEdit
@@ -175,34 +188,44 @@ replaced_there v token d e h =
 there_replaced : (v : Document) (token : List ℕ) (d e : Document) → IsReplaced v token d e → with_other v token d ≡ Ok e
 there_replaced v token d e h =
     let (child, names, same) = named_replaces token v d e h in
-    then_ok (below NoTarget token d) (λ _. Ok (with_below token v d)) child e (there_names NoTarget token d child names) (ap (λ x. Ok x) (sym same))
+    then_ok (below NoTarget token d) (λ _. Ok (with_below token v d)) child e
+    (there_names NoTarget token d child names) (ap (λ x. Ok x) (sym same))
 
 -- ---- an edit at the end of a path
 
 module _ (E : NodeEdit) (f : apply.NodeEdit) where
-  edited_there : ((token : List ℕ) (d e : Document) → f token d ≡ Ok e → E token d e) → (token : List ℕ) (rest : Tokens) (d e : Document) → edit_parent f token rest d ≡ Ok e → IsEdited E (token ∷ rest) d e
+  edited_there : ((token : List ℕ) (d e : Document) → f token d ≡ Ok e → E token d e)
+      → (token : List ℕ) (rest : Tokens) (d e : Document) → edit_parent f token rest d ≡ Ok e
+      → IsEdited E (token ∷ rest) d e
   edited_there is token [] d e h = is token d e h
   edited_there is token (next ∷ rest) d e h =
-      let (child, at, more) = first_ok (below NoParent token d) (λ child. edit_parent f next rest child >>= λ new. Ok (with_below token new d)) e h in
+      let (child, at, more) = first_ok (below NoParent token d)
+      (λ child. edit_parent f next rest child >>= λ new. Ok (with_below token new d)) e h in
       let (new, edits, puts) = first_ok (edit_parent f next rest child) (λ new. Ok (with_below token new d)) e more in
       let names = names_there NoParent token d child at in
       let same : e ≡ with_below token new d = cc in
       (child, new, names, edited_there is next rest child new edits, replaces_named token new d child e names same)
 
-  there_edited : ((token : List ℕ) (d e : Document) → E token d e → f token d ≡ Ok e) → (token : List ℕ) (rest : Tokens) (d e : Document) → IsEdited E (token ∷ rest) d e → edit_parent f token rest d ≡ Ok e
+  there_edited : ((token : List ℕ) (d e : Document) → E token d e → f token d ≡ Ok e)
+      → (token : List ℕ) (rest : Tokens) (d e : Document) → IsEdited E (token ∷ rest) d e
+      → edit_parent f token rest d ≡ Ok e
   there_edited is token [] d e h = is token d e h
   there_edited is token (next ∷ rest) d e (child, new, names, edits, puts) =
       let (old, at, same) = named_replaces token new d e puts in
-      then_ok (below NoParent token d) (λ child. edit_parent f next rest child >>= λ new. Ok (with_below token new d)) child e (there_names NoParent token d child names)
-      (then_ok (edit_parent f next rest child) (λ new. Ok (with_below token new d)) new e (there_edited is next rest child new edits) (ap (λ x. Ok x) (sym same)))
+      then_ok (below NoParent token d) (λ child. edit_parent f next rest child >>= λ new. Ok (with_below token new d))
+      child e (there_names NoParent token d child names)
+      (then_ok (edit_parent f next rest child) (λ new. Ok (with_below token new d)) new e
+      (there_edited is next rest child new edits) (ap (λ x. Ok x) (sym same)))
 
 put_there : (v : Document) (path : Tokens) (d e : Document) → apply.after_add path v d ≡ Ok e → IsPut IsAdded v path d e
 put_there v [] d e h = let same : e ≡ v = cc in same
-put_there v (token ∷ rest) d e h = edited_there (IsAdded v) (λ last node. with_new last v node) (added_there v) token rest d e h
+put_there v (token ∷ rest) d e h =
+    edited_there (IsAdded v) (λ last node. with_new last v node) (added_there v) token rest d e h
 
 there_put : (v : Document) (path : Tokens) (d e : Document) → IsPut IsAdded v path d e → apply.after_add path v d ≡ Ok e
 there_put v [] d e h = ap (λ x. Ok x) (sym h)
-there_put v (token ∷ rest) d e h = there_edited (IsAdded v) (λ last node. with_new last v node) (there_added v) token rest d e h
+there_put v (token ∷ rest) d e h =
+    there_edited (IsAdded v) (λ last node. with_new last v node) (there_added v) token rest d e h
 
 cut_there : (path : Tokens) (d e : Document) → apply.after_remove path d ≡ Ok e → IsEdited IsRemoved path d e
 cut_there [] d e h = absurd cc
@@ -212,11 +235,13 @@ there_cut : (path : Tokens) (d e : Document) → IsEdited IsRemoved path d e →
 there_cut [] d e never = absurd never
 there_cut (token ∷ rest) d e h = there_edited IsRemoved (edit_there without_below) there_removed token rest d e h
 
-set_there : (v : Document) (path : Tokens) (d e : Document) → apply.after_replace path v d ≡ Ok e → IsPut IsReplaced v path d e
+set_there : (v : Document) (path : Tokens) (d e : Document) → apply.after_replace path v d ≡ Ok e
+    → IsPut IsReplaced v path d e
 set_there v [] d e h = let same : e ≡ v = cc in same
 set_there v (token ∷ rest) d e h = edited_there (IsReplaced v) (with_other v) (replaced_there v) token rest d e h
 
-there_set : (v : Document) (path : Tokens) (d e : Document) → IsPut IsReplaced v path d e → apply.after_replace path v d ≡ Ok e
+there_set : (v : Document) (path : Tokens) (d e : Document) → IsPut IsReplaced v path d e
+    → apply.after_replace path v d ≡ Ok e
 there_set v [] d e h = ap (λ x. Ok x) (sym h)
 there_set v (token ∷ rest) d e h = there_edited (IsReplaced v) (with_other v) (there_replaced v) token rest d e h
 
@@ -228,7 +253,9 @@ text_itself (b ∷ bs) = and_from (nat_eq b b) (pointwise nat_eq bs bs) (eq-eqb 
 
 above_leads : (from : Tokens) (token : List ℕ) (rest : Tokens) → leads_into from (from ++ token ∷ rest) ≡ true
 above_leads [] token rest = refl
-above_leads (one ∷ from) token rest = and_from (pointwise nat_eq one one) (leads_into from (from ++ token ∷ rest)) (text_itself one) (above_leads from token rest)
+above_leads (one ∷ from) token rest =
+    and_from (pointwise nat_eq one one) (leads_into from (from ++ token ∷ rest)) (text_itself one)
+    (above_leads from token rest)
 
 leads_above : (from path : Tokens) → leads_into from path ≡ true → IsAbove from path
 leads_above [] [] h = absurd cc
@@ -249,25 +276,35 @@ not_into from path other = false_from_ne_true (leads_into from path) (λ leads. 
 
 -- ---- the six operations
 
-copied_there : (from path : Tokens) (d e : Document) → result_of (copy_to from path) d ≡ Ok e → IsResult (copy_to from path) d e
+copied_there : (from path : Tokens) (d e : Document) → result_of (copy_to from path) d ≡ Ok e
+    → IsResult (copy_to from path) d e
 copied_there from path d e h =
     let (v, at, puts) = first_ok (target from d) (λ v. apply.after_add path v d) e h in
     (v, leads_there from d v at, put_there v path d e puts)
 
-moved_there : (from path : Tokens) (d e : Document) (b : Bool) → leads_into from path ≡ b → result_of (move_to from path) d ≡ Ok e → IsResult (move_to from path) d e
+moved_there : (from path : Tokens) (d e : Document) (b : Bool) → leads_into from path ≡ b
+    → result_of (move_to from path) d ≡ Ok e → IsResult (move_to from path) d e
 moved_there from path d e true into h = let k = rw into at h in absurd cc
 moved_there from path d e false into h =
     let k = rw into at h in
     let (v, at, more) = first_ok (target from d) (λ v. apply.after_remove from d >>= apply.after_add path v) e k in
-    let (left, cuts, puts) = first_ok (apply.after_remove from d) (apply.after_add path v) e more in
-    (v, left, not_above from path into, leads_there from d v at, cut_there from d left cuts, put_there v path left e puts)
+    let (left, cuts, puts) = first_ok (apply.after_remove from d) (apply.after_add path v) e more in (
+      v,
+      left,
+      not_above from path into,
+      leads_there from d v at,
+      cut_there from d left cuts,
+      put_there v path left e
+          puts,
+    )
 
 tested_there : (path : Tokens) (v d e : Document) → result_of (test path v) d ≡ Ok e → IsResult (test path v) d e
 tested_there path v d e h =
     let (w, at, is) = first_ok (target path d) (λ w. if same v w then Ok d else Err TestFailed) e h in
     by w at (same v w) refl is
   where
-    by : (w : Document) → target path d ≡ Ok w → (b : Bool) → same v w ≡ b → (if b then Ok d else Err TestFailed) ≡ Ok e → IsResult (test path v) d e
+    by : (w : Document) → target path d ≡ Ok w → (b : Bool) → same v w ≡ b
+        → (if b then Ok d else Err TestFailed) ≡ Ok e → IsResult (test path v) d e
     by w at true alike is =
         let equal : v ≡ w = (same_is_equal v w).0 alike in
         let kept : e ≡ d = cc in
@@ -287,8 +324,10 @@ there_result (add path v) d e h = there_put v path d e h
 there_result (remove path) d e h = there_cut path d e h
 there_result (replace path v) d e h = there_set v path d e h
 there_result (move_to from path) d e (v, left, other, leads, cuts, puts) =
-    rw (not_into from path other) (then_ok (target from d) (λ v. apply.after_remove from d >>= apply.after_add path v) v e (there_leads from d v leads)
-    (then_ok (apply.after_remove from d) (apply.after_add path v) left e (there_cut from d left cuts) (there_put v path left e puts)))
+    rw (not_into from path other) (then_ok (target from d) (λ v. apply.after_remove from d >>= apply.after_add path v)
+    v e (there_leads from d v leads)
+    (then_ok (apply.after_remove from d) (apply.after_add path v) left e (there_cut from d left cuts)
+    (there_put v path left e puts)))
 there_result (copy_to from path) d e (v, leads, puts) =
     then_ok (target from d) (λ v. apply.after_add path v d) v e (there_leads from d v leads) (there_put v path d e puts)
 there_result (test path v) d e (leads, kept) =
@@ -301,13 +340,15 @@ result_is op d e = (there_result op d e, result_there op d e)
 
 -- ---- the operations in order
 
-first_step : (step : apply.Step) (i : ℕ) (op : Operation) (ops : List Operation) (d e : Document) (r : Result Document FailWhy) → step op d ≡ r → in_order step i (op ∷ ops) d ≡ Ok e
+first_step : (step : apply.Step) (i : ℕ) (op : Operation) (ops : List Operation) (d e : Document)
+    (r : Result Document FailWhy) → step op d ≡ r → in_order step i (op ∷ ops) d ≡ Ok e
     → (next : Document) × (step op d ≡ Ok next) × (in_order step (i + 1) ops next ≡ Ok e)
 first_step step i op ops d e (Ok next) is h = (next, is, rw is at h)
 first_step step i op ops d e (Err why) is h = let k = rw is at h in absurd cc
 
 -- where each step gives the result of its operation, the operations in order give what the patch makes
-patched_by : (step : apply.Step) → ((op : Operation) (d e : Document) → step op d ≡ Ok e → IsResult op d e) → (i : ℕ) (ops : List Operation) (d e : Document) → in_order step i ops d ≡ Ok e → IsPatched ops d e
+patched_by : (step : apply.Step) → ((op : Operation) (d e : Document) → step op d ≡ Ok e → IsResult op d e)
+    → (i : ℕ) (ops : List Operation) (d e : Document) → in_order step i ops d ≡ Ok e → IsPatched ops d e
 patched_by step results i [] d e h = let kept : e ≡ d = cc in kept
 patched_by step results i (op ∷ ops) d e h =
     let (next, is, more) = first_step step i op ops d e (step op d) refl h in
@@ -315,11 +356,13 @@ patched_by step results i (op ∷ ops) d e h =
 
 there_patched : (i : ℕ) (ops : List Operation) (d e : Document) → IsPatched ops d e → in_order result_of i ops d ≡ Ok e
 there_patched i [] d e h = ap (λ x. Ok x) (sym h)
-there_patched i (op ∷ ops) d e (next, is, more) = rw ((result_is op d next).0 is) (there_patched (i + 1) ops next e more)
+there_patched i (op ∷ ops) d e (next, is, more) =
+    rw ((result_is op d next).0 is) (there_patched (i + 1) ops next e more)
 
 -- what a patch makes of a document is decided by the function that tells refusals
 pub patched_is : (ops : List Operation) (d e : Document) → IsPatched ops d e ↔ (apply_plain ops d ≡ Ok e)
-patched_is ops d e = (there_patched 0 ops d e, patched_by result_of (λ op before after. (result_is op before after).1) 0 ops d e)
+patched_is ops d e =
+    (there_patched 0 ops d e, patched_by result_of (λ op before after. (result_is op before after).1) 0 ops d e)
 
 if_fits : (b : Bool) (d e : Document) → (if b then Ok d else Err TooLarge) ≡ Ok e → d ≡ e
 if_fits true d e is = let same : d ≡ e = cc in same

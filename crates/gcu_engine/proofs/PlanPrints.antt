@@ -39,17 +39,20 @@ record IsText (task : Task) (s now : State) (text : List ℕ) : Type 0 where
   pub right : IsTaskOutput task s (front ++ text)
 
 -- nothing stands before the last line
-alone : (task : Task) (s now : State) (text : List ℕ) → now.output ≡ s.output → IsTaskOutput task s text → IsText task s now text
+alone : (task : Task) (s now : State) (text : List ℕ) → now.output ≡ s.output → IsTaskOutput task s text
+    → IsText task s now text
 alone task s now text same right = record { front = []; printed_is = same ∙ sym (append-nil s.output); right = right }
 
-last_alone : (task : Task) (s now : State) (text : List ℕ) (e : Outcome) → now.output ≡ s.output → text ≡ last_line e → HasLastLine e → IsText task s now text
+last_alone : (task : Task) (s now : State) (text : List ℕ) (e : Outcome) → now.output ≡ s.output → text ≡ last_line e
+    → HasLastLine e → IsText task s now text
 last_alone task s now text e same is told = alone task s now text same (inl (last_line_of e text is told))
 
 module _ (task : Task) (s now : State) (budget : ℕ) where
   abbrev printing : Asking Request
   printing = dry_run_asked task budget s
 
-  planned_text : (w : Work) (r : Request) → IsWorkAsked task s w → request.plan w ≡ r → LeavesDone r s now → (text : List ℕ) → IsDoneOutput r text → IsText task s now text
+  planned_text : (w : Work) (r : Request) → IsWorkAsked task s w → request.plan w ≡ r → LeavesDone r s now
+      → (text : List ℕ) → IsDoneOutput r text → IsText task s now text
   planned_text w r is same leaves text out =
       let unchanged : now ≡ s = subst (λ (q : Request). LeavesDone q s now) (sym same) leaves in
       let told = subst (λ (q : Request). IsDoneOutput q text) (sym same) out in
@@ -60,15 +63,18 @@ module _ (task : Task) (s now : State) (budget : ℕ) where
   no_stop step w r same h = subst (λ (q : Request). LeavesStopped q step s now) (sym same) h
 
   plan_text_is : (e : Outcome) (text : List ℕ) → Says printing s now e text → IsText task s now text
-  plan_text_is Done text (r, given, leaves, out) = let g = plan_given task budget s r given in planned_text g.0 r g.1 g.2 leaves text out
+  plan_text_is Done text (r, given, leaves, out) = let g = plan_given task budget s r given in
+      planned_text g.0 r g.1 g.2 leaves text out
   plan_text_is Memory text h = last_alone task s now text Memory (untouched_output printing s now h.0) h.1 tt
   plan_text_is InputFault text h = last_alone task s now text InputFault (untouched_output printing s now h.1) h.2 tt
-  plan_text_is (DiskFault step) text (reads, inl (first, same), is) = last_alone task s now text (DiskFault step) (untouched_output printing s now same) is tt
+  plan_text_is (DiskFault step) text (reads, inl (first, same), is) =
+      last_alone task s now text (DiskFault step) (untouched_output printing s now same) is tt
   plan_text_is (DiskFault step) text (reads, inr (r, given, stopped), is) =
       let g = plan_given task budget s r given in absurd (no_stop step g.0 r g.2 stopped)
   plan_text_is (PrintFault step) text never = absurd never
   plan_text_is (ServiceFault step service) text (w, given, halted, is) =
-      let g = plan_given task budget s (request.change w) given in let apart : request.plan g.0 ≡ request.change w = g.2 in absurd cc
+      let g = plan_given task budget s (request.change w) given in
+      let apart : request.plan g.0 ≡ request.change w = g.2 in absurd cc
   plan_text_is Unorderable text h = last_alone task s now text Unorderable (untouched_output printing s now h.1) h.2 tt
   plan_text_is (Budget n) text h = last_alone task s now text (Budget n) (untouched_output printing s now h.1) h.2 tt
   plan_text_is other text h = last_alone task s now text other (untouched_output printing s now h.1) h.2 tt
@@ -77,34 +83,43 @@ module _ (task : Task) (s now : State) (budget : ℕ) where
   doing = change_asked task budget s
 
   -- behind what stands before the moves
-  behind : (w : Work) (c : Change) (told : List ℕ) → IsWorkAsked task s w → IsChangeFor w s c told → (began : State) → IsBegun c (begun told s) began
+  behind : (w : Work) (c : Change) (told : List ℕ) → IsWorkAsked task s w → IsChangeFor w s c told → (began : State)
+      → IsBegun c (begun told s) began
       → (more text : List ℕ) → now.output ≡ began.output ++ more → IsText task s now text
   behind w c told asks is began begins more text printed_is = record {
     front = told ++ more;
-    printed_is = printed_is ∙ ap (λ (o : List ℕ). o ++ more) (begun_output c (begun told s) began begins) ∙ append_assoc s.output told more;
+    printed_is = printed_is ∙ ap (λ (o : List ℕ). o ++ more) (begun_output c (begun told s) began begins)
+        ∙ append_assoc s.output told more;
     right = inr (right_work task s w c.moves told asks is.work, more ++ text, append_assoc told more text);
   }
 
-  stopped_text : (w : Work) (c : Change) (told : List ℕ) → IsWorkAsked task s w → IsChangeFor w s c told → (began : State) → IsBegun c (begun told s) began
-      → (k : ℕ) (part : List ℕ) (started : List Restart) → IsStopped c k part started began now → (text : List ℕ) → IsText task s now text
+  stopped_text : (w : Work) (c : Change) (told : List ℕ) → IsWorkAsked task s w → IsChangeFor w s c told
+      → (began : State) → IsBegun c (begun told s) began
+      → (k : ℕ) (part : List ℕ) (started : List Restart) → IsStopped c k part started began now → (text : List ℕ)
+      → IsText task s now text
   stopped_text w c told asks is began begins k part started stopped text =
-      behind w c told asks is began begins (acks k ++ part) text (stopped.output ∙ append_assoc began.output (acks k) part)
+      behind w c told asks is began begins (acks k ++ part) text
+      (stopped.output ∙ append_assoc began.output (acks k) part)
 
-  changed_text : (w : Work) (r : Request) → IsWorkAsked task s w → request.change w ≡ r → LeavesDone r s now → (text : List ℕ) → IsText task s now text
+  changed_text : (w : Work) (r : Request) → IsWorkAsked task s w → request.change w ≡ r → LeavesDone r s now
+      → (text : List ℕ) → IsText task s now text
   changed_text w r asks same leaves text =
       let h = subst (λ (q : Request). LeavesDone q s now) (sym same) leaves in
       behind w h.0 h.1 asks h.2 h.3 h.4 (acks (steps h.0)) text (ap (λ (t : State). t.output) (some_is now _ h.5.1))
 
-  halted_text : (step : ℕ) (w : Work) (r : Request) → IsWorkAsked task s w → request.change w ≡ r → LeavesStopped r step s now → (text : List ℕ) → IsText task s now text
+  halted_text : (step : ℕ) (w : Work) (r : Request) → IsWorkAsked task s w → request.change w ≡ r
+      → LeavesStopped r step s now → (text : List ℕ) → IsText task s now text
   halted_text step w r asks same stopped text =
       let h = subst (λ (q : Request). LeavesStopped q step s now) (sym same) stopped in
       stopped_text w h.0 h.1 asks h.2 h.3 h.4 step [] [] h.5 text
 
   change_text_is : (e : Outcome) (text : List ℕ) → Says doing s now e text → IsText task s now text
-  change_text_is Done text (r, given, leaves, out) = let g = change_given task budget s r given in changed_text g.0 r g.1 g.2 leaves text
+  change_text_is Done text (r, given, leaves, out) = let g = change_given task budget s r given in
+      changed_text g.0 r g.1 g.2 leaves text
   change_text_is Memory text h = last_alone task s now text Memory (untouched_output doing s now h.0) h.1 tt
   change_text_is InputFault text h = last_alone task s now text InputFault (untouched_output doing s now h.1) h.2 tt
-  change_text_is (DiskFault step) text (reads, inl (first, same), is) = last_alone task s now text (DiskFault step) (untouched_output doing s now same) is tt
+  change_text_is (DiskFault step) text (reads, inl (first, same), is) =
+      last_alone task s now text (DiskFault step) (untouched_output doing s now same) is tt
   change_text_is (DiskFault step) text (reads, inr (r, given, stopped), is) =
       let g = change_given task budget s r given in halted_text step g.0 r g.1 g.2 stopped text
   change_text_is (PrintFault step) text never = absurd never
@@ -117,7 +132,8 @@ module _ (task : Task) (s now : State) (budget : ℕ) where
   change_text_is other text h = last_alone task s now text other (untouched_output doing s now h.1) h.2 tt
 
 -- what is printed of such a text
-prints_text : (task : Task) (s now : State) (after : Option State) (output rest : List ℕ) → after ≡ Some (printed output now) → IsText task s now (output ++ rest) → PrintsTask task s after
+prints_text : (task : Task) (s now : State) (after : Option State) (output rest : List ℕ)
+    → after ≡ Some (printed output now) → IsText task s now (output ++ rest) → PrintsTask task s after
 prints_text task s now after output rest is h = (
   printed output now,
   h.front ++ output,
@@ -127,27 +143,37 @@ prints_text task s now after output rest is h = (
   subst (IsTaskOutput task s) (sym (append_assoc h.front output rest)) h.right,
 )
 
-whole_text : (task : Task) (s now : State) (after : Option State) (output : List ℕ) → after ≡ Some (printed output now) → IsText task s now output → PrintsTask task s after
+whole_text : (task : Task) (s now : State) (after : Option State) (output : List ℕ) → after ≡ Some (printed output now)
+    → IsText task s now output → PrintsTask task s after
 whole_text task s now after output is h =
     prints_text task s now after output [] is (subst (IsText task s now) (sym (append-nil output)) h)
 
-module _ (task : Task) (budget : ℕ) (s now : State) (after : Option State) (old new : Counts) (output : List ℕ) (is : after ≡ Some (printed output now)) where
-  plan_cut : (step : ℕ) → Prints (dry_run_asked task budget s) s now old new (PrintFault step) output → PrintsTask task s after
-  plan_cut step (inl (acked, (other, rest, cause, says))) = prints_text task s now after output rest is (plan_text_is task s now budget other (output ++ rest) says)
+module _ (task : Task) (budget : ℕ) (s now : State) (after : Option State) (old new : Counts) (output : List ℕ)
+    (is : after ≡ Some (printed output now)) where
+  plan_cut : (step : ℕ) → Prints (dry_run_asked task budget s) s now old new (PrintFault step) output
+      → PrintsTask task s after
+  plan_cut step (inl (acked, (other, rest, cause, says))) =
+      prints_text task s now after output rest is (plan_text_is task s now budget other (output ++ rest) says)
   plan_cut step (inr (inl (w, given, h))) =
-      let g = plan_given task budget s (request.change w) given in let apart : request.plan g.0 ≡ request.change w = g.2 in absurd cc
+      let g = plan_given task budget s (request.change w) given in
+      let apart : request.plan g.0 ≡ request.change w = g.2 in absurd cc
   plan_cut step (inr (inr (news, given, h, none))) =
-      let g = plan_given task budget s (request.migrate_checkpoints news) given in let apart : request.plan g.0 ≡ request.migrate_checkpoints news = g.2 in absurd cc
+      let g = plan_given task budget s (request.migrate_checkpoints news) given in
+      let apart : request.plan g.0 ≡ request.migrate_checkpoints news = g.2 in absurd cc
 
   -- what a task prints that is only printed
-  pub plan_prints : (result : Outcome) → Prints (dry_run_asked task budget s) s now old new result output → PrintsTask task s after
+  pub plan_prints : (result : Outcome) → Prints (dry_run_asked task budget s) s now old new result output
+      → PrintsTask task s after
   plan_prints (PrintFault step) h = plan_cut step h
   plan_prints other h = whole_text task s now after output is (plan_text_is task s now budget other output h)
 
-  change_cut : (step : ℕ) → Prints (change_asked task budget s) s now old new (PrintFault step) output → PrintsTask task s after
-  change_cut step (inl (acked, (other, rest, cause, says))) = prints_text task s now after output rest is (change_text_is task s now budget other (output ++ rest) says)
+  change_cut : (step : ℕ) → Prints (change_asked task budget s) s now old new (PrintFault step) output
+      → PrintsTask task s after
+  change_cut step (inl (acked, (other, rest, cause, says))) =
+      prints_text task s now after output rest is (change_text_is task s now budget other (output ++ rest) says)
   change_cut step (inr (inr (news, given, h, none))) =
-      let g = change_given task budget s (request.migrate_checkpoints news) given in let apart : request.change g.0 ≡ request.migrate_checkpoints news = g.2 in absurd cc
+      let g = change_given task budget s (request.migrate_checkpoints news) given in
+      let apart : request.change g.0 ≡ request.migrate_checkpoints news = g.2 in absurd cc
   change_cut step (inr (inl (w, given, inl (first, (c, told, rest, fits, text, same))))) =
       let g = change_given task budget s (request.change w) given in
       let asks = subst (IsWorkAsked task s) (same_change g.0 w g.2) g.1 in
@@ -157,10 +183,12 @@ module _ (task : Task) (budget : ℕ) (s now : State) (after : Option State) (ol
   change_cut step (inr (inl (w, given, inr ((c, told, fits, began, begins, stopped), none)))) =
       let g = change_given task budget s (request.change w) given in
       let asks = subst (IsWorkAsked task s) (same_change g.0 w g.2) g.1 in
-      whole_text task s now after output is (stopped_text task s now budget w c told asks fits began begins step stopped.part _ stopped.stopped output)
+      whole_text task s now after output is (stopped_text task s now budget w c told asks fits began begins step
+      stopped.part _ stopped.stopped output)
 
   -- what a task prints that is done
-  pub change_prints : (result : Outcome) → Prints (change_asked task budget s) s now old new result output → PrintsTask task s after
+  pub change_prints : (result : Outcome) → Prints (change_asked task budget s) s now old new result output
+      → PrintsTask task s after
   change_prints (PrintFault step) h = change_cut step h
   change_prints other h = whole_text task s now after output is (change_text_is task s now budget other output h)
 
@@ -170,28 +198,37 @@ pub no_request : (s : State) (r : Request) → (form_asked None s).Gives (Ok r) 
 no_request s r given = let apart : Err usage ≡ Ok r = given in absurd cc
 
 -- what is said of them is the last line of an answer, and nothing was printed before
-pub unknown_line : (s now : State) (e : Outcome) (text : List ℕ) → Says (form_asked None s) s now e text → IsLastLine text × (now.output ≡ s.output)
+pub unknown_line : (s now : State) (e : Outcome) (text : List ℕ) → Says (form_asked None s) s now e text
+    → IsLastLine text × (now.output ≡ s.output)
 unknown_line s now Done text (r, given, leaves, out) = absurd (no_request s r given)
 unknown_line s now Memory text h = (last_line_of Memory text h.1 tt, untouched_output (form_asked None s) s now h.0)
 unknown_line s now InputFault text (reads, same, is) = absurd reads
 unknown_line s now (DiskFault step) text (reads, stopped, is) = absurd reads
 unknown_line s now (PrintFault step) text never = absurd never
-unknown_line s now (ServiceFault step service) text (w, given, halted, is) = absurd (no_request s (request.change w) given)
+unknown_line s now (ServiceFault step service) text (w, given, halted, is) =
+    absurd (no_request s (request.change w) given)
 unknown_line s now Unorderable text ((r, given, none), same, is) = absurd (no_request s r given)
 unknown_line s now (Budget n) text ((r, given, none), same, is) = absurd (no_request s r given)
 unknown_line s now other text h = (last_line_of other text h.2 tt, untouched_output (form_asked None s) s now h.1)
 
-unknown_text : (task : Task) (s now : State) (e : Outcome) (text : List ℕ) → Says (form_asked None s) s now e text → IsText task s now text
+unknown_text : (task : Task) (s now : State) (e : Outcome) (text : List ℕ) → Says (form_asked None s) s now e text
+    → IsText task s now text
 unknown_text task s now e text says = let h = unknown_line s now e text says in alone task s now text h.1 (inl h.0)
 
-unknown_cut : (task : Task) (s now : State) (after : Option State) (old new : Counts) (output : List ℕ) → after ≡ Some (printed output now)
+unknown_cut : (task : Task) (s now : State) (after : Option State) (old new : Counts) (output : List ℕ)
+    → after ≡ Some (printed output now)
     → (step : ℕ) → Prints (form_asked None s) s now old new (PrintFault step) output → PrintsTask task s after
 unknown_cut task s now after old new output is step (inl (acked, (other, rest, cause, says))) =
     prints_text task s now after output rest is (unknown_text task s now other (output ++ rest) says)
-unknown_cut task s now after old new output is step (inr (inl (w, given, h))) = absurd (no_request s (request.change w) given)
-unknown_cut task s now after old new output is step (inr (inr (news, given, h, none))) = absurd (no_request s (request.migrate_checkpoints news) given)
+unknown_cut task s now after old new output is step (inr (inl (w, given, h))) =
+    absurd (no_request s (request.change w) given)
+unknown_cut task s now after old new output is step (inr (inr (news, given, h, none))) =
+    absurd (no_request s (request.migrate_checkpoints news) given)
 
-pub unknown_prints : (task : Task) (s now : State) (after : Option State) (old new : Counts) (output : List ℕ) → after ≡ Some (printed output now)
+pub unknown_prints : (task : Task) (s now : State) (after : Option State) (old new : Counts) (output : List ℕ)
+    → after ≡ Some (printed output now)
     → (result : Outcome) → Prints (form_asked None s) s now old new result output → PrintsTask task s after
-unknown_prints task s now after old new output is (PrintFault step) h = unknown_cut task s now after old new output is step h
-unknown_prints task s now after old new output is other h = whole_text task s now after output is (unknown_text task s now other output h)
+unknown_prints task s now after old new output is (PrintFault step) h =
+    unknown_cut task s now after old new output is step h
+unknown_prints task s now after old new output is other h =
+    whole_text task s now after output is (unknown_text task s now other output h)

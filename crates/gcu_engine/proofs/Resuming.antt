@@ -39,17 +39,29 @@ module _ (law : HaveModels) (budget : ℕ) (s : State) (h : IsStoppedIn s) where
   gate_given = inr (Some held.0, ap (λ (o : Option (List ℕ)). Ok o) held.1, refl)
 
   start_given : (start_asked h.ctx s).Gives (Ok rest.start)
-  start_given = inr (rest.start, ap stored_answer h.stands, (way_valid h.ctx h.goal h.start h.moves h.goal h.valid h.plan h.k, refl))
+  start_given = inr (
+    rest.start,
+    ap stored_answer h.stands,
+    (way_valid h.ctx h.goal h.start h.moves h.goal h.valid h.plan h.k, refl),
+  )
 
   goal_given : (goal_asked resumed h.ctx rest.start s).Gives (Ok h.goal)
   goal_given = inr (
     h.goal,
     inr (Some held.0, ap (λ (o : Option (List ℕ)). Ok o) held.1, ap held_answer held.2),
-    inr (tt, half_elsewhere law h.ctx h.goal h.start h.moves h.goal h.plan h.elsewhere h.k, inr (tt, h.keys, (h.valid_goal, refl))),
+    inr (
+      tt,
+      half_elsewhere law h.ctx h.goal h.start h.moves h.goal h.plan h.elsewhere h.k,
+      inr (tt, h.keys, (h.valid_goal, refl)),
+    ),
   )
 
   planning_given : (planning_asked resumed budget s).Gives (Ok rest)
-  planning_given = inr (tt, gate_given, inr (h.ctx, h.read, inr (rest.start, start_given, inr (h.goal, goal_given, refl))))
+  planning_given = inr (
+    tt,
+    gate_given,
+    inr (h.ctx, h.read, inr (rest.start, start_given, inr (h.goal, goal_given, refl))),
+  )
 
   rest_given : (change_asked (reach resumed) budget s).Gives (Ok (request.change (planned rest)))
   rest_given = inr (reach resumed, refl, inr (tt, refl, inr (planned rest, inr (rest, planning_given, refl), refl)))
@@ -67,10 +79,12 @@ module _ (law : HaveModels) (budget : ℕ) (s : State) (h : IsStoppedIn s) where
       by (inl done) = subst IsResumed (sym done) tt
       by (inr none) = some_plan e none
 
-  same_request : (r : Request) → ◌≡◌ {A = Result Request Outcome} (Ok r) (Ok (request.change (planned rest))) → r ≡ request.change (planned rest)
+  same_request : (r : Request) → ◌≡◌ {A = Result Request Outcome} (Ok r) (Ok (request.change (planned rest)))
+      → r ≡ request.change (planned rest)
   same_request r e = let same : r ≡ request.change (planned rest) = cc in same
 
-  complete_resumed : HasOneAnswer (change_asked (reach resumed) budget s) → (e : Outcome) → Complete (change_asked (reach resumed) budget s) e → IsResumed e
+  complete_resumed : HasOneAnswer (change_asked (reach resumed) budget s) → (e : Outcome)
+      → Complete (change_asked (reach resumed) budget s) e → IsResumed e
   complete_resumed one e (inl memory) = subst IsResumed (sym memory) tt
   complete_resumed one e (inr (inl refused)) =
       let both = one.same (Err e) (Ok (request.change (planned rest))) refused rest_given in absurd cc

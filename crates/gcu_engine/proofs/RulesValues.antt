@@ -35,11 +35,13 @@ use Rattle.gcu_engine.specs.RulesValues.{IsCreateOnly, IsPart, IsRequired, IsReq
 -- ---- answers
 
 -- where something is made of a value, the value is given
-first_of : {A B F : Type 0} (r : Result A F) (f : A → Result B F) (y : B) → (r >>= f) ≡ Ok y → (x : A) × (r ≡ Ok x) × (f x ≡ Ok y)
+first_of : {A B F : Type 0} (r : Result A F) (f : A → Result B F) (y : B) → (r >>= f) ≡ Ok y
+    → (x : A) × (r ≡ Ok x) × (f x ≡ Ok y)
 first_of (Ok x) f y e = (x, refl, e)
 first_of (Err fault) f y e = absurd cc
 
-goes_on : {A B F : Type 0} (r : Result A F) (f : A → Result B F) (x : A) (y : B) → r ≡ Ok x → f x ≡ Ok y → (r >>= f) ≡ Ok y
+goes_on : {A B F : Type 0} (r : Result A F) (f : A → Result B F) (x : A) (y : B) → r ≡ Ok x → f x ≡ Ok y
+    → (r >>= f) ≡ Ok y
 goes_on r f x y is next = ap (λ q. q >>= f) is ∙ next
 
 one_value : {A F : Type 0} (r : Result A F) (a x : A) → r ≡ Ok a → r ≡ Ok x → a ≡ x
@@ -75,7 +77,8 @@ record ReadsMember {A : Type 0} (f : Option Data → Result A RulesError) (Is : 
   said : (o : Option Data) (x : A) → f o ≡ Ok x → There Is o x
   read : (o : Option Data) (x : A) → There Is o x → f o ≡ Ok x
 
-of_values : {A : Type 0} (f : Option Data → Result A RulesError) (Is : Data → A → Type 0) → ReadsMember f Is → Reads (λ d. f (Some d)) Is
+of_values : {A : Type 0} (f : Option Data → Result A RulesError) (Is : Data → A → Type 0) → ReadsMember f Is
+    → Reads (λ d. f (Some d)) Is
 of_values {A} f Is reads = record { said = said; read = λ d x h. reads.read (Some d) x (d, refl, h) }
   where
     said : (d : Data) (x : A) → f (Some d) ≡ Ok x → Is d x
@@ -121,16 +124,19 @@ name_reads w = record { said = said; read = read }
 
     read : (o : Option Data) (s : List ℕ) → There IsName o s → file.name w o ≡ Ok s
     read o s (d, there, (text, long)) =
-        goes_on (file.text w o) _ s s ((text_reads w).read o s (d, there, text)) (passes w (not (length s == 0)) s (is_filled s long))
+        goes_on (file.text w o) _ s s ((text_reads w).read o s (d, there, text))
+        (passes w (not (length s == 0)) s (is_filled s long))
 
 -- ---- lists
 
-both_none : {A : Type 0} (r : Result A RulesError) (s : Result (List A) RulesError) → both (λ a as'. a ∷ as') r s ≡ Ok [] → ⊥
+both_none : {A : Type 0} (r : Result A RulesError) (s : Result (List A) RulesError)
+    → both (λ a as'. a ∷ as') r s ≡ Ok [] → ⊥
 both_none (Ok a) (Ok as') e = cc
 both_none (Ok a) (Err f) e = cc
 both_none (Err f) s e = cc
 
-both_more : {A : Type 0} (r : Result A RulesError) (s : Result (List A) RulesError) (x : A) (xs : List A) → both (λ a as'. a ∷ as') r s ≡ Ok (x ∷ xs)
+both_more : {A : Type 0} (r : Result A RulesError) (s : Result (List A) RulesError) (x : A) (xs : List A)
+    → both (λ a as'. a ∷ as') r s ≡ Ok (x ∷ xs)
     → (r ≡ Ok x) × (s ≡ Ok xs)
 both_more (Ok a) (Ok as') x xs e =
     let one : a ≡ x = cc in
@@ -157,7 +163,8 @@ items_read f Is reads (item d ds) (x ∷ xs) (is, are) =
     ap (λ r. both (λ a as'. a ∷ as') r (file.items f ds)) (reads.read d x is)
     ∙ ap (both (λ a as'. a ∷ as') (Ok x)) (items_read f Is reads ds xs are)
 
-list_reads : {A : Type 0} (w : RulesWhy) (f : Data → Result A RulesError) (Is : Data → A → Type 0) → Reads f Is → ReadsMember (file.list w f) (IsList Is)
+list_reads : {A : Type 0} (w : RulesWhy) (f : Data → Result A RulesError) (Is : Data → A → Type 0) → Reads f Is
+    → ReadsMember (file.list w f) (IsList Is)
 list_reads {A} w f Is reads = record { said = said; read = read }
   where
     said : (o : Option Data) (xs : List A) → file.list w f o ≡ Ok xs → There (IsList Is) o xs
@@ -179,7 +186,8 @@ ListOrNone Is o xs = MatchOption o (xs ≡ []) (λ e. IsList Is e xs)
 list_or_none_said : {A : Type 0} (w : RulesWhy) (f : Data → Result A RulesError) (Is : Data → A → Type 0) → Reads f Is
     → (o : Option Data) (xs : List A) → file.list_or_none w f o ≡ Ok xs → ListOrNone Is o xs
 list_or_none_said w f Is reads None xs e = sym (one_value _ [] xs refl e)
-list_or_none_said w f Is reads (Some d) xs e = (of_values (file.list w f) (IsList Is) (list_reads w f Is reads)).said d xs e
+list_or_none_said w f Is reads (Some d) xs e =
+    (of_values (file.list w f) (IsList Is) (list_reads w f Is reads)).said d xs e
 
 list_or_none_read : {A : Type 0} (w : RulesWhy) (f : Data → Result A RulesError) (Is : Data → A → Type 0) → Reads f Is
     → (o : Option Data) (xs : List A) → ListOrNone Is o xs → file.list_or_none w f o ≡ Ok xs
@@ -188,10 +196,12 @@ list_or_none_read w f Is reads (Some d) xs h = (list_reads w f Is reads).read (S
 
 -- ---- what is among some
 
-any_is : {X : Type 0} (x : X) (test : X → Bool) → ((y : X) → Decides (test y) (y ≡ x)) → (ys : List X) → Decides (list_any test ys) (Contains ys x)
+any_is : {X : Type 0} (x : X) (test : X → Bool) → ((y : X) → Decides (test y) (y ≡ x)) → (ys : List X)
+    → Decides (list_any test ys) (Contains ys x)
 any_is {X} x test each ys = (said ys, read ys)
   where
-    first : (y : X) (ys : List X) (b : Bool) → Decides b (y ≡ x) → (list_any test ys ≡ true → Contains ys x) → (b || list_any test ys) ≡ true → Contains (y ∷ ys) x
+    first : (y : X) (ys : List X) (b : Bool) → Decides b (y ≡ x) → (list_any test ys ≡ true → Contains ys x)
+        → (b || list_any test ys) ≡ true → Contains (y ∷ ys) x
     first y ys true decides rest e = (0, omega arith, decides.0 refl)
     first y ys false decides rest e = let (k, within, is) = rest e in (suc k, omega arith, is)
 
@@ -213,10 +223,12 @@ any_is {X} x test each ys = (said ys, read ys)
 turned : (a b : List ℕ) (r : Bool) → Decides r (a ≡ b) → Decides r (b ≡ a)
 turned a b r (one, other) = ((λ e. sym (one e)), λ e. other (sym e))
 
-is_among : (names : List (List ℕ)) (k : List ℕ) → Decides (list_any (λ n. pointwise nat_eq k n) names) (Contains names k)
+is_among : (names : List (List ℕ)) (k : List ℕ)
+    → Decides (list_any (λ n. pointwise nat_eq k n) names) (Contains names k)
 is_among names k = any_is k (λ n. pointwise nat_eq k n) (λ n. turned k n _ (bytes_decides k n)) names
 
-member_found : (r : Ordering) (name k : List ℕ) (d : Data) (o : Option Data) → slice_cmp nat_cmp name k ≡ r → match_ordering r o (Some d) o ≢ None
+member_found : (r : Ordering) (name k : List ℕ) (d : Data) (o : Option Data) → slice_cmp nat_cmp name k ≡ r
+    → match_ordering r o (Some d) o ≢ None
     → (name ≡ k) ⊎ (o ≢ None)
 member_found Less name k d o is there = inr there
 member_found Equal name k d o is there = inl (finmap.slice_cmp-IsAntisymmetric finmap.nat_cmp-IsAntisymmetric name k is)
@@ -236,7 +248,8 @@ member_here k d ms = rw (same_name k)
 some_is_there : (o : Option Data) (d : Data) → o ≡ Some d → o ≢ None
 some_is_there o d is none = cc
 
-only_said : (names : List (List ℕ)) (ms : Members) → file.has_only names ms ≡ true → (name : List ℕ) → get_member name ms ≢ None → Contains names name
+only_said : (names : List (List ℕ)) (ms : Members) → file.has_only names ms ≡ true → (name : List ℕ)
+    → get_member name ms ≢ None → Contains names name
 only_said names no_members e name there = absurd (there refl)
 only_said names (member k d ms) e name there =
     let (one, rest) = and_both (list_any (λ n. pointwise nat_eq k n) names) (file.has_only names ms) e in
@@ -245,19 +258,22 @@ only_said names (member k d ms) e name there =
       | inr later ↦ only_said names ms rest name later
     ]
 
-only_read : (names : List (List ℕ)) (ms : Members) → ((name : List ℕ) → get_member name ms ≢ None → Contains names name) → file.has_only names ms ≡ true
+only_read : (names : List (List ℕ)) (ms : Members)
+    → ((name : List ℕ) → get_member name ms ≢ None → Contains names name) → file.has_only names ms ≡ true
 only_read names no_members only = refl
 only_read names (member k d ms) only =
     both_true (list_any (λ n. pointwise nat_eq k n) names) (file.has_only names ms)
     ((is_among names k).1 (only k (some_is_there _ d (member_here k d ms))))
-    (only_read names ms (λ name there. only name (member_stays (slice_cmp nat_cmp name k) d (get_member name ms) there)))
+    (only_read names ms (λ name there. only name (member_stays (slice_cmp nat_cmp name k) d (get_member name ms)
+    there)))
 
 -- the value is an object of these members alone
 record Holds (names : List (List ℕ)) (d : Data) (ms : Members) : Type 0 where
   is : d ≡ object ms
   only : IsObject names (object ms)
 
-object_said : (w : RulesWhy) (names : List (List ℕ)) (d : Data) (ms : Members) → file.object w names d ≡ Ok ms → Holds names d ms
+object_said : (w : RulesWhy) (names : List (List ℕ)) (d : Data) (ms : Members) → file.object w names d ≡ Ok ms
+    → Holds names d ms
 object_said w names null ms e = absurd cc
 object_said w names (boolean b) ms e = absurd cc
 object_said w names (number n) ms e = absurd cc
@@ -265,10 +281,16 @@ object_said w names (string s) ms e = absurd cc
 object_said w names (array ds) ms e = absurd cc
 object_said w names (object ns) ms e =
     let (only, same) = passed w (file.has_only names ns) ns ms e in
-    record { is = ap object same; only = ((ms, refl), only_said names ms (subst (λ m. file.has_only names m ≡ true) same only)) }
+    record {
+      is = ap object same;
+      only =
+          ((ms, refl), only_said names ms (subst (λ m. file.has_only names m ≡ true) same only));
+    }
 
-object_read : (w : RulesWhy) (names : List (List ℕ)) (d : Data) (ms : Members) → d ≡ object ms → IsObject names (object ms) → file.object w names d ≡ Ok ms
-object_read w names d ms is only = ap (file.object w names) is ∙ passes w (file.has_only names ms) ms (only_read names ms only.1)
+object_read : (w : RulesWhy) (names : List (List ℕ)) (d : Data) (ms : Members) → d ≡ object ms
+    → IsObject names (object ms) → file.object w names d ≡ Ok ms
+object_read w names d ms is only =
+    ap (file.object w names) is ∙ passes w (file.has_only names ms) ms (only_read names ms only.1)
 
 -- ---- create-only fields
 
@@ -320,7 +342,8 @@ in_range c e = grind (arith, nat_tests)
 is_range : (n : ℕ) → n < 8 → is_in_range 48 55 (48 + n) ≡ true
 is_range n small = grind (arith, nat_tests)
 
-digit_said : (b : Bool) (c n : ℕ) → (b ≡ true → (48 ≤ c) × (c ≤ 55)) → (if b then Some (c - 48) else None) ≡ Some n → (c ≡ 48 + n) × (n < 8)
+digit_said : (b : Bool) (c n : ℕ) → (b ≡ true → (48 ≤ c) × (c ≤ 55)) → (if b then Some (c - 48) else None) ≡ Some n
+    → (c ≡ 48 + n) × (n < 8)
 digit_said true c n range e =
     let (low, high) = range refl in
     let same : c - 48 ≡ n = cc in
@@ -337,7 +360,8 @@ number_said (c ∷ e ∷ cs) n h = absurd cc
 number_read : (n : ℕ) → n < 8 → file.part_number (decimal n) ≡ Some n
 number_read n small =
     let same : 48 + n - 48 ≡ n = omega arith in
-    ap file.part_number (decimal_digit n (omega arith)) ∙ ap (λ b. if b then Some (48 + n - 48) else None) (is_range n small) ∙ ap Some same
+    ap file.part_number (decimal_digit n (omega arith)) ∙ ap (λ b. if b then Some (48 + n - 48) else None)
+    (is_range n small) ∙ ap Some same
 
 part_reads : ReadsMember file.part IsPart
 part_reads = record { said = said; read = read }
@@ -351,7 +375,8 @@ part_reads = record { said = said; read = read }
 
     read : (o : Option Data) (n : ℕ) → There IsPart o n → file.part o ≡ Ok n
     read o n (d, there, (text, small)) =
-        goes_on (file.text why.Required o) _ (decimal n) n ((text_reads why.Required).read o (decimal n) (d, there, text))
+        goes_on (file.text why.Required o) _ (decimal n) n
+        ((text_reads why.Required).read o (decimal n) (d, there, text))
         (ap (file.or_bad why.Required) (number_read n small))
 
 -- a name, or nothing for none
@@ -370,7 +395,8 @@ optional_said : (o : Option Data) (x : Option (List ℕ)) → file.optional_name
 optional_said None None e = refl
 optional_said None (Some s) e = absurd cc
 optional_said (Some d) None e = absurd (map_none (file.name why.Required (Some d)) e)
-optional_said (Some d) (Some s) e = (name_reads why.Required).said (Some d) s (map_some (file.name why.Required (Some d)) s e)
+optional_said (Some d) (Some s) e =
+    (name_reads why.Required).said (Some d) s (map_some (file.name why.Required (Some d)) s e)
 
 optional_read : (o : Option Data) (x : Option (List ℕ)) → NameOrNone o x → file.optional_name o ≡ Ok x
 optional_read None None h = refl
@@ -399,10 +425,14 @@ requiring_reads = record { said = said; read = read }
     read d x h =
         let (ms, is) = h.names.0 in
         let at = subst (λ v. IsRequiring v x) is h in
-        goes_on (file.object why.Required file.requiring_names d) _ ms x (object_read why.Required file.requiring_names d ms is at.names)
-        (goes_on (file.name why.Required (get_member (codes "table") ms)) _ x.table x ((name_reads why.Required).read (get_member (codes "table") ms) x.table at.table)
-        (goes_on (file.part (get_member (codes "part") ms)) _ x.part x (part_reads.read (get_member (codes "part") ms) x.part at.part)
-        (goes_on (file.optional_name (get_member (codes "field") ms)) _ x.field x (optional_read (get_member (codes "field") ms) x.field at.field) refl)))
+        goes_on (file.object why.Required file.requiring_names d) _ ms x
+        (object_read why.Required file.requiring_names d ms is at.names)
+        (goes_on (file.name why.Required (get_member (codes "table") ms)) _ x.table x
+        ((name_reads why.Required).read (get_member (codes "table") ms) x.table at.table)
+        (goes_on (file.part (get_member (codes "part") ms)) _ x.part x
+        (part_reads.read (get_member (codes "part") ms) x.part at.part)
+        (goes_on (file.optional_name (get_member (codes "field") ms)) _ x.field x
+        (optional_read (get_member (codes "field") ms) x.field at.field) refl)))
 
 required_reads : Reads file.required IsRequired
 required_reads = record { said = said; read = read }
@@ -417,7 +447,8 @@ required_reads = record { said = said; read = read }
         let (field, two, h2) = first_of (file.name why.Required (get_member (codes "field") ms)) _ x h1 in
         let (value, three, h3) = first_of (file.text why.Required (get_member (codes "value") ms)) _ x h2 in
         let (default, four, h4) = first_of (file.text why.Required (get_member (codes "default") ms)) _ x h3 in
-        let (places, five, is) = first_of (file.list why.Required file.requiring (get_member (codes "requiring") ms)) _ x h4 in
+        let (places, five, is) = first_of (file.list why.Required file.requiring (get_member (codes "requiring") ms)) _
+        x h4 in
         let holds = object_said why.Required file.required_names d ms at in
         subst (λ v. IsRequired v x) (sym holds.is) (subst (IsRequired (object ms)) (one_value _ _ x refl is) (record {
           names = holds.only;
@@ -432,12 +463,18 @@ required_reads = record { said = said; read = read }
     read d x h =
         let (ms, is) = h.names.0 in
         let at = subst (λ v. IsRequired v x) is h in
-        goes_on (file.object why.Required file.required_names d) _ ms x (object_read why.Required file.required_names d ms is at.names)
-        (goes_on (file.name why.Required (get_member (codes "table") ms)) _ x.table x ((name_reads why.Required).read (get_member (codes "table") ms) x.table at.table)
-        (goes_on (file.name why.Required (get_member (codes "field") ms)) _ x.field x ((name_reads why.Required).read (get_member (codes "field") ms) x.field at.field)
-        (goes_on (file.text why.Required (get_member (codes "value") ms)) _ x.value x ((text_reads why.Required).read (get_member (codes "value") ms) x.value at.value)
-        (goes_on (file.text why.Required (get_member (codes "default") ms)) _ x.default x ((text_reads why.Required).read (get_member (codes "default") ms) x.default at.default)
-        (goes_on (file.list why.Required file.requiring (get_member (codes "requiring") ms)) _ x.requiring x (lists.read (get_member (codes "requiring") ms) x.requiring at.requiring) refl)))))
+        goes_on (file.object why.Required file.required_names d) _ ms x
+        (object_read why.Required file.required_names d ms is at.names)
+        (goes_on (file.name why.Required (get_member (codes "table") ms)) _ x.table x
+        ((name_reads why.Required).read (get_member (codes "table") ms) x.table at.table)
+        (goes_on (file.name why.Required (get_member (codes "field") ms)) _ x.field x
+        ((name_reads why.Required).read (get_member (codes "field") ms) x.field at.field)
+        (goes_on (file.text why.Required (get_member (codes "value") ms)) _ x.value x
+        ((text_reads why.Required).read (get_member (codes "value") ms) x.value at.value)
+        (goes_on (file.text why.Required (get_member (codes "default") ms)) _ x.default x
+        ((text_reads why.Required).read (get_member (codes "default") ms) x.default at.default)
+        (goes_on (file.list why.Required file.requiring (get_member (codes "requiring") ms)) _ x.requiring x
+        (lists.read (get_member (codes "requiring") ms) x.requiring at.requiring) refl)))))
 
 -- ---- services
 
@@ -451,7 +488,9 @@ service_byte c =
     (any_is c (λ k. k == c) (λ k. Decides-eqb k c) (codes "_-"))
 
 service_bytes : (name : List ℕ) → Decides (list_all file.is_service_byte name) (All IsServiceByte name)
-service_bytes name = Decides-by_and file.is_service_byte IsServiceByte (list_all file.is_service_byte) service_byte refl (λ c cs. refl) name
+service_bytes name =
+    Decides-by_and file.is_service_byte IsServiceByte (list_all file.is_service_byte) service_byte refl (λ c cs. refl)
+    name
 
 service_name_reads : ReadsMember file.service_name IsServiceName
 service_name_reads = record { said = said; read = read }
@@ -472,13 +511,15 @@ service_reads : Reads file.service IsService
 service_reads = record { said = said; read = read }
   where
     lists : ReadsMember (file.list why.Services file.table_name) (IsList IsName)
-    lists = list_reads why.Services file.table_name IsName (of_values (file.name why.Services) IsName (name_reads why.Services))
+    lists = list_reads why.Services file.table_name IsName
+        (of_values (file.name why.Services) IsName (name_reads why.Services))
 
     said : (d : Data) (x : ServiceTie) → file.service d ≡ Ok x → IsService d x
     said d x e =
         let (ms, at, h) = first_of (file.object why.Services (codes "name" ∷ codes "tables" ∷ []) d) _ x e in
         let (own, one, h1) = first_of (file.service_name (get_member (codes "name") ms)) _ x h in
-        let (tables, two, is) = first_of (file.list why.Services file.table_name (get_member (codes "tables") ms)) _ x h1 in
+        let (tables, two, is) = first_of (file.list why.Services file.table_name (get_member (codes "tables") ms)) _ x
+        h1 in
         let holds = object_said why.Services (codes "name" ∷ codes "tables" ∷ []) d ms at in
         subst (λ v. IsService v x) (sym holds.is) (subst (IsService (object ms)) (one_value _ _ x refl is) (record {
           names = holds.only;
@@ -490,9 +531,12 @@ service_reads = record { said = said; read = read }
     read d x h =
         let (ms, is) = h.names.0 in
         let at = subst (λ v. IsService v x) is h in
-        goes_on (file.object why.Services (codes "name" ∷ codes "tables" ∷ []) d) _ ms x (object_read why.Services (codes "name" ∷ codes "tables" ∷ []) d ms is at.names)
-        (goes_on (file.service_name (get_member (codes "name") ms)) _ x.name x (service_name_reads.read (get_member (codes "name") ms) x.name at.name)
-        (goes_on (file.list why.Services file.table_name (get_member (codes "tables") ms)) _ x.tables x (lists.read (get_member (codes "tables") ms) x.tables at.tables) refl))
+        goes_on (file.object why.Services (codes "name" ∷ codes "tables" ∷ []) d) _ ms x
+        (object_read why.Services (codes "name" ∷ codes "tables" ∷ []) d ms is at.names)
+        (goes_on (file.service_name (get_member (codes "name") ms)) _ x.name x
+        (service_name_reads.read (get_member (codes "name") ms) x.name at.name)
+        (goes_on (file.list why.Services file.table_name (get_member (codes "tables") ms)) _ x.tables x
+        (lists.read (get_member (codes "tables") ms) x.tables at.tables) refl))
 
 -- ---- names that differ
 
@@ -507,28 +551,34 @@ or_neither false b e = (refl, e)
 is_its_name : (name : List ℕ) (t : ServiceTie) → name ≡ t.name → file.has_name name t ≡ true
 is_its_name name t is = ap (λ n. is_eq (name_cmp t.name n)) is ∙ ap is_eq (same_name t.name)
 
-no_name : (r : Ordering) (name : List ℕ) (t : ServiceTie) → slice_cmp nat_cmp t.name name ≡ r → name ≢ t.name → is_eq r ≡ false
+no_name : (r : Ordering) (name : List ℕ) (t : ServiceTie) → slice_cmp nat_cmp t.name name ≡ r
+    → name ≢ t.name → is_eq r ≡ false
 no_name Less name t is other = refl
-no_name Equal name t is other = absurd (other (sym (finmap.slice_cmp-IsAntisymmetric finmap.nat_cmp-IsAntisymmetric t.name name is)))
+no_name Equal name t is other =
+    absurd (other (sym (finmap.slice_cmp-IsAntisymmetric finmap.nat_cmp-IsAntisymmetric t.name name is)))
 no_name Greater name t is other = refl
 
 apart : (name : List ℕ) (ts : List ServiceTie) → list_any (file.has_name name) ts ≡ false → All (λ t. name ≢ t.name) ts
 apart name [] e = All-nil (λ (t : ServiceTie). name ≢ t.name)
 apart name (t ∷ ts) e =
     let (here, rest) = or_neither (file.has_name name t) (list_any (file.has_name name) ts) e in
-    All-cons (λ (u : ServiceTie). name ≢ u.name) t ts (λ is. let there : file.has_name name t ≡ true = is_its_name name t is in cc) (apart name ts rest)
+    All-cons (λ (u : ServiceTie). name ≢ u.name) t ts
+    (λ is. let there : file.has_name name t ≡ true = is_its_name name t is in cc) (apart name ts rest)
 
-none_named : (name : List ℕ) (ts : List ServiceTie) → All (λ t. name ≢ t.name) ts → list_any (file.has_name name) ts ≡ false
+none_named : (name : List ℕ) (ts : List ServiceTie) → All (λ t. name ≢ t.name) ts
+    → list_any (file.has_name name) ts ≡ false
 none_named name [] all = refl
 none_named name (t ∷ ts) all =
-    ap (λ b. b || list_any (file.has_name name) ts) (no_name (slice_cmp nat_cmp t.name name) name t refl (all 0 t (omega arith)))
+    ap (λ b. b || list_any (file.has_name name) ts) (no_name (slice_cmp nat_cmp t.name name) name t refl
+    (all 0 t (omega arith)))
     ∙ none_named name ts (λ k d within. all (suc k) d (omega arith))
 
 differ_said : (ts : List ServiceTie) → file.names_differ ts ≡ true → AllPairs (λ s t. s.name ≢ t.name) ts
 differ_said [] e = λ i j d before within. absurd (omega arith)
 differ_said (t ∷ ts) e =
     let (here, rest) = and_both (not (list_any (file.has_name t.name) ts)) (file.names_differ ts) e in
-    AllPairs-cons (λ (s u : ServiceTie). s.name ≢ u.name) t ts (apart t.name ts (not_true (list_any (file.has_name t.name) ts) here)) (differ_said ts rest)
+    AllPairs-cons (λ (s u : ServiceTie). s.name ≢ u.name) t ts
+    (apart t.name ts (not_true (list_any (file.has_name t.name) ts) here)) (differ_said ts rest)
 
 differ_read : (ts : List ServiceTie) → AllPairs (λ s t. s.name ≢ t.name) ts → file.names_differ ts ≡ true
 differ_read [] pairs = refl
@@ -542,17 +592,23 @@ differ_read (t ∷ ts) pairs =
 settings_said : (d : Data) (x : Settings) → file.settings d ≡ Ok x → IsSettings d x
 settings_said d x e =
     let (ms, at, h) = first_of (file.object why.Top file.file_names d) _ x e in
-    let (fields, one, h1) = first_of (file.list_or_none why.CreateOnly file.create_only (get_member (codes "create_only") ms)) _ x h in
-    let (values, two, h2) = first_of (file.list_or_none why.Required file.required (get_member (codes "required") ms)) _ x h1 in
+    let (fields, one, h1) = first_of (file.list_or_none why.CreateOnly file.create_only
+    (get_member (codes "create_only") ms)) _ x h in
+    let (values, two, h2) = first_of (file.list_or_none why.Required file.required (get_member (codes "required") ms))
+    _ x h1 in
     let (ties, three, is) = first_of (file.services (get_member (codes "services") ms)) _ x h2 in
-    let (found, four, h3) = first_of (file.list_or_none why.Services file.service (get_member (codes "services") ms)) _ ties three in
+    let (found, four, h3) = first_of (file.list_or_none why.Services file.service (get_member (codes "services") ms)) _
+    ties three in
     let (differ, same) = passed why.Services (file.names_differ found) found ties h3 in
     let holds = object_said why.Top file.file_names d ms at in
     subst (λ v. IsSettings v x) (sym holds.is) (subst (IsSettings (object ms)) (one_value _ _ x refl is) (record {
       names = holds.only;
-      create_only = list_or_none_said why.CreateOnly file.create_only IsCreateOnly create_only_reads (get_member (codes "create_only") ms) fields one;
-      required = list_or_none_said why.Required file.required IsRequired required_reads (get_member (codes "required") ms) values two;
-      services = list_or_none_said why.Services file.service IsService service_reads (get_member (codes "services") ms) ties (four ∙ ap Ok same);
+      create_only = list_or_none_said why.CreateOnly file.create_only IsCreateOnly create_only_reads
+          (get_member (codes "create_only") ms) fields one;
+      required = list_or_none_said why.Required file.required IsRequired required_reads
+          (get_member (codes "required") ms) values two;
+      services = list_or_none_said why.Services file.service IsService service_reads (get_member (codes "services") ms)
+          ties (four ∙ ap Ok same);
       differ = differ_said ties (subst (λ ts. file.names_differ ts ≡ true) same differ);
     }))
 
@@ -560,14 +616,18 @@ settings_read : (d : Data) (x : Settings) → IsSettings d x → file.settings d
 settings_read d x h =
     let (ms, is) = h.names.0 in
     let at = subst (λ v. IsSettings v x) is h in
-    let ties = list_or_none_read why.Services file.service IsService service_reads (get_member (codes "services") ms) x.services at.services in
+    let ties = list_or_none_read why.Services file.service IsService service_reads (get_member (codes "services") ms)
+    x.services at.services in
     goes_on (file.object why.Top file.file_names d) _ ms x (object_read why.Top file.file_names d ms is at.names)
     (goes_on (file.list_or_none why.CreateOnly file.create_only (get_member (codes "create_only") ms)) _ x.create_only x
-    (list_or_none_read why.CreateOnly file.create_only IsCreateOnly create_only_reads (get_member (codes "create_only") ms) x.create_only at.create_only)
+    (list_or_none_read why.CreateOnly file.create_only IsCreateOnly create_only_reads
+    (get_member (codes "create_only") ms) x.create_only at.create_only)
     (goes_on (file.list_or_none why.Required file.required (get_member (codes "required") ms)) _ x.required x
-    (list_or_none_read why.Required file.required IsRequired required_reads (get_member (codes "required") ms) x.required at.required)
+    (list_or_none_read why.Required file.required IsRequired required_reads (get_member (codes "required") ms)
+    x.required at.required)
     (goes_on (file.services (get_member (codes "services") ms)) _ x.services x
-    (goes_on (file.list_or_none why.Services file.service (get_member (codes "services") ms)) _ x.services x.services ties
+    (goes_on (file.list_or_none why.Services file.service (get_member (codes "services") ms)) _
+    x.services x.services ties
     (passes why.Services (file.names_differ x.services) x.services (differ_read x.services at.differ)))
     refl)))
 
@@ -576,12 +636,15 @@ value_there None d e = absurd cc
 value_there (Some v) d e = ap Some (one_value _ v d refl e)
 
 -- the settings that are read are those that the value says
-pub rules_said : (bytes : List ℕ) (settings : Settings) → file.rules bytes ≡ Ok settings → (d : Data) × (json bytes ≡ Some d) × IsSettings d settings
+pub rules_said : (bytes : List ℕ) (settings : Settings) → file.rules bytes ≡ Ok settings
+    → (d : Data) × (json bytes ≡ Some d) × IsSettings d settings
 rules_said bytes settings e =
     let (d, is, h) = first_of (file.or_bad_json (json bytes)) file.settings settings e in
     (d, value_there (json bytes) d is, settings_said d settings h)
 
 -- the settings that the value says are read
-pub rules_read : (bytes : List ℕ) (d : Data) (settings : Settings) → json bytes ≡ Some d → IsSettings d settings → file.rules bytes ≡ Ok settings
+pub rules_read : (bytes : List ℕ) (d : Data) (settings : Settings) → json bytes ≡ Some d → IsSettings d settings
+    → file.rules bytes ≡ Ok settings
 rules_read bytes d settings is says =
-    goes_on (file.or_bad_json (json bytes)) file.settings d settings (ap file.or_bad_json is) (settings_read d settings says)
+    goes_on (file.or_bad_json (json bytes)) file.settings d settings (ap file.or_bad_json is)
+    (settings_read d settings says)

@@ -1,22 +1,26 @@
 -- What is done over the files of a scope, as the folder has it.
-use Rattle.std.proofs.Common.{◌≡◌, ◌≤◌, ◌⊎◌, ⊎_elim, inl, ℕ, List, refl, sym, ap, ◌∙◌, subst, arith, Option, Some, None, IfSome, IsSome, option_map}
+use Rattle.std.proofs.Common.{◌≡◌, ◌≤◌, ◌⊎◌, ⊎_elim, inl, ℕ, List, [], refl, sym, ap, ◌∙◌, subst, arith, Option, Some, None, IfSome, IsSome}
 use Rattle.std.specs.FinMap.{get}
 use Rattle.host_core.specs.Counts.{Counts, NoneFell, NoneRose}
 use Rattle.host_core.specs.Crashes.{Image, Left, LeavesOnly, MayLeaveNow}
-use Rattle.host_core.specs.State.{Files, State, settled, with_pending}
+use Rattle.host_core.specs.State.{Files, State, settled}
+use Rattle.scopes.specs.Laws.{now_seen}
 use Rattle.scopes.specs.Views.{AreOthersSame, AreOthersSettled, IsSeen, KeepsOthers}
 use Rattle.scopes.specs.declared.scope.Scope.{Scope}
-use Rattle.gcu_output.specs.Lines.{last_line}
 use Rattle.gcu_output.specs.declared.outcomes.Outcome.{Outcome}
-use Rattle.gcu_output.specs.declared.outcomes.Outcome.TheVariants.{DiskFault}
-use Rattle.gcu_requests.specs.Asked.{asked}
-use Rattle.command_answers.specs.Answers.{Answers, Complete, Says}
-use Rattle.command_answers.specs.Crashes.{LeftMeanwhile}
-use Rattle.gcu_engine.specs.Headline.{IsHeadline}
-use Rattle.gcu_engine.specs.Intending.{KeepsIntent}
+use Rattle.gcu_words.specs.Form.{Form, form}
+use Rattle.gcu_words.specs.Form as forms
+use Rattle.gcu_requests.specs.Asked.{asked, form_asked, migrate_asked}
+use Rattle.gcu_requests.specs.WorkAsked.{change_asked}
+use Rattle.command_answers.specs.Answers.{Answers, Complete, IsRefusal}
+use Rattle.command_answers.specs.Commands.{LeftUnwritten}
+use Rattle.command_answers.specs.Crashes.{LeftByForm, LeftMeanwhile}
+use Rattle.command_answers.proofs.Elapsing.{left_here, no_front, with_none}
+use Rattle.scope_commands.specs.SeveralScopes.{IsLeftFrom}
 use Rattle.gcu_engine.specs.Resuming.{IsStoppedIn, Resumes}
-use Rattle.scope_commands.specs.SeveralScopes.{settling}
 use Rattle.gcu_engine.specs.Scoped.{RunsInScope, seen_told}
+use Rattle.gcu_engine.proofs.Headlines.{headline_in}
+use Rattle.gcu_engine.proofs.Intending.{keeps_intent}
 
 -- ---- the files of others
 
@@ -46,6 +50,37 @@ others_ever moment left_since scope old new (Some s) later clean now keeps = rec
   before = keeps (clean_others scope s clean);
 }
 
+-- the same from an earlier moment on
+others_before : {H : Type 0} (told : H → Option State) (moment : H → ℕ) (left_since : H → ℕ → Left → Type 0) (scope : Scope)
+    (old new : H) (o : Option State) → told old ≡ o → IfSome o (λ s. s.pending ≡ settled)
+    → IfSome o (λ s. AreOthersSettled scope s → (t : ℕ) (left : Left) → t ≤ moment old → left_since new t left
+    → left_since old t left ⊎ AreOthersSame scope s.files left.files)
+    → IfSome o (λ s. (left : Left) → IsLeftFrom told moment left_since old new left → AreOthersSame scope s.files left.files)
+others_before told moment left_since scope old new None is clean keeps = tt
+others_before told moment left_since scope old new (Some s) is clean keeps = λ left from.
+    ⊎_elim
+    (λ before. clean_others scope s clean left.files
+    (subst (λ (p : Option State). MayLeaveNow p left) is (from.1.1 left before)).files) (λ same. same)
+    (keeps (clean_others scope s clean) from.0 left from.1.0 from.2)
+
+-- ---- what was there
+
+-- a command leaves what was there, before it writes or prints
+kept_meanwhile : (words : List (List ℕ)) (o : Option State) (left : Left) → MayLeaveNow o left → LeftMeanwhile words o left
+kept_meanwhile words None left may = tt
+kept_meanwhile words (Some s) left may = by (form words)
+  where
+    by : (f : Option Form) → LeftByForm f s left
+    by (Some (forms.change task budget)) =
+        inl ([], inl (no_front (change_asked task budget s) s), with_none s left may)
+    by (Some forms.migrate_checkpoints) = inl (left_here migrate_asked (Some s) left may)
+    by other = left_here (form_asked other) (Some s) left may
+
+-- with no file written
+kept_unwritten : (o : Option State) (left : Left) → MayLeaveNow o left → LeftUnwritten o left
+kept_unwritten None left may = tt
+kept_unwritten (Some s) left may = may.files
+
 -- ---- a command
 
 -- what is one is not none
@@ -69,27 +104,44 @@ module _ {H : Type 0} (told : H → Option State) (counts : H → Counts) (momen
     pub each : (left : Left) → IsSeen to (left_since new (moment old)) left → LeftMeanwhile words (seen_told from (told old)) left
     pub before : (t : ℕ) (left : Left) → t ≤ moment old → IsSeen to (left_since new t) left
         → IsSeen from (left_since old t) left ⊎ LeftMeanwhile words (seen_told from (told old)) left
-    pub headline : IfSome (seen_told from (told old)) (λ s. IsHeadline words s (seen_told to (told new)) result (λ left. IsSeen to (left_since new (moment old)) left))
-    pub intent : IfSome (seen_told from (told old)) (λ s. KeepsIntent words s (λ left. IsSeen to (left_since new (moment old)) left))
+    pub early : IsRefusal result → (t : ℕ) (left : Left) → t ≤ moment old → IsSeen to (left_since new t) left
+        → IsSeen from (left_since old t) left ⊎ LeftUnwritten (seen_told from (told old)) left
     pub complete : IfSome (seen_told from (told old)) (λ s. NoneRose (counts old) (counts new) → Complete (asked words s) result)
     pub resumes : IfSome (seen_told from (told old)) (λ s. NoneRose (counts old) (counts new) → IsStoppedIn s → Resumes words result)
     pub keeps : KeepsOthers told moment left_since from old new
     pub none_fell : NoneFell (counts old) (counts new)
 
+  -- what has P where it was there or is left since, has it from an earlier moment on
+  seen_before : (scope : Scope) (old new : H) (P : Left → Type 0)
+      → ((t : ℕ) (left : Left) → t ≤ moment old → IsSeen scope (left_since new t) left
+      → IsSeen scope (left_since old t) left ⊎ P left)
+      → ((left : Left) → MayLeaveNow (seen_told scope (told old)) left → P left)
+      → (left : Left) → IsSeen scope (IsLeftFrom told moment left_since old new) left → P left
+  seen_before scope old new P before here left (whole, from, is) =
+      ⊎_elim (λ b. here left (now_seen scope (told old) left from.1.1 b)) (λ p. p)
+      (before from.0 left from.1.0 (whole, from.2, is))
+
   -- it is a run over the files of that scope
   viewed_run : (scope : Scope) (old new : H) → IfSome (told old) (λ s. s.pending ≡ settled) → ((left : Left) → left_since old (moment old) left → MayLeaveNow (told old) left)
       → IsViewed scope scope old new → RunsInScope told counts moment left_since scope words old new result
-  viewed_run scope old new clean now h = record {
-    answers = h.answers;
-    crash = record { later = h.later; each = h.each; before = h.before };
-    headline = h.headline;
-    intent = h.intent;
-    complete = h.complete;
-    resumes = h.resumes;
-    others = others_now scope (told old) (told new) clean h.keeps.now;
-    others_left = others_ever moment left_since scope old new (told old) h.keeps.later clean now h.keeps.ever;
-    none_fell = h.none_fell;
-  }
+  viewed_run scope old new clean now h =
+      let o = seen_told scope (told old) in
+      let left = seen_before scope old new (LeftMeanwhile words o) h.before (kept_meanwhile words o) in
+      record {
+        answers = h.answers;
+        crash = record { later = h.later; each = h.each; before = h.before };
+        crash_from = left;
+        headline = headline_in words o (seen_told scope (told new)) (counts old) (counts new) result
+            (IsSeen scope (IsLeftFrom told moment left_since old new)) h.answers left
+            (λ any. seen_before scope old new (LeftUnwritten o) (h.early any) (kept_unwritten o));
+        intent = keeps_intent words o (IsSeen scope (IsLeftFrom told moment left_since old new)) left;
+        complete = h.complete;
+        resumes = h.resumes;
+        others = others_now scope (told old) (told new) clean h.keeps.now;
+        others_left = others_ever moment left_since scope old new (told old) h.keeps.later clean now h.keeps.ever;
+        others_from = others_before told moment left_since scope old new (told old) refl clean h.keeps.ever;
+        none_fell = h.none_fell;
+      }
 
   -- the same of the host behind the views
   pub runs_viewed : (scope from to : Scope) (old behind new ended : H) → from ≡ scope → to ≡ from → behind ≡ old → new ≡ ended

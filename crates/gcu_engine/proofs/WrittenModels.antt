@@ -57,7 +57,8 @@ module _ (s : State) (ctx : Ctx) (read : IsReadIn s ctx) where
       listed = read.models.listed;
       files = read.models.files;
       hold = read.models.hold;
-      are = λ readers true. ap (λ (r : Readers). models_of written (modules_of read.models.files) r) (readers_once some_readers readers some_are_true true);
+      are = λ readers true. ap (λ (r : Readers). models_of written (modules_of read.models.files) r)
+          (readers_once some_readers readers some_are_true true);
     };
     settings = read.settings;
   }
@@ -71,17 +72,21 @@ module _ (s : State) (ctx : Ctx) (read : IsReadIn s ctx) where
   pub valid_written : (c : Config) → IsValidIn ctx c → IsValidIn written_ctx c
   valid_written c valid = (valid_same those ctx.settings c).0 (subst (λ (x : Ctx). IsValidIn x c) ctx_is valid)
 
-  allowed_written : (goal c : Config) (m : Move) → IsAllowed (rulebook ctx) goal c m → IsAllowed (rulebook written_ctx) goal c m
+  allowed_written : (goal c : Config) (m : Move) → IsAllowed (rulebook ctx) goal c m
+      → IsAllowed (rulebook written_ctx) goal c m
   allowed_written goal c m allowed =
       (allowed_flat those ctx.settings goal c m).0 (subst (λ (x : Ctx). IsAllowed (rulebook x) goal c m) ctx_is allowed)
 
-  way_written : (goal c : Config) (ms : List Move) (x : Config) → IsWay (rulebook ctx) goal c ms x → IsWay (rulebook written_ctx) goal c ms x
+  way_written : (goal c : Config) (ms : List Move) (x : Config) → IsWay (rulebook ctx) goal c ms x
+      → IsWay (rulebook written_ctx) goal c ms x
   way_written goal c ms x way =
       (way_flat those ctx.settings goal c ms x).0 (subst (λ (y : Ctx). IsWay (rulebook y) goal c ms x) ctx_is way)
 
-  pub none_written : (goal start x : Config) → ¬ IsReachable (rulebook ctx) goal start x → ¬ IsReachable (rulebook written_ctx) goal start x
+  pub none_written : (goal start x : Config) → ¬ IsReachable (rulebook ctx) goal start x
+      → ¬ IsReachable (rulebook written_ctx) goal start x
   none_written goal start x none reached =
-      none (subst (λ (y : Ctx). IsReachable (rulebook y) goal start x) (sym ctx_is) ((reachable_flat those ctx.settings goal start x).1 reached))
+      none (subst (λ (y : Ctx). IsReachable (rulebook y) goal start x) (sym ctx_is)
+      ((reachable_flat those ctx.settings goal start x).1 reached))
 
   committed_written : (now : Config) (goals : FinMap name_cmp Config) (told : List (List ℕ × Reply)) (ms : List Move)
       → AreCommitted ctx s now goals told ms → AreCommitted written_ctx s now goals told ms
@@ -96,6 +101,8 @@ module _ (s : State) (ctx : Ctx) (read : IsReadIn s ctx) where
   committed_written now goals ((name, other) ∷ told) ms h = committed_written now goals told ms h
 
   -- what is printed before right moves
-  pub text_written : (task : Task) (start : Config) (ms : List Move) (text : List ℕ) → IsTextOf task s ctx start ms text → IsTextOf task s written_ctx start ms text
+  pub text_written : (task : Task) (start : Config) (ms : List Move) (text : List ℕ)
+      → IsTextOf task s ctx start ms text → IsTextOf task s written_ctx start ms text
   text_written (reach from) start ms text (goal, made, way, is) = (goal, made, way_written goal start ms goal way, is)
-  text_written (run_script path) start ms text (told, committed, is) = (told, committed_written start empty told ms committed, is)
+  text_written (run_script path) start ms text (told, committed, is) =
+      (told, committed_written start empty told ms committed, is)

@@ -12,7 +12,7 @@ ghost use Rattle.gcu_engine.specs.Headline.{IsHeadline};
 ghost use Rattle.gcu_engine.specs.Intending.{KeepsIntent};
 ghost use Rattle.gcu_engine.specs.Resuming.{IsStoppedIn, Resumes};
 ghost use Rattle.gcu_engine.specs.Scoped.{RunsScoped};
-ghost use Rattle.gcu_engine.specs.Settling.{SettlesTasks};
+ghost use Rattle.gcu_engine.specs.Settling.{SettlesTasks, SettlesWrites};
 
 use crate::Outcome;
 use crate::run_form::run_form;
@@ -65,6 +65,10 @@ pub fn run<H: Host>(alloc: Global, words: &[Txt], kit: &mut Kit, host: &mut H) -
     ensures settles { IsUnscoped words.now → IfSome (H.told host.old)
         (λ s. SettlesTasks words.now s (H.left_since host.old (H.moment host.old))
         (H.left_since host.new (H.moment host.old))) }
+    // So do the commands that change checkpoints, and `abandon`.
+    ensures settles_writes { IsUnscoped words.now → IfSome (H.told host.old)
+        (λ s. SettlesWrites words.now s (H.left_since host.old (H.moment host.old))
+        (H.left_since host.new (H.moment host.old))) }
     // What the host's calls keep is kept.
     ensures goes { H.goes_on host.old host.new }
     // The words alone tell whether they are a command.
@@ -79,7 +83,7 @@ pub fn run<H: Host>(alloc: Global, words: &[Txt], kit: &mut Kit, host: &mut H) -
         (λ s. NoneRose (H.counts host.old) (H.counts host.new)
         → IsStoppedIn s → Resumes words.now result) }
     // Of words that name a scope all this holds of the folder as the scope shows it, once what was pending is
-    // settled, and every file outside stays as it is. Of a change of several scopes the plans are printed, and
+    // settled and from the beginning where nothing was, and every file outside stays as it is. Of a change of several scopes the plans are printed, and
     // then done scope after scope but for a dry run.
     ensures scoped { IsUnscoped words.now ⊎ RunsScoped H.told H.counts H.moment H.left_since
         words.now host.old host.new result }

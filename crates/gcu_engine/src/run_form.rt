@@ -9,12 +9,11 @@ ghost use Rattle.gcu_output.specs.declared.outcomes.Outcome.TheVariants.{Usage a
 ghost use Rattle.gcu_words.specs.Form.{form};
 ghost use Rattle.gcu_words.specs.FormView.{form_view};
 ghost use Rattle.gcu_requests.specs.Asked.{asked};
-ghost use Rattle.command_answers.specs.Answers.{Answers, Complete, HasCause, TellsUsage};
+ghost use Rattle.command_answers.specs.Answers.{Answers, Complete, HasCause, IsRefusal, TellsUsage};
+ghost use Rattle.command_answers.specs.Commands.{LeftUnwritten};
 ghost use Rattle.command_answers.specs.Crashes.{LeftMeanwhile};
-ghost use Rattle.gcu_engine.specs.Headline.{IsHeadline};
-ghost use Rattle.gcu_engine.specs.Intending.{KeepsIntent};
 ghost use Rattle.gcu_engine.specs.Resuming.{IsStoppedIn, Resumes};
-ghost use Rattle.gcu_engine.specs.Settling.{SettlesTasks};
+ghost use Rattle.gcu_engine.specs.Settling.{SettlesTasks, SettlesWrites};
 
 use crate::Outcome;
 use gcu_output::{say, show};
@@ -45,16 +44,16 @@ pub(crate) fn run_form<H: Host>(
     ensures crash { (words : List (List ℕ)) → form words ≡ form_view command.entry
         → LeavesOnly H.moment H.left_since host.old host.new
         (LeftMeanwhile words (H.told host.old)) }
-    ensures headline { (words : List (List ℕ)) → form words ≡ form_view command.entry
-        → IfSome (H.told host.old)
-        (λ s. IsHeadline words s (H.told host.new) result
-        (H.left_since host.new (H.moment host.old))) }
-    ensures intent { (words : List (List ℕ)) → form words ≡ form_view command.entry
-        → IfSome (H.told host.old)
-        (λ s. KeepsIntent words s (H.left_since host.new (H.moment host.old))) }
+    ensures early { (words : List (List ℕ)) → form words ≡ form_view command.entry
+        → IsRefusal result → LeavesOnly H.moment H.left_since host.old host.new
+        (LeftUnwritten (H.told host.old)) }
     ensures settles { (words : List (List ℕ)) → form words ≡ form_view command.entry
         → IfSome (H.told host.old)
         (λ s. SettlesTasks words s (H.left_since host.old (H.moment host.old))
+        (H.left_since host.new (H.moment host.old))) }
+    ensures settles_writes { (words : List (List ℕ)) → form words ≡ form_view command.entry
+        → IfSome (H.told host.old)
+        (λ s. SettlesWrites words s (H.left_since host.old (H.moment host.old))
         (H.left_since host.new (H.moment host.old))) }
     ensures goes { H.goes_on host.old host.new }
     ensures usage { result ≡ usage → form_view command.entry ≡ None }

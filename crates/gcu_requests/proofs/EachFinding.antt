@@ -31,7 +31,8 @@ module _ {X Y V : Type 0} (view : V → Y) (ask : X → Asking Y) where
   one_refused (y ∷ xs) x rest [] e never h = absurd never
   one_refused (y ∷ xs) x rest (v ∷ vs) e found h =
       then_found view (map view) v (Err e) (ask y) _ (record { gives = found.0; stands = tt })
-      (first_refused {X = List V} (map view) (map view) e (of_each ask (xs ++ x ∷ rest)) _ (one_refused xs x rest vs e found.1 h))
+      (first_refused {X = List V} (map view) (map view) e (of_each ask (xs ++ x ∷ rest)) _
+      (one_refused xs x rest vs e found.1 h))
 
 -- ---- items by their places
 

@@ -13,13 +13,15 @@ use Rattle.gcu_requests.specs.Places.{AddsField, IsFieldOf, field_name, rule_nam
 pub no_field_name : (names : List (List ℕ)) (row : Row) (n : ℕ) → length row.fields ≤ n
     → names ≡ names ++ field_name row n
 no_field_name names row n past =
-    sym (ap (λ o. names ++ option_to_list (option_map (λ f. f.0) o)) (slice_get_past row.fields n past) ∙ append-nil names)
+    sym (ap (λ o. names ++ option_to_list (option_map (λ f. f.0) o)) (slice_get_past row.fields n past)
+    ∙ append-nil names)
 
 -- nor behind that of a shape
 pub no_rule_name : (names : List (List ℕ)) (shape : Shape) (n : ℕ) → length shape.fields ≤ n
     → names ≡ names ++ rule_name shape n
 no_rule_name names shape n past =
-    sym (ap (λ o. names ++ option_to_list (option_map (λ f. f.name) o)) (slice_get_past shape.fields n past) ∙ append-nil names)
+    sym (ap (λ o. names ++ option_to_list (option_map (λ f. f.name) o)) (slice_get_past shape.fields n past)
+    ∙ append-nil names)
 
 -- a rule of a field
 pub is_field : (models : ModelSet) (row : Row) (rule : RuleName) (n : ℕ)

@@ -59,7 +59,8 @@ breaches_ordered : (a b : Breach) → (a ≡ b) ⊎ (IsBreachBefore a b ⊎ IsBr
 breaches_ordered a b = by_table (cases_order a.table b.table)
   where
     by_rule : a.table ≡ b.table → a.key ≡ b.key
-        → ((a.rule ≡ b.rule) × (a.field ≡ b.field)) ⊎ (IsRuleBefore a.rule a.field b.rule b.field ⊎ IsRuleBefore b.rule b.field a.rule a.field)
+        → ((a.rule ≡ b.rule) × (a.field ≡ b.field))
+        ⊎ (IsRuleBefore a.rule a.field b.rule b.field ⊎ IsRuleBefore b.rule b.field a.rule a.field)
         → (a ≡ b) ⊎ (IsBreachBefore a b ⊎ IsBreachBefore b a)
     by_rule t k (inl (r, f)) = inl (λ i. record { table = t i; key = k i; rule = r i; field = f i })
     by_rule t k (inr (inl lt)) = inr (inl (inr (t, inr (k, lt))))

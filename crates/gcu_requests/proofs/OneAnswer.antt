@@ -190,7 +190,8 @@ preview_one path s =
 delete_one : (word : List ℕ) (s : State) → HasOneAnswer (delete_asked word s)
 delete_one word s =
     chain_one (follows (name_answer word)) _ (name_one word)
-    (λ name. chain_one settles_first _ settles_one (λ u. chain_one (uninterrupted s) _ (uninterrupted_one s) (λ v. asks_one _ _)))
+    (λ name. chain_one settles_first _ settles_one (λ u. chain_one (uninterrupted s) _ (uninterrupted_one s)
+    (λ v. asks_one _ _)))
 
 files_one : (found : List File) (paths : List (List ℕ)) (s : State) → HasOneAnswer (files_asked found paths s)
 files_one found [] s = follows_one (Ok found)
@@ -216,7 +217,8 @@ made_one resumed start s = chain_one (intent_asked s) _ (asks_one _ _) (λ found
 pub judged_one : (ctx : Ctx) (start goal : Config) → HasOneAnswer (judged_asked ctx start goal)
 judged_one ctx start goal =
     chain_one (follows_by (IsElsewhereAs ctx start goal)) _ (record { same = elsewhere_same ctx start goal })
-    (λ u. chain_one (follows_by (HasKeys ctx goal)) _ (record { same = keys_same ctx start goal }) (λ v. valid_one TargetInvalid ctx goal))
+    (λ u. chain_one (follows_by (HasKeys ctx goal)) _ (record { same = keys_same ctx start goal })
+    (λ v. valid_one TargetInvalid ctx goal))
 
 goal_one : (from : Target) (ctx : Ctx) (start : Config) (s : State) → HasOneAnswer (goal_asked from ctx start s)
 goal_one from ctx start s =
@@ -298,12 +300,14 @@ module _ (one : (files : List (List Declaration)) (a b : ModelSet) → AreModels
   save_one word s =
       chain_one (follows (name_answer word)) _ (name_one word)
       (λ name. chain_one settles_first _ settles_one
-      (λ u. chain_one (check_asked s) _ (check_one s) (λ c. chain_one (stored_asked s) _ (stored_one s) (λ start. asks_one _ _))))
+      (λ u. chain_one (check_asked s) _ (check_one s) (λ c. chain_one (stored_asked s) _ (stored_one s)
+      (λ start. asks_one _ _))))
 
   needs_one : (from : Target) (budget : ℕ) (s : State) → HasOneAnswer (needs_asked from budget s)
   needs_one from budget s =
       chain_one (ctx_asked s) _ (ctx_one s)
-      (λ ctx. chain_one (start_asked ctx s) _ (start_one ctx s) (λ start. chain_one (goal_asked from ctx start s) _ (goal_one from ctx start s) (λ goal. follows_one _)))
+      (λ ctx. chain_one (start_asked ctx s) _ (start_one ctx s)
+      (λ start. chain_one (goal_asked from ctx start s) _ (goal_one from ctx start s) (λ goal. follows_one _)))
 
   planning_one : (from : Target) (budget : ℕ) (s : State) → HasOneAnswer (planning_asked from budget s)
   planning_one from budget s = chain_one (gate_asked from s) _ (gate_one from s) (λ u. needs_one from budget s)
@@ -313,7 +317,8 @@ module _ (one : (files : List (List Declaration)) (a b : ModelSet) → AreModels
       chain_one (uninterrupted s) _ (uninterrupted_one s)
       (λ u. chain_one (ctx_asked s) _ (ctx_one s)
       (λ ctx. chain_one (start_asked ctx s) _ (start_one ctx s)
-      (λ start. chain_one (script_asked path s) _ (script_one path s) (λ lines. chain_one (patches_asked [] lines s) _ (patches_one [] lines s) (λ patches. follows_one _)))))
+      (λ start. chain_one (script_asked path s) _ (script_one path s)
+      (λ lines. chain_one (patches_asked [] lines s) _ (patches_one [] lines s) (λ patches. follows_one _)))))
 
   work_one : (task : Task) (budget : ℕ) (s : State) → HasOneAnswer (work_asked task budget s)
   work_one (reach from) budget s =
@@ -329,7 +334,8 @@ module _ (one : (files : List (List Declaration)) (a b : ModelSet) → AreModels
   change_one : (word : Task) (budget : ℕ) (s : State) → HasOneAnswer (change_asked word budget s)
   change_one word budget s =
       chain_one (follows (task_answer word)) _ (follows_one (task_answer word))
-      (λ task. chain_one settles_first _ settles_one (λ u. chain_one (work_asked task budget s) _ (work_one task budget s) (λ w. follows_one _)))
+      (λ task. chain_one settles_first _ settles_one
+      (λ u. chain_one (work_asked task budget s) _ (work_one task budget s) (λ w. follows_one _)))
 
   generated_one : (seed ports : ℕ) (ctx : Ctx) → HasOneAnswer (generated_asked seed ports ctx)
   generated_one seed ports ctx =
@@ -339,7 +345,8 @@ module _ (one : (files : List (List Declaration)) (a b : ModelSet) → AreModels
   demo_one : (seed ports : ℕ) (s : State) → HasOneAnswer (demo_asked seed ports s)
   demo_one seed ports s =
       chain_one (demo_planning_asked seed ports s) _
-      (chain_one (uninterrupted s) _ (uninterrupted_one s) (λ u. chain_one (ctx_asked s) _ (ctx_one s) (λ ctx. generated_one seed ports ctx))) (λ p. follows_one _)
+      (chain_one (uninterrupted s) _ (uninterrupted_one s)
+      (λ u. chain_one (ctx_asked s) _ (ctx_one s) (λ ctx. generated_one seed ports ctx))) (λ p. follows_one _)
 
   moves_one : (path : List ℕ) (s : State) → HasOneAnswer (moves_asked path s)
   moves_one path s =
@@ -351,7 +358,8 @@ module _ (one : (files : List (List Declaration)) (a b : ModelSet) → AreModels
       (λ u. chain_one (ctx_asked s) _ (ctx_one s)
       (λ ctx. chain_one (start_asked ctx s) _ (start_one ctx s)
       (λ start. chain_one (goal_asked (patched patch) ctx start s) _ (goal_one (patched patch) ctx start s)
-      (λ goal. chain_one (moves_asked plan s) _ (moves_one plan s) (λ ms. record { same = accepted_same laws ctx start goal ms })))))
+      (λ goal. chain_one (moves_asked plan s) _ (moves_one plan s)
+      (λ ms. record { same = accepted_same laws ctx start goal ms })))))
 
   form_one : (f : Option Form) (s : State) → HasOneAnswer (form_asked f s)
   form_one None s = follows_one _

@@ -27,7 +27,8 @@ self x = x
 -- ---- the plan
 
 -- there are no bytes
-pub no_bytes : (o : Option State) (path : List ℕ) (e : Outcome) → Finds {X = List ℕ} o self (Err e) (bytes_asked path most_bytes)
+pub no_bytes : (o : Option State) (path : List ℕ) (e : Outcome)
+    → Finds {X = List ℕ} o self (Err e) (bytes_asked path most_bytes)
     → Finds {X = List Move} o self (Err e) (moves_asked path)
 no_bytes None path e h = tt
 no_bytes (Some s) path e h = first_refused self self e (bytes_asked path most_bytes s) _ h
@@ -45,12 +46,14 @@ moves_found (Some s) path bytes r h told always =
 
 module _ (patch plan : List ℕ) where
   -- there is nothing to judge by
-  pub no_check_ctx : (o : Option State) (e : Outcome) → Finds {X = Ctx} o self (Err e) ctx_asked → Finds {X = ℕ} o accept_plan (Err e) (checking_asked patch plan)
+  pub no_check_ctx : (o : Option State) (e : Outcome) → Finds {X = Ctx} o self (Err e) ctx_asked
+      → Finds {X = ℕ} o accept_plan (Err e) (checking_asked patch plan)
   no_check_ctx None e h = tt
   no_check_ctx (Some s) e h = first_refused self accept_plan e (ctx_asked s) _ h
 
   -- there is no start
-  pub no_check_start : (o : Option State) (ctx : Ctx) (e : Outcome) → Finds o self (Ok ctx) ctx_asked → Finds {X = Stored} o config_of (Err e) (start_asked ctx)
+  pub no_check_start : (o : Option State) (ctx : Ctx) (e : Outcome) → Finds o self (Ok ctx) ctx_asked
+      → Finds {X = Stored} o config_of (Err e) (start_asked ctx)
       → Finds {X = ℕ} o accept_plan (Err e) (checking_asked patch plan)
   no_check_start None ctx e h f = tt
   no_check_start (Some s) ctx e h f =
@@ -95,7 +98,8 @@ module _ (patch plan : List ℕ) where
         then_found self accept_plan ctx r (ctx_asked s) _ h
         (then_found config_of accept_plan start r (start_asked ctx s) _ f
         (then_found self accept_plan goal r (goal_asked (patched patch) ctx start.config s) _ g
-        (then_found self accept_plan ms r (moves_asked plan s) _ m (found_told accept_plan r (IsAccepted ctx start.config goal ms) told always))))
+        (then_found self accept_plan ms r (moves_asked plan s) _ m
+        (found_told accept_plan r (IsAccepted ctx start.config goal ms) told always))))
 
 -- ---- how many moves there are
 

@@ -59,7 +59,8 @@ start_found (Some s) ctx what r h told always =
 -- ---- the goal
 
 -- there is no patch
-pub no_made : (o : Option State) (path : List ℕ) (start : Config) (e : Outcome) → Finds {X = Operations} o operations (Err e) (patch_asked path)
+pub no_made : (o : Option State) (path : List ℕ) (start : Config) (e : Outcome)
+    → Finds {X = Operations} o operations (Err e) (patch_asked path)
     → Finds {X = Config} o self (Err e) (made_asked (patched path) start)
 no_made None path start e h = tt
 no_made (Some s) path start e h = first_refused operations self e (patch_asked path s) _ h
@@ -75,7 +76,8 @@ made_found (Some s) path start patch r h gives always =
     (found_always self r (target (operations patch) start) _ (λ q same. same) gives always)
 
 -- there is no file
-pub no_file : (o : Option State) (path : List ℕ) (e : Outcome) → Finds {X = List ℕ} o self (Err e) (bytes_asked path file_limit)
+pub no_file : (o : Option State) (path : List ℕ) (e : Outcome)
+    → Finds {X = List ℕ} o self (Err e) (bytes_asked path file_limit)
     → Finds {X = Config} o self (Err e) (file_asked path)
 no_file None path e h = tt
 no_file (Some s) path e h = first_refused self self e (bytes_asked path file_limit s) _ h
@@ -91,15 +93,18 @@ file_found (Some s) path bytes r h gives always =
 
 module _ (o : Option State) (from : Target) (ctx : Ctx) (start : Config) where
   -- nothing is made
-  pub no_goal : (e : Outcome) → Finds {X = Config} o self (Err e) (made_asked from start) → Finds {X = Config} o self (Err e) (goal_asked from ctx start)
+  pub no_goal : (e : Outcome) → Finds {X = Config} o self (Err e) (made_asked from start)
+      → Finds {X = Config} o self (Err e) (goal_asked from ctx start)
   no_goal e h = by o h
     where
-      by : (p : Option State) → Finds {X = Config} p self (Err e) (made_asked from start) → Finds {X = Config} p self (Err e) (goal_asked from ctx start)
+      by : (p : Option State) → Finds {X = Config} p self (Err e) (made_asked from start)
+          → Finds {X = Config} p self (Err e) (goal_asked from ctx start)
       by None h = tt
       by (Some s) h = first_refused self self e (made_asked from start s) _ h
 
 -- a table without a model differs
-pub goal_elsewhere : (ctx : Ctx) (start goal : Config) (e : Outcome) → IsRightBy {X = Unit {0}} self (Err e) (IsElsewhereAs ctx start goal) → RefusesAlways e
+pub goal_elsewhere : (ctx : Ctx) (start goal : Config) (e : Outcome)
+    → IsRightBy {X = Unit {0}} self (Err e) (IsElsewhereAs ctx start goal) → RefusesAlways e
     → Found {X = Config} self (Err e) (judged_asked ctx start goal)
 goal_elsewhere ctx start goal e told always =
     first_refused {X = Unit {0}} self self e (follows_by (IsElsewhereAs ctx start goal)) _
@@ -137,7 +142,8 @@ goal_found (Some s) from ctx start goal r h judged = then_found self self goal r
 -- ---- all of it
 
 -- there is nothing to judge by
-pub no_plan_ctx : (o : Option State) (from : Target) (budget : ℕ) (e : Outcome) → Finds {X = Ctx} o self (Err e) ctx_asked
+pub no_plan_ctx : (o : Option State) (from : Target) (budget : ℕ) (e : Outcome)
+    → Finds {X = Ctx} o self (Err e) ctx_asked
     → Finds o planning_of (Err e) (needs_asked from budget)
 no_plan_ctx None from budget e h = tt
 no_plan_ctx (Some s) from budget e h = first_refused self planning_of e (ctx_asked s) _ h
@@ -160,7 +166,8 @@ pub no_plan_goal : (o : Option State) (from : Target) (budget : ℕ) (ctx : Ctx)
 no_plan_goal None from budget ctx start e h f g = tt
 no_plan_goal (Some s) from budget ctx start e h f g =
     then_found self planning_of ctx (Err e) (ctx_asked s) _ h
-    (then_found config_of planning_of start (Err e) (start_asked ctx s) _ f (first_refused self planning_of e (goal_asked from ctx start.config s) _ g))
+    (then_found config_of planning_of start (Err e) (start_asked ctx s) _ f
+    (first_refused self planning_of e (goal_asked from ctx start.config s) _ g))
 
 abbrev planned : code.Planning → ℕ → request.Planning
 planned p n = record { ctx = p.ctx; start = p.stored.config; goal = p.goal; budget = n }
@@ -188,10 +195,12 @@ passed x = tt
 
 module _ (o : Option State) (from : Target) (budget : ℕ) where
   -- it is closed
-  pub gate_closed : (e : Outcome) → Finds {X = Held} o passed (Err e) (gate_asked from) → Finds {X = code.Planning} o planning_of (Err e) (planning_asked from budget)
+  pub gate_closed : (e : Outcome) → Finds {X = Held} o passed (Err e) (gate_asked from)
+      → Finds {X = code.Planning} o planning_of (Err e) (planning_asked from budget)
   gate_closed e h = by o h
     where
-      by : (p : Option State) → Finds {X = Held} p passed (Err e) (gate_asked from) → Finds {X = code.Planning} p planning_of (Err e) (planning_asked from budget)
+      by : (p : Option State) → Finds {X = Held} p passed (Err e) (gate_asked from)
+          → Finds {X = code.Planning} p planning_of (Err e) (planning_asked from budget)
       by None h = tt
       by (Some s) h = first_refused {X = Held} passed planning_of e (gate_asked from s) _ h
 

@@ -33,13 +33,15 @@ chosen k t e row true at is =
 chosen k t e row false at is = absurd (none-some row is)
 
 -- it is the row
-pub entry_at : (models : ModelSet) (config : Config) (t k : ℕ) (table key : List ℕ) (entries : Table) (fields : Entry) (row : Row)
+pub entry_at : (models : ModelSet) (config : Config) (t k : ℕ) (table key : List ℕ) (entries : Table) (fields : Entry)
+    (row : Row)
     → slice_get config t ≡ Some (table, entries) → slice_get entries k ≡ Some (key, fields)
     → row_at models config t k ≡ Some row
     → row_of table key fields ≡ row
 entry_at models config t k table key entries fields row at at_key is =
     chosen k (table, entries) (key, fields) row (is_some (table_named table models)) at_key
-    (sym (ap (λ o. option_and_then (λ u. option_map (made_of u) (slice_get u.1 k)) (option_and_then (if_modelled models) o)) at) ∙ is)
+    (sym (ap (λ o. option_and_then (λ u. option_map (made_of u) (slice_get u.1 k))
+    (option_and_then (if_modelled models) o)) at) ∙ is)
 
 numbered : (r : RuleName) → rule_from (rule_number r) ≡ Some r
 numbered KeyShape = refl
@@ -59,22 +61,24 @@ rule_is b v o rule same from is =
     let one : rule ≡ b.rule = cc in one
 
 -- the names of the table, of the key and of the field, put at the end one after the other
-pub names_added : (models : ModelSet) (config : Config) (b : Breach) (row : Row) (table key : List ℕ) (fields : Entry) (rule : RuleName) (n : ℕ) (old one two new : List (List ℕ))
+pub names_added : (models : ModelSet) (config : Config) (b : Breach) (row : Row) (table key : List ℕ) (fields : Entry)
+    (rule : RuleName) (n : ℕ) (old one two new : List (List ℕ))
     → row_at models config b.table b.key ≡ Some row → row_of table key fields ≡ row → rule ≡ b.rule → n ≡ b.field
     → one ≡ old ++ table ∷ [] → two ≡ one ++ key ∷ [] → AddsField models (row_of table key fields) rule n two new
     → AddsNames models config b old new
-names_added models config b row table key fields rule n old one two new at is same at_field first second (field, follows, named) = record {
-  row = row;
-  at = at;
-  field = field;
-  named =
-      subst (λ r. IsFieldOf models r b.rule b.field field) is
-      (subst (λ r. IsFieldOf models (row_of table key fields) r b.field field) same
-      (subst (λ m. IsFieldOf models (row_of table key fields) rule m field) at_field named));
-  follows =
-      follows
-      ∙ ap (λ names. names ++ field) (second ∙ ap (λ names. names ++ key ∷ []) first)
-      ∙ append_assoc (old ++ table ∷ []) (key ∷ []) field
-      ∙ append_assoc old (table ∷ []) (key ∷ field)
-      ∙ ap (λ r. old ++ r.table ∷ r.key ∷ field) is;
-}
+names_added models config b row table key fields rule n old one two new at is same at_field first second
+    (field, follows, named) = record {
+      row = row;
+      at = at;
+      field = field;
+      named =
+          subst (λ r. IsFieldOf models r b.rule b.field field) is
+          (subst (λ r. IsFieldOf models (row_of table key fields) r b.field field) same
+          (subst (λ m. IsFieldOf models (row_of table key fields) rule m field) at_field named));
+      follows =
+          follows
+          ∙ ap (λ names. names ++ field) (second ∙ ap (λ names. names ++ key ∷ []) first)
+          ∙ append_assoc (old ++ table ∷ []) (key ∷ []) field
+          ∙ append_assoc old (table ∷ []) (key ∷ field)
+          ∙ ap (λ r. old ++ r.table ∷ r.key ∷ field) is;
+    }

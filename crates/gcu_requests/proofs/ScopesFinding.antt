@@ -38,11 +38,13 @@ config_of what = what.config
 
 module _ (ctx : Ctx) (budget : ℕ) (ops : List Operation) where
   -- the patch fails
-  pub no_made : (start : Config) (e : Outcome) → Gives {X = Config} self refusal (Err e) (target ops start) → RefusesAlways e
+  pub no_made : (start : Config) (e : Outcome) → Gives {X = Config} self refusal (Err e) (target ops start)
+      → RefusesAlways e
       → Found {X = Ends} (plan_in ctx budget) (Err e) (patched_goal ctx budget ops start)
   no_made start e gives always =
       first_refused self (plan_in ctx budget) e (follows (target ops start)) _
-      (found_always {X = Config} self (Err e) (target ops start) (follows (target ops start)) (λ q same. same) gives always)
+      (found_always {X = Config} self (Err e) (target ops start) (follows (target ops start)) (λ q same. same) gives
+      always)
 
   -- no plan may have what it makes for its goal
   pub no_judged : (start made : Config) (e : Outcome) → Gives self refusal (Ok made) (target ops start)
@@ -61,7 +63,10 @@ module _ (ctx : Ctx) (budget : ℕ) (ops : List Operation) where
       then_found self (plan_in ctx budget) made (Ok ends) (follows (target ops start)) _
       (found_always self (Ok made) (target ops start) (follows (target ops start)) (λ q same. same) gives tt)
       (then_found self (plan_in ctx budget) goal (Ok ends) (judged_asked ctx start made) _ judged
-      (record { gives = (λ i. Ok (record { ctx = ctx; start = sym from i; goal = sym to i; budget = budget })); stands = tt }))
+      (record {
+        gives = (λ i. Ok (record { ctx = ctx; start = sym from i; goal = sym to i; budget = budget }));
+        stands = tt;
+      }))
 
   -- there is no valid start
   pub no_start : (o : Option State) (e : Outcome) → Finds {X = Stored} o config_of (Err e) (start_asked ctx)
@@ -117,7 +122,8 @@ ends_stand o stored (Ok e) stands same =
     subst (λ (what : Stored). IfSome o (λ s. StandsFor what s.files)) (sym same) stands
 
 -- what is found in the folder that a scope shows
-pub found_behind : {X Y : Type 0} (scope : Scope) (o : Option State) (view : X → Y) (r : Result X Outcome) (asking : State → Asking Y)
+pub found_behind : {X Y : Type 0} (scope : Scope) (o : Option State) (view : X → Y) (r : Result X Outcome)
+    (asking : State → Asking Y)
     → Finds (option_map (seen scope) o) view r asking → Finds o view r (λ s. asking (seen scope s))
 found_behind scope None view r asking h = tt
 found_behind scope (Some s) view r asking h = h
@@ -125,7 +131,8 @@ found_behind scope (Some s) view r asking h = h
 -- ---- one scope
 
 -- a refusal that is told of a scope is one of the question to it
-refused_within : {X Y Z : Type 0} (scope : Scope) (asking : Asking Y) (view : X → Y) (view' : Z → Y) (old new : Counts) (e r : Outcome)
+refused_within : {X Y Z : Type 0} (scope : Scope) (asking : Asking Y) (view : X → Y) (view' : Z → Y) (old new : Counts)
+    (e r : Outcome)
     → Refuses old new e → IsRefusalOf scope e r → Found view (Err e) asking → Found view' (Err r) (within scope asking)
 refused_within {X} {Y} {Z} scope asking view view' old new e r refuses told h = by e r refuses told h
   where
@@ -164,7 +171,8 @@ refusal_refuses scope old new other r refuses (inl told) = subst (Refuses old ne
 refusal_refuses scope old new other r refuses (inr told) = subst (Refuses old new) (sym told) tt
 
 -- what is refused of a scope is refused by what its plan needs
-pub part_refused : (scope : Scope) (part : Part) (ctx : Ctx) (budget : ℕ) (o : Option State) (old new : Counts) (e r : Outcome) → scope ≡ part.0
+pub part_refused : (scope : Scope) (part : Part) (ctx : Ctx) (budget : ℕ) (o : Option State) (old new : Counts)
+    (e r : Outcome) → scope ≡ part.0
     → Refuses old new e → IsRefusalOf scope e r
     → Finds {X = Ends} o (plan_in ctx budget) (Err e) (λ s. patched_asked ctx budget part.1 (seen part.0 s))
     → Finds {X = ScopeEnds} o (scope_planning ctx budget) (Err r) (λ s. part_asked ctx budget s part)
@@ -172,7 +180,8 @@ part_refused scope part ctx budget None old new e r is refuses told h = tt
 part_refused scope part ctx budget (Some s) old new e r is refuses told h =
     first_refused {X = Ends} (plan_in ctx budget) (scope_planning ctx budget) r
     (within part.0 (patched_asked ctx budget part.1 (seen part.0 s))) _
-    (refused_within part.0 (patched_asked ctx budget part.1 (seen part.0 s)) (plan_in ctx budget) (plan_in ctx budget) old new e r
+    (refused_within part.0 (patched_asked ctx budget part.1 (seen part.0 s)) (plan_in ctx budget) (plan_in ctx budget)
+    old new e r
     refuses (subst (λ (sc : Scope). IsRefusalOf sc e r) is told) h)
 
 -- what is found of it makes what its plan needs

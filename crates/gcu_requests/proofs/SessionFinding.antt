@@ -38,7 +38,8 @@ Kept = List (List ℕ × Patch)
 -- ---- the script
 
 -- there are no bytes
-pub no_script : (o : Option State) (path : List ℕ) (e : Outcome) → Finds {X = List ℕ} o self (Err e) (bytes_asked path script_limit)
+pub no_script : (o : Option State) (path : List ℕ) (e : Outcome)
+    → Finds {X = List ℕ} o self (Err e) (bytes_asked path script_limit)
     → Finds {X = List ScriptLine} o self (Err e) (script_asked path)
 no_script None path e h = tt
 no_script (Some s) path e h = first_refused self self e (bytes_asked path script_limit s) _ h
@@ -113,10 +114,12 @@ found_on before found (End name) on h = tt
 
 -- it was read
 pub known_found : (o : Option State) (found : Kept) (path : List ℕ) → IsSome (patch_at path (patched_all found))
-    → Finds {X = Kept} o patched_all (Ok found) (unread_asked (patched_all found) path (patch_at path (patched_all found)))
+    → Finds {X = Kept} o patched_all (Ok found)
+    (unread_asked (patched_all found) path (patch_at path (patched_all found)))
 known_found o found path h = by o (patch_at path (patched_all found)) h
   where
-    by : (o : Option State) (x : Option (List Operation)) → IsSome x → Finds {X = Kept} o patched_all (Ok found) (unread_asked (patched_all found) path x)
+    by : (o : Option State) (x : Option (List Operation)) → IsSome x
+        → Finds {X = Kept} o patched_all (Ok found) (unread_asked (patched_all found) path x)
     by None x h = tt
     by (Some s) None never = absurd cc
     by (Some s) (Some ops) h = record { gives = refl; stands = tt }
@@ -135,7 +138,8 @@ no_file_read (Some s) found path e none h =
 pub file_read_now : (o : Option State) (found all : Kept) (path : List ℕ) (patch : Patch)
     → all ≡ found ++ (path, patch) ∷ []
     → patch_at path (patched_all found) ≡ None → Finds {X = Patch} o operations (Ok patch) (patch_asked path)
-    → Finds {X = Kept} o patched_all (Ok all) (unread_asked (patched_all found) path (patch_at path (patched_all found)))
+    → Finds {X = Kept} o patched_all (Ok all)
+    (unread_asked (patched_all found) path (patch_at path (patched_all found)))
 file_read_now None found all path patch is none h = tt
 file_read_now (Some s) found all path patch is none h =
     subst (λ x. Finds {X = Kept} (Some s) patched_all (Ok all) (unread_asked (patched_all found) path x)) (sym none)
@@ -153,7 +157,8 @@ no_line (Some s) found line lines e h =
     first_refused patched_all patched_all e (line_asked (patched_all found) (file_of line) s) _ h
 
 -- that of the first line, and then the others
-pub line_found : (o : Option State) (found later : Kept) (line : ScriptLine) (lines : List ScriptLine) (r : Result Kept Outcome)
+pub line_found : (o : Option State) (found later : Kept) (line : ScriptLine) (lines : List ScriptLine)
+    (r : Result Kept Outcome)
     → Finds o patched_all (Ok later) (line_asked (patched_all found) (file_of line))
     → Finds o patched_all r (patches_asked (patched_all later) lines)
     → Finds o patched_all r (patches_asked (patched_all found) (line ∷ lines))
@@ -165,7 +170,8 @@ line_found (Some s) found later line lines r h rest =
 
 module _ (path : List ℕ) (budget : ℕ) where
   -- there is nothing to judge by
-  pub no_script_ctx : (o : Option State) (e : Outcome) → Finds {X = Ctx} o self (Err e) ctx_asked → Finds {X = code.Operating} o operating_of (Err e) (script_needs_asked path budget)
+  pub no_script_ctx : (o : Option State) (e : Outcome) → Finds {X = Ctx} o self (Err e) ctx_asked
+      → Finds {X = code.Operating} o operating_of (Err e) (script_needs_asked path budget)
   no_script_ctx None e h = tt
   no_script_ctx (Some s) e h = first_refused self operating_of e (ctx_asked s) _ h
 
@@ -185,7 +191,8 @@ module _ (path : List ℕ) (budget : ℕ) where
   no_script_lines None ctx start e h f g = tt
   no_script_lines (Some s) ctx start e h f g =
       then_found self operating_of ctx (Err e) (ctx_asked s) _ h
-      (then_found config_of operating_of start (Err e) (start_asked ctx s) _ f (first_refused self operating_of e (script_asked path s) _ g))
+      (then_found config_of operating_of start (Err e) (start_asked ctx s) _ f
+      (first_refused self operating_of e (script_asked path s) _ g))
 
   -- a patch can't be read
   pub no_script_patches : (o : Option State) (ctx : Ctx) (start : Stored) (lines : List ScriptLine) (e : Outcome)
@@ -197,7 +204,8 @@ module _ (path : List ℕ) (budget : ℕ) where
   no_script_patches (Some s) ctx start lines e h f g k =
       then_found self operating_of ctx (Err e) (ctx_asked s) _ h
       (then_found config_of operating_of start (Err e) (start_asked ctx s) _ f
-      (then_found self operating_of lines (Err e) (script_asked path s) _ g (first_refused patched_all operating_of e (patches_asked [] lines s) _ k)))
+      (then_found self operating_of lines (Err e) (script_asked path s) _ g
+      (first_refused patched_all operating_of e (patches_asked [] lines s) _ k)))
 
   abbrev with_budget : code.Operating → ℕ → request.Operating
   with_budget p n =
@@ -219,7 +227,8 @@ module _ (path : List ℕ) (budget : ℕ) where
 -- ---- a goal
 
 -- the patch fails, or leaves no configuration
-pub no_aim : (ctx : Ctx) (ops : List Operation) (now : Config) (e : Outcome) → Gives {X = Config} self refusal (Err e) (target ops now) → RefusesAlways e
+pub no_aim : (ctx : Ctx) (ops : List Operation) (now : Config) (e : Outcome)
+    → Gives {X = Config} self refusal (Err e) (target ops now) → RefusesAlways e
     → Found {X = Config} self (Err e) (aim_asked ctx ops now)
 no_aim ctx ops now e gives always =
     first_refused {X = Config} self self e (follows (target ops now)) _

@@ -43,7 +43,8 @@ module _ {A : Type 0} where
       → (i : ℕ) × (slice_get (map (λ p. p.0) ps) i ≡ Some u)
   key_at u [] some = absurd cc
   key_at u (p ∷ ps) some =
-      elim (eq_by_cmp name_cmp u p.0) as (λ b. eq_by_cmp name_cmp u p.0 ≡ b → IsSome (cond b (Some p.1) (find u ps)) → (i : ℕ) × (slice_get (map (λ q. q.0) (p ∷ ps)) i ≡ Some u)) [
+      elim (eq_by_cmp name_cmp u p.0) as (λ b. eq_by_cmp name_cmp u p.0 ≡ b → IsSome (cond b (Some p.1) (find u ps))
+      → (i : ℕ) × (slice_get (map (λ q. q.0) (p ∷ ps)) i ≡ Some u)) [
         | true ↦ λ e _. (zero, ap Some (sym (same_name u p.0 (equal_is _ e))))
         | false ↦ λ e there. let rest = key_at u ps there in (suc rest.0, rest.1)
       ] refl some
@@ -64,7 +65,8 @@ module _ {A : Type 0} where
   earlier (p ∷ ps) zero zero t u rising at has less =
       absurd (never_before t u (sym (same_Some _ _ at) ∙ same_Some _ _ has) less)
   earlier (p ∷ ps) zero (suc k) t u rising at has less =
-      absurd (not_turned t u (subst (λ n. name_cmp n u ≡ Less) (same_Some _ _ at) (above p.0 ps u k (and_parts _ _ rising).0 has)) less)
+      absurd (not_turned t u (subst (λ n. name_cmp n u ≡ Less) (same_Some _ _ at)
+      (above p.0 ps u k (and_parts _ _ rising).0 has)) less)
   earlier (p ∷ ps) (suc i) zero t u rising at has less = omega arith
   earlier (p ∷ ps) (suc i) (suc k) t u rising at has less =
       omega (arith, earlier ps i k t u (and_parts _ _ rising).1 at has less)

@@ -33,7 +33,8 @@ stands_through f (DiskFault step) first next h = h
 stands_through f other first next h = tt
 
 -- what is found of the first answer and then of what f makes of the second is found of both
-pub found_through : {X Y Z W : Type 0} (f : Y → Z) (view : W → Z) (r : Result W Outcome) (first : Asking X) (next : X → Asking Y)
+pub found_through : {X Y Z W : Type 0} (f : Y → Z) (view : W → Z) (r : Result W Outcome) (first : Asking X)
+    (next : X → Asking Y)
     → Found view r (first >>> λ x. through f (next x)) → Found view r (through f (first >>> next))
 found_through f view (Ok w) first next h = by h.gives
   where
@@ -76,14 +77,16 @@ no_stored (Some s) path e h =
     (record { gives = fails_before tree (refusal e) (stored_asked s) h.gives; stands = stored_stands s e h.stands }))
 
 -- what is found at the stored configuration
-behind_stored : {W : Type 0} (s : State) (start : Tree) (view : W → Document) (r : Result W Outcome) (next : Config → Asking Config)
+behind_stored : {W : Type 0} (s : State) (start : Tree) (view : W → Document) (r : Result W Outcome)
+    (next : Config → Asking Config)
     → Found document (Ok start) (stored_document s)
     → ((c : Config) → tree c ≡ document start → Found view r (through tree (next c)))
     → Found view r (through tree (stored_asked s >>> next))
 behind_stored s start view r next h then =
     let given = tree_given (stored_asked s) (document start) h.gives in
     found_through tree view r (stored_asked s) next
-    (then_found (λ c. c) view given.0 r (stored_asked s) _ (record { gives = given.1; stands = tt }) (then given.0 given.2))
+    (then_found (λ c. c) view given.0 r (stored_asked s) _ (record { gives = given.1; stands = tt })
+    (then given.0 given.2))
 
 -- nothing is found where there is no patch
 pub no_patch : (o : Option State) (path : List ℕ) (start : Tree) (e : Outcome)

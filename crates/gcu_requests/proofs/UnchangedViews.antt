@@ -62,7 +62,8 @@ module _ (scope : Scope) where
   -- a host tells the same where a view of it does
   pub told_behind : (o q : Option State) → IfSome o (λ s. s.pending ≡ settled) → is_some q ≡ is_some o
       → option_map (seen scope) q ≡ option_map (seen scope) o
-      → IfSome o (λ s. AreOthersSettled scope s → IfSome q (λ t. AreOthersSame scope s.files t.files × AreOthersSettled scope t))
+      → IfSome o (λ s. AreOthersSettled scope s
+      → IfSome q (λ t. AreOthersSame scope s.files t.files × AreOthersSettled scope t))
       → q ≡ o
   told_behind None None clean tells shown keeps = refl
   told_behind None (Some t) clean tells shown keeps = absurd cc
@@ -91,8 +92,10 @@ module _ (scope : Scope) where
   pub stays_behind : (o : Option State) (Before After : Left → Type 0)
       → IfSome o (λ s. s.pending ≡ settled)
       → ((left : Left) → Before left → MayLeaveNow o left)
-      → ((left : Left) → IsSeen scope After left → IsSeen scope Before left ⊎ MayLeaveNow (option_map (seen scope) o) left)
-      → IfSome o (λ s. AreOthersSettled scope s → (left : Left) → After left → Before left ⊎ AreOthersSame scope s.files left.files)
+      → ((left : Left) → IsSeen scope After left → IsSeen scope Before left ⊎ MayLeaveNow (option_map (seen scope) o)
+      left)
+      → IfSome o (λ s. AreOthersSettled scope s → (left : Left) → After left → Before left
+      ⊎ AreOthersSame scope s.files left.files)
       → (left : Left) → After left → MayLeaveNow o left
   stays_behind None Before After clean now view keeps left after = tt
   stays_behind (Some s) Before After clean now view keeps left after =
@@ -106,7 +109,8 @@ module _ (scope : Scope) where
       within : AreOthersSame scope s.files left.files → MayLeave (seen scope s) (seen_left scope left) → MayLeave s left
       within others may =
           let image = subst
-          (λ p. Image (seen_pending scope p s.files) (seen_files scope s.files) (seen_files scope left.files)) clean may.files in
+          (λ p. Image (seen_pending scope p s.files) (seen_files scope s.files) (seen_files scope left.files)) clean
+          may.files in
           record {
             files = subst (λ p. Image p s.files left.files) (sym clean) (files_behind s.files left.files image others);
             output = may.output;

@@ -20,7 +20,8 @@ abbrev pub check_of : {X : Type 0} → X → request.Request
 check_of x = request.check
 
 -- there are no models
-pub no_models : (o : Option State) (e : Outcome) → Finds {X = ModelSet} o self (Err e) models_asked → Finds {X = Config} o check_of (Err e) judging_asked
+pub no_models : (o : Option State) (e : Outcome) → Finds {X = ModelSet} o self (Err e) models_asked
+    → Finds {X = Config} o check_of (Err e) judging_asked
 no_models None e h = tt
 no_models (Some s) e h = first_refused self check_of e (models_asked s) _ h
 
@@ -39,4 +40,5 @@ pub judged : (o : Option State) (models : ModelSet) (config : Config) (r : Resul
 judged None models config r h f told always = tt
 judged (Some s) models config r h f told always =
     then_found self check_of models r (models_asked s) _ h
-    (then_found self check_of config r (stored_asked s) _ f (found_told check_of r (IsJudged models config) told always))
+    (then_found self check_of config r (stored_asked s) _ f (found_told check_of r (IsJudged models config) told
+    always))

@@ -90,7 +90,8 @@ module _ {H : Type 0} (told : H → Option State) (moment : H → ℕ) (left_sin
     stays = λ t le now left since.
         subst (λ (o : Option State). MayLeaveNow o left) first.tells
         (second.stays t (omega (arith, le, first.later))
-        (λ l before. subst (λ (o : Option State). MayLeaveNow o l) (sym first.tells) (first.stays t le now l before)) left since);
+        (λ l before. subst (λ (o : Option State). MayLeaveNow o l) (sym first.tells) (first.stays t le now l before))
+        left since);
   }
 
   -- a run in which the whole host tells the same is one

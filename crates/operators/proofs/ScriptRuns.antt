@@ -30,7 +30,8 @@ use Rattle.operators.specs.Runs.{AreTold, IsAim, IsAimOf, IsOperated, IsPlanned,
 -- ---- aims
 
 -- what refuses always is refused by its answer
-refused_as : (e : Outcome) (asking : Asking Config) → RefusesAlways e → ¬ (e ≡ Memory) → FailsIn (refusal e) asking → asking.Gives (Err e)
+refused_as : (e : Outcome) (asking : Asking Config) → RefusesAlways e → ¬ (e ≡ Memory) → FailsIn (refusal e) asking
+    → asking.Gives (Err e)
 refused_as Done asking never other h = absurd never
 refused_as Memory asking always other h = absurd (other refl)
 refused_as Usage asking never other h = absurd never
@@ -44,30 +45,38 @@ refused_as e asking always other h = h
 
 module _ (budget : ℕ) (ctx : Ctx) (ops : List Operation) (now : Config) where
   -- the patch is refused
-  pub refusal_aim : (e : Outcome) (a : Aim) → Found {X = Config} (λ c. c) (Err e) (aim_asked ctx ops now) → RefusesAlways e → ¬ (e ≡ Memory) → a ≡ Refusal (number e)
+  pub refusal_aim : (e : Outcome) (a : Aim) → Found {X = Config} (λ c. c) (Err e) (aim_asked ctx ops now)
+      → RefusesAlways e → ¬ (e ≡ Memory) → a ≡ Refusal (number e)
       → IsAim budget ctx ops now a
-  refusal_aim e a h always other is = subst (IsAim budget ctx ops now) (sym is) (inl (e, refused_as e (aim_asked ctx ops now) always other h.gives, refl))
+  refusal_aim e a h always other is =
+      subst (IsAim budget ctx ops now) (sym is) (inl (e, refused_as e (aim_asked ctx ops now) always other h.gives, refl))
 
-  pub refused_aims : {E X : Type 0} (view : X → Aim) (e : Outcome) (r : Result X E) → Found {X = Config} (λ c. c) (Err e) (aim_asked ctx ops now) → RefusesAlways e
-      → IfOk r (λ a. ¬ (e ≡ Memory)) → IfOk r (λ a. view a ≡ Refusal (number e)) → IfOk r (λ a. IsAim budget ctx ops now (view a))
+  pub refused_aims : {E X : Type 0} (view : X → Aim) (e : Outcome) (r : Result X E)
+      → Found {X = Config} (λ c. c) (Err e) (aim_asked ctx ops now) → RefusesAlways e
+      → IfOk r (λ a. ¬ (e ≡ Memory)) → IfOk r (λ a. view a ≡ Refusal (number e))
+      → IfOk r (λ a. IsAim budget ctx ops now (view a))
   refused_aims view e (Ok a) h always other is = refusal_aim e (view a) h always other is
   refused_aims view e (Err x) h always other is = tt
 
   -- there is a goal
-  pub goal_aim : {E X : Type 0} (goal : Config) (view : X → Aim) (r : Result X E) → Found (λ (c : Config). c) (Ok goal) (aim_asked ctx ops now)
+  pub goal_aim : {E X : Type 0} (goal : Config) (view : X → Aim) (r : Result X E)
+      → Found (λ (c : Config). c) (Ok goal) (aim_asked ctx ops now)
       → IfOk r (λ a. IsPlanned budget ctx now goal (view a)) → IfOk r (λ a. IsAim budget ctx ops now (view a))
   goal_aim goal view r h planned = IfOk-weaker r _ _ (λ a is. inr (goal, h.gives, is)) planned
 
 module _ (patches : List Patched) (budget : ℕ) (ctx : Ctx) (file : List ℕ) (now : Config) where
   -- what the patch in a file aims at
-  pub file_aim : {E X : Type 0} (ops : List Operation) (view : X → Aim) (r : Result X E) → Some ops ≡ patch_at file patches
+  pub file_aim : {E X : Type 0} (ops : List Operation) (view : X → Aim) (r : Result X E)
+      → Some ops ≡ patch_at file patches
       → IfOk r (λ a. IsAim budget ctx ops now (view a)) → IfOk r (λ a. IsAimOf patches budget ctx file now (view a))
   file_aim ops view r found is = IfOk-weaker r _ _ (λ a h. (ops, sym found, h)) is
 
   -- its plan leads to its goal
-  pub plan_of : (goal : Config) (ms : List Move) → IsAimOf patches budget ctx file now (Towards goal ms) → IsPlan (rulebook ctx) now goal ms
+  pub plan_of : (goal : Config) (ms : List Move) → IsAimOf patches budget ctx file now (Towards goal ms)
+      → IsPlan (rulebook ctx) now goal ms
   plan_of goal ms (ops, found, inl never) = absurd never
-  plan_of goal ms (ops, found, inr (at, given, planned)) = subst (λ g. IsPlan (rulebook ctx) now g ms) (sym planned.0) planned.1.0
+  plan_of goal ms (ops, found, inr (at, given, planned)) =
+      subst (λ g. IsPlan (rulebook ctx) now g ms) (sym planned.0) planned.1.0
 
 -- ---- turns
 
@@ -81,18 +90,24 @@ none_some None none some = cc
 none_some (Some a) none some = cc
 
 module _ (patches : List Patched) (budget : ℕ) (w : WorldState) (name file : List ℕ) where
-  pub exists_told : IsSome (session_of name w) → IsTurn w (turns.Begin name (Refusal 0)) Exists w → IsTurnOf patches budget w (Begin name file) Exists w
+  pub exists_told : IsSome (session_of name w) → IsTurn w (turns.Begin name (Refusal 0)) Exists w
+      → IsTurnOf patches budget w (Begin name file) Exists w
   exists_told there turn = (Refusal 0, (λ none. absurd (none_some (session_of name w) none there)), turn)
 
-  pub unknown_told : IsNone (session_of name w) → IsTurn w (turns.Retarget name (Refusal 0)) Unknown w → IsTurnOf patches budget w (Retarget name file) Unknown w
+  pub unknown_told : IsNone (session_of name w) → IsTurn w (turns.Retarget name (Refusal 0)) Unknown w
+      → IsTurnOf patches budget w (Retarget name file) Unknown w
   unknown_told none turn = (Refusal 0, (λ there. absurd (none_some (session_of name w) none there)), turn)
 
-  pub begin_told : {E : Type 0} (aim : Aim) (r : Result Reply E) (after : WorldState) → IsAimOf patches budget w.ctx file w.config aim
-      → IfOk r (λ reply. IsTurn w (turns.Begin name aim) reply after) → IfOk r (λ reply. IsTurnOf patches budget w (Begin name file) reply after)
+  pub begin_told : {E : Type 0} (aim : Aim) (r : Result Reply E) (after : WorldState)
+      → IsAimOf patches budget w.ctx file w.config aim
+      → IfOk r (λ reply. IsTurn w (turns.Begin name aim) reply after)
+      → IfOk r (λ reply. IsTurnOf patches budget w (Begin name file) reply after)
   begin_told aim r after is turn = IfOk-weaker r _ _ (λ reply t. (aim, (λ none. is), t)) turn
 
-  pub retarget_told : {E : Type 0} (aim : Aim) (r : Result Reply E) (after : WorldState) → IsAimOf patches budget w.ctx file w.config aim
-      → IfOk r (λ reply. IsTurn w (turns.Retarget name aim) reply after) → IfOk r (λ reply. IsTurnOf patches budget w (Retarget name file) reply after)
+  pub retarget_told : {E : Type 0} (aim : Aim) (r : Result Reply E) (after : WorldState)
+      → IsAimOf patches budget w.ctx file w.config aim
+      → IfOk r (λ reply. IsTurn w (turns.Retarget name aim) reply after)
+      → IfOk r (λ reply. IsTurnOf patches budget w (Retarget name file) reply after)
   retarget_told aim r after is turn = IfOk-weaker r _ _ (λ reply t. (aim, (λ there. is), t)) turn
 
 -- ---- lines
@@ -101,30 +116,38 @@ module _ (patches : List Patched) (budget : ℕ) where
   pub told_none : (w : WorldState) (text : List ℕ) → AreTold patches budget [] w text w text
   told_none w text = ([], refl, sym (append-nil text))
 
-  pub told_more : (line : ScriptLine) (lines : List ScriptLine) (reply : Reply) (w next after : WorldState) (before told text : List ℕ)
-      → IsTurnOf patches budget w line reply next → told ≡ before ++ reply_line (name_of line) reply → AreTold patches budget lines next told after text
+  pub told_more : (line : ScriptLine) (lines : List ScriptLine) (reply : Reply) (w next after : WorldState)
+      (before told text : List ℕ)
+      → IsTurnOf patches budget w line reply next → told ≡ before ++ reply_line (name_of line) reply
+      → AreTold patches budget lines next told after text
       → AreTold patches budget (line ∷ lines) w before after text
   told_more line lines reply w next after before told text turn is (replies, run, same) = (
     reply ∷ replies,
     (next, turn, run),
-    same ∙ ap (λ t. t ++ reply_lines lines replies) is ∙ append_assoc before (reply_line (name_of line) reply) (reply_lines lines replies),
+    same ∙ ap (λ t. t ++ reply_lines lines replies) is ∙ append_assoc before (reply_line (name_of line) reply)
+        (reply_lines lines replies),
   )
 
-  pub told_on : {E X : Type 0} (r : Result X E) (line : ScriptLine) (lines : List ScriptLine) (reply : Reply) (w next after : WorldState) (before told text : List ℕ)
-      → IsTurnOf patches budget w line reply next → told ≡ before ++ reply_line (name_of line) reply → OnOk r (AreTold patches budget lines next told after text)
+  pub told_on : {E X : Type 0} (r : Result X E) (line : ScriptLine) (lines : List ScriptLine) (reply : Reply)
+      (w next after : WorldState) (before told text : List ℕ)
+      → IsTurnOf patches budget w line reply next → told ≡ before ++ reply_line (name_of line) reply
+      → OnOk r (AreTold patches budget lines next told after text)
       → OnOk r (AreTold patches budget (line ∷ lines) w before after text)
-  told_on (Ok x) line lines reply w next after before told text turn is more = told_more line lines reply w next after before told text turn is more
+  told_on (Ok x) line lines reply w next after before told text turn is more =
+      told_more line lines reply w next after before told text turn is more
   told_on (Err e) line lines reply w next after before told text turn is more = tt
 
   -- ---- as a run of the world
 
-  pub turn_is : (w after : WorldState) (line : ScriptLine) (reply : Reply) → IsTurnOf patches budget w line reply after → (event : Event) × IsTurn w event reply after
+  pub turn_is : (w after : WorldState) (line : ScriptLine) (reply : Reply) → IsTurnOf patches budget w line reply after
+      → (event : Event) × IsTurn w event reply after
   turn_is w after (Begin name file) reply t = (turns.Begin name t.0, t.2)
   turn_is w after (Step name) reply t = (turns.Step name, t)
   turn_is w after (Retarget name file) reply t = (turns.Retarget name t.0, t.2)
   turn_is w after (End name) reply t = (turns.End name, t)
 
-  pub run_is : (w after : WorldState) (lines : List ScriptLine) (replies : List Reply) → IsRunOf patches budget w lines replies after
+  pub run_is : (w after : WorldState) (lines : List ScriptLine) (replies : List Reply)
+      → IsRunOf patches budget w lines replies after
       → (ts : List Turn) × IsRun w ts after × (map (λ t. t.1) ts ≡ replies)
   run_is w after [] [] is = ([], is, refl)
   run_is w after [] (reply ∷ replies) never = absurd never
@@ -136,7 +159,8 @@ module _ (patches : List Patched) (budget : ℕ) where
 
 -- ---- the whole
 
-pub operated_is : (p : Operating) (w after : WorldState) (told text : List ℕ) (count : ℕ) → w ≡ opened p.ctx p.start → AreTold p.patches p.budget p.lines w [] after told
+pub operated_is : (p : Operating) (w after : WorldState) (told text : List ℕ) (count : ℕ)
+    → w ≡ opened p.ctx p.start → AreTold p.patches p.budget p.lines w [] after told
     → text ≡ told ++ commits_line count → count ≡ length after.commits → IsOperated p text after
 operated_is p w after told text count opening (replies, run, same) is counted = (
   replies,

@@ -51,7 +51,8 @@ module _ (path : List ℕ) (budget : ℕ) where
       (operating_asked path budget s) _ f in
       let told : Found telling (Err e) (plan_asked (run_script path) budget s) = first_refused run_of telling e
       (work_asked (run_script path) budget s) _ work in
-      let named : Found {X = Unit {0}} (λ u. run_script path) (Ok tt) (follows (task_answer (run_script path))) = record { gives = refl; stands = tt } in
+      let named : Found {X = Unit {0}} (λ u. run_script path) (Ok tt)
+      (follows (task_answer (run_script path))) = record { gives = refl; stands = tt } in
       let refused : Found telling (Err e) (asking s) = then_found {X = Unit {0}} (λ u. run_script path) telling tt
       (Err e) (follows (task_answer (run_script path))) _ named told in
       refused_says (asking s) s e old new h refused.stands refused.gives

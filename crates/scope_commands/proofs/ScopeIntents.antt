@@ -41,9 +41,11 @@ module _ (ctx : Ctx) (budget : ℕ) (s : State) where
   part_open part p (inl never) = absurd never
   part_open part p (inr (q, inl never, same)) = absurd never
   part_open part p (inr (q, inr (u, closed, rest), same)) =
-      subst (IsOpen s) (ap (λ (r : Result ScopePlanning Outcome). (planning_in r p).0) same) (given_open (seen part.0 s) closed)
+      subst (IsOpen s) (ap (λ (r : Result ScopePlanning Outcome). (planning_in r p).0) same)
+      (given_open (seen part.0 s) closed)
 
-  each_open : (parts : List Part) (ps : List ScopePlanning) → (of_each (part_asked ctx budget s) parts).Gives (Ok ps) → AllByRecursion (λ (p : ScopePlanning). IsOpen s p.0) ps
+  each_open : (parts : List Part) (ps : List ScopePlanning) → (of_each (part_asked ctx budget s) parts).Gives (Ok ps)
+      → AllByRecursion (λ (p : ScopePlanning). IsOpen s p.0) ps
   each_open [] [] gives = tt
   each_open [] (p ∷ ps) gives = absurd cc
   each_open (part ∷ parts) ps (inl never) = absurd never
@@ -56,23 +58,29 @@ module _ (ctx : Ctx) (budget : ℕ) (s : State) where
         subst (AllByRecursion (λ (q : ScopePlanning). IsOpen s q.0)) others (each_open parts ys rest),
       )
 
-scopes_open : (path : List ℕ) (budget : ℕ) (s : State) (ps : List ScopePlanning) → (scopes_asked path budget s).Gives (Ok ps) → AllByRecursion (λ (p : ScopePlanning). IsOpen s p.0) ps
+scopes_open : (path : List ℕ) (budget : ℕ) (s : State) (ps : List ScopePlanning)
+    → (scopes_asked path budget s).Gives (Ok ps) → AllByRecursion (λ (p : ScopePlanning). IsOpen s p.0) ps
 scopes_open path budget s ps (inl never) = absurd never
 scopes_open path budget s ps (inr (u, closed, inl never)) = absurd never
 scopes_open path budget s ps (inr (u, closed, inr (ctx, read, inl never))) = absurd never
 scopes_open path budget s ps (inr (u, closed, inr (ctx, read, inr (ops, found, inl never)))) = absurd never
-scopes_open path budget s ps (inr (u, closed, inr (ctx, read, inr (ops, found, inr (parts, split, each))))) = each_open ctx budget s parts ps each
+scopes_open path budget s ps (inr (u, closed, inr (ctx, read, inr (ops, found, inr (parts, split, each))))) =
+    each_open ctx budget s parts ps each
 
-works_open : (s : State) (ps : List ScopePlanning) (works : List ScopeWork) → AreWorksFor s ps works → AllByRecursion (λ (p : ScopePlanning). IsOpen s p.0) ps → AreClosed works s.files
+works_open : (s : State) (ps : List ScopePlanning) (works : List ScopeWork) → AreWorksFor s ps works
+    → AllByRecursion (λ (p : ScopePlanning). IsOpen s p.0) ps → AreClosed works s.files
 works_open s [] [] each closed = tt
 works_open s [] (w ∷ works) never closed = absurd never
 works_open s (p ∷ ps) [] never closed = absurd never
-works_open s (p ∷ ps) (w ∷ works) each closed = (subst (IsOpen s) (sym each.0.scope) closed.0, works_open s ps works each.1 closed.1)
+works_open s (p ∷ ps) (w ∷ works) each closed =
+    (subst (IsOpen s) (sym each.0.scope) closed.0, works_open s ps works each.1 closed.1)
 
 -- so the changes are begun without one
-pub are_closed : (path : List ℕ) (budget : ℕ) (o q : Option State) (works : List ScopeWork) → q ≡ o → IfSome o (λ s. AreWorks path budget s works)
+pub are_closed : (path : List ℕ) (budget : ℕ) (o q : Option State) (works : List ScopeWork) → q ≡ o
+    → IfSome o (λ s. AreWorks path budget s works)
     → IfSome q (λ s. AreClosed works s.files)
-are_closed path budget o q works same are = by q (subst (λ p. IfSome p (λ s. AreWorks path budget s works)) (sym same) are)
+are_closed path budget o q works same are =
+    by q (subst (λ p. IfSome p (λ s. AreWorks path budget s works)) (sym same) are)
   where
     by : (p : Option State) → IfSome p (λ s. AreWorks path budget s works) → IfSome p (λ s. AreClosed works s.files)
     by None h = tt

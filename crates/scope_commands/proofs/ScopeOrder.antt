@@ -29,7 +29,8 @@ behind_host a (suc n) = (tt, behind_host (a + 1) n)
 
 asics_in_order : (a n : ℕ) → a + n ≤ most_asics → InOrder (map Asic (range_with_len a n))
 asics_in_order a zero few = tt
-asics_in_order a (suc n) few = (omega (arith, few), behind a (a + 1) n (omega arith), asics_in_order (a + 1) n (omega (arith, few)))
+asics_in_order a (suc n) few =
+    (omega (arith, few), behind a (a + 1) n (omega arith), asics_in_order (a + 1) n (omega (arith, few)))
 
 all_in_order : InOrder all_scopes
 unfolding all_scopes
@@ -60,9 +61,12 @@ works_scopes : (settings : Settings) (es : List ScopeEnds) (ps : List code.Scope
     → map (λ (w : ScopeWork). w.scope) (works_by settings es ps) ≡ map (λ (e : ScopeEnds). e.scope) es
 works_scopes settings [] ps long = refl
 works_scopes settings (e ∷ es) [] long = absurd cc
-works_scopes settings (e ∷ es) (p ∷ ps) long = ap (λ (l : List Scope). e.scope ∷ l) (works_scopes settings es ps (omega (arith, long)))
+works_scopes settings (e ∷ es) (p ∷ ps) long =
+    ap (λ (l : List Scope). e.scope ∷ l) (works_scopes settings es ps (omega (arith, long)))
 
-precedes_each : (x : Scope) (works : List ScopeWork) → AllByRecursion (Precedes x) (map (λ (w : ScopeWork). w.scope) works) → AllByRecursion (λ (v : ScopeWork). Precedes x v.scope) works
+precedes_each : (x : Scope) (works : List ScopeWork)
+    → AllByRecursion (Precedes x) (map (λ (w : ScopeWork). w.scope) works)
+    → AllByRecursion (λ (v : ScopeWork). Precedes x v.scope) works
 precedes_each x [] all = tt
 precedes_each x (w ∷ works) all = (all.0, precedes_each x works all.1)
 
@@ -71,7 +75,8 @@ works_order [] order = tt
 works_order (w ∷ works) order = (order.0, precedes_each w.scope works order.1, works_order works order.2)
 
 -- the changes of what is read are in order
-pub in_order : (settings : Settings) (es : List ScopeEnds) (ps : List code.ScopePlan) (works : List ScopeWork) → read.AreInOrder es → length es ≡ length ps
+pub in_order : (settings : Settings) (es : List ScopeEnds) (ps : List code.ScopePlan) (works : List ScopeWork)
+    → read.AreInOrder es → length es ≡ length ps
     → works ≡ works_by settings es ps → AreInOrder works
 in_order settings es ps works (ops, are) long is =
     works_order works

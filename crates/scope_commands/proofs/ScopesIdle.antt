@@ -1,4 +1,5 @@
--- A change of several scopes that is refused, or has nothing to do, leaves each file as before, also after a crash at any moment.
+-- A change of several scopes that is refused, or has nothing to do, leaves each file as before, also after a
+-- crash at any moment.
 use Rattle.std.proofs.Common.{◌≡◌, ◌<◌, ◌⊎◌, inl, inr, ℕ, Bool, true, false, List, [], ◌∷◌, ◌++◌, length, map, refl, sym, ap, subst, arith, Option, Some, None, Ok, Err, IfSome, option_map}
 use Rattle.std.specs.Cmp.Lexicographic.{nat_list_cmp_total}
 use Rattle.std.specs.FinMap as finmap
@@ -145,7 +146,8 @@ state_before : (P : State → Type 0) (o q : Option State) → q ≡ option_map 
 state_before P None q is h = tt
 state_before P (Some s) q is h = subst (λ (p : Option State). IfSome p P) is h
 
-module _ {H : Type 0} (told : H → Option State) (counts : H → Counts) (moment : H → ℕ) (left_since : H → ℕ → Left → Type 0)
+module _ {H : Type 0} (told : H → Option State) (counts : H → Counts) (moment : H → ℕ)
+    (left_since : H → ℕ → Left → Type 0)
     (one : PlansOfScopesAreOne) (change : ScopesForm) (old between new : H) (e : Outcome)
     (settles : told between ≡ option_map (with_pending settled) (told old)) where
   does_keep : (b : Bool) → PrintsOrDoes told counts moment left_since b change between new e

@@ -26,7 +26,8 @@ same_now (Some s) q left is clean may =
     subst (λ (p : Option State). MayLeaveNow p left) (sym is) same
 
 -- so all holds from the beginning on
-pub still_before : {H : Type 0} (told : H → Option State) (moment : H → ℕ) (left_since : H → ℕ → Left → Type 0) (old between : H)
+pub still_before : {H : Type 0} (told : H → Option State) (moment : H → ℕ) (left_since : H → ℕ → Left → Type 0)
+    (old between : H)
     → ((left : Left) → left_since old (moment old) left → MayLeaveNow (told old) left)
     → told between ≡ option_map (with_pending settled) (told old)
     → Elapses moment left_since old between (MayLeaveNow (told between)) → IfSome (told old) (λ s. s.pending ≡ settled)

@@ -50,13 +50,15 @@ none_found (Some s) mid e is h =
     let gate : Found {X = Unit {0}} (λ u. u) (Err e) (interrupted s) = subst
     (λ m. Finds {X = Unit {0}} m (λ u. u) (Err e) interrupted) is h in
     behind_found s (Err e)
-    (first_refused {X = Unit {0}} (λ u. u) (λ (u : Unit {0}). request.abandon) e (interrupted s) (λ _. follows (Ok request.abandon)) gate)
+    (first_refused {X = Unit {0}} (λ u. u) (λ (u : Unit {0}). request.abandon) e (interrupted s)
+    (λ _. follows (Ok request.abandon)) gate)
 
 -- one was
 abandon_given : (s : State) → (interrupted s).Gives (Ok tt) → (abandon_asked s).Gives (Ok request.abandon)
 abandon_given s gate = inr (tt, refl, inr (tt, gate, refl))
 
-pub given : (o mid : Option State) (Nothing : Type 0) → mid ≡ option_map (with_pending settled) o → Finds {X = Unit {0}} mid (λ u. u) (Ok tt) interrupted
+pub given : (o mid : Option State) (Nothing : Type 0) → mid ≡ option_map (with_pending settled) o
+    → Finds {X = Unit {0}} mid (λ u. u) (Ok tt) interrupted
     → IfSome o (λ s. (abandon_asked s).Gives (Ok request.abandon) ⊎ Nothing)
 given None mid Nothing is h = tt
 given (Some s) mid Nothing is h =
@@ -95,7 +97,8 @@ stopped_some s (inr (None, is, passes)) = absurd cc
 stopped_some s (inr (Some bytes, is, passes)) =
     let same : get s.files intent_file ≡ Some bytes = cc in subst (λ (o : Option (List ℕ)). IsSome o) (sym same) refl
 
-pub may_remove : (o mid : Option State) → mid ≡ option_map (with_pending settled) o → Finds {X = Unit {0}} mid (λ u. u) (Ok tt) interrupted
+pub may_remove : (o mid : Option State) → mid ≡ option_map (with_pending settled) o
+    → Finds {X = Unit {0}} mid (λ u. u) (Ok tt) interrupted
     → IfSome mid (CanMove intent_file)
 may_remove None mid is h = subst (λ m. IfSome m (CanMove intent_file)) (sym is) tt
 may_remove (Some s) mid is h =

@@ -15,7 +15,8 @@ pub all_printed : (text : List ℕ) (c : Change) (o told after : Option State) (
     → told ≡ option_map (printed text) o → NoneFell old mid → EndsFrom c told after mid new result
     → EndsChange text c o after old new result
 all_printed text c o told after old mid new result is fell h =
-    inr (from_since c (option_map (printed text) o) after old mid new result fell (subst (λ t. EndsFrom c t after mid new result) is h))
+    inr (from_since c (option_map (printed text) o) after old mid new result fell
+    (subst (λ t. EndsFrom c t after mid new result) is h))
 
 module _ {H : Type 0} (moment : H → ℕ) (left_since : H → ℕ → Left → Type 0) where
   -- while it is printed
@@ -28,7 +29,17 @@ module _ {H : Type 0} (moment : H → ℕ) (left_since : H → ℕ → Left → 
       (runs.begins moment left_since old (LeftDoing text c s)
       (λ left since.
       let may = now left since in
-      inl ([], text, refl, record { files = may.files; output = may.output ∙ sym (append-nil s.output); restarts = may.restarts })))
+      inl (
+        [],
+        text,
+        refl,
+        record {
+          files = may.files;
+          output = may.output ∙ sym (append-nil s.output);
+          restarts =
+              may.restarts;
+        },
+      )))
       time
       (λ left h. inl h)
 

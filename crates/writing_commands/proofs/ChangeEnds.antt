@@ -69,7 +69,8 @@ disk_last ready bytes (Some began) told k h = (
 -- a fault of a service stopped it
 pub service_last : (ready : ReadyChange) → HasBytes ready → (o told : Option State) (k service : ℕ)
     → Stops ready.ready (Service k service) o told
-    → IsLastIn ready.ready o told (ServiceFault k service) (unwrap_or (found service (service_lines_at ready.lines.services k)) [])
+    → IsLastIn ready.ready o told (ServiceFault k service)
+    (unwrap_or (found service (service_lines_at ready.lines.services k)) [])
 service_last ready bytes None told k service h = h
 service_last ready bytes (Some began) told k service h = (
   h.0,
@@ -86,7 +87,8 @@ service_last ready bytes (Some began) told k service h = (
 -- ---- its end
 
 -- the last line is printed, or a front of it
-pub ends_work : (c : Change) (o told after : Option State) (old mid new : Counts) (answer result : Outcome) (text : List ℕ) (step : ℕ) → step ≡ acknowledged c answer
+pub ends_work : (c : Change) (o told after : Option State) (old mid new : Counts) (answer result : Outcome)
+    (text : List ℕ) (step : ℕ) → step ≡ acknowledged c answer
     → IsLastIn c o told answer text → HasCause old new answer → IsEnded answer text step told after mid new result
     → EndsWork c o after old new result
 ends_work c None told after old mid new answer result text step are last cause (inl whole) =
@@ -94,7 +96,13 @@ ends_work c None told after old mid new answer result text step are last cause (
 ends_work c None told after old mid new answer result text step are last cause (inr part) =
     part.1.3 ∙ ap (option_map (printed part.1.0)) last
 ends_work c (Some began) told after old mid new answer result text step are last cause (inl whole) =
-    inl (last.0, text, subst (λ (a : Outcome). IsLast c began last.0 a text) (sym whole.0) last.2, whole.1 ∙ ap (option_map (printed text)) last.1)
+    inl (
+      last.0,
+      text,
+      subst (λ (a : Outcome). IsLast c began last.0 a text) (sym whole.0) last.2,
+      whole.1 ∙
+          ap (option_map (printed text)) last.1,
+    )
 ends_work c (Some began) told after old mid new answer result text step are last cause (inr part) =
     inr (inl (
       last.0,

@@ -89,16 +89,19 @@ planning_settled : (from : Target) (budget : ℕ) (s : State)
     → planning_asked from budget (with_pending settled s) ≡ planning_asked from budget s
 planning_settled from budget s = λ i.
     gate_settled from s i >>> λ _.
-    (models_settled s i >>> λ models. settings_asked s >>> λ settings. follows (Ok (record { models = models; settings = settings }))) >>> λ ctx.
+    (models_settled s i >>> λ models. settings_asked s
+    >>> λ settings. follows (Ok (record { models = models; settings = settings }))) >>> λ ctx.
     start_asked ctx s >>> λ start.
-    (made_settled from start s i >>> λ goal. follows_by (IsElsewhereAs ctx start goal) >>> λ _. follows_by (HasKeys ctx goal) >>> λ _. follows_by (IsValidOr TargetInvalid ctx goal)) >>> λ goal.
+    (made_settled from start s i >>> λ goal. follows_by (IsElsewhereAs ctx start goal)
+    >>> λ _. follows_by (HasKeys ctx goal) >>> λ _. follows_by (IsValidOr TargetInvalid ctx goal)) >>> λ goal.
     follows (Ok (record { ctx = ctx; start = start; goal = goal; budget = budget }))
 
 operating_settled : (path : List ℕ) (budget : ℕ) (s : State)
     → operating_asked path budget (with_pending settled s) ≡ operating_asked path budget s
 operating_settled path budget s = λ i.
     uninterrupted s >>> λ _.
-    (models_settled s i >>> λ models. settings_asked s >>> λ settings. follows (Ok (record { models = models; settings = settings }))) >>> λ ctx.
+    (models_settled s i >>> λ models. settings_asked s
+    >>> λ settings. follows (Ok (record { models = models; settings = settings }))) >>> λ ctx.
     start_asked ctx s >>> λ start.
     script_asked path s >>> λ lines.
     patches_settled [] lines s i >>> λ patches.
@@ -167,8 +170,13 @@ pub change_for : (asking : Asking Work) (s : State) (p : code.Planning) (ms : Li
     → IsReadyIn asking s ready
 change_for asking s p ms ready given plan stands is text closes =
     let fits : IsChangeFor (planned (planning_of p)) s (change_by p.ctx.settings p.stored ms) ready.text.items =
-    record { stands = stands; start = refl; work = (plan, text); restarts = refl } in
-    (planned (planning_of p), given, subst (λ (c : Change). IsChangeFor (planned (planning_of p)) s c ready.text.items) (sym is) fits, closes)
+    record { stands = stands; start = refl; work = (plan, text); restarts = refl } in (
+      planned (planning_of p),
+      given,
+      subst (λ (c : Change). IsChangeFor (planned (planning_of p)) s c ready.text.items)
+          (sym is) fits,
+      closes,
+    )
 
 -- or that of the commits
 pub commits_for : (asking : Asking Work) (s : State) (p : runs.Operating) (ready : ReadyChange)
@@ -228,15 +236,27 @@ module _ (asking : Asking Request) (s : State) (w : Work) (c : Change) (told : L
         → Says asking s now answer text
     last_says now Done text h = (change w, given, (c, told, is, began, begins, h.0, h.2), h.1)
     last_says now (DiskFault k) text h = (reads, inr (change w, given, (c, told, is, began, begins, h.0)), h.1)
-    last_says now (ServiceFault k service) text h =
-        (w, given, (c, told, is, began, begins, h.0), h.1 ∙ ap (λ (n : List ℕ). service_line k service n) (name_is w s c told is k service began now h.0))
+    last_says now (ServiceFault k service) text h = (
+      w,
+      given,
+      (c, told, is, began, begins, h.0),
+      h.1 ∙ ap (λ (n : List ℕ). service_line k service n)
+          (name_is w s c told is k service began now h.0),
+    )
     last_says now other text never = absurd never
 
     -- so many acknowledgements stand behind what is printed before
     counted : (now : State) (answer : Outcome) (text : List ℕ) → IsLast c began now answer text
         → AreAcknowledged (acknowledged c answer) s now
     counted now answer text h =
-        inr (w, c.moves, told, is.work, last_output c began now answer text h ∙ ap (λ (o : List ℕ). o ++ acks (acknowledged c answer)) (begun_output c (begun told s) began begins))
+        inr (
+          w,
+          c.moves,
+          told,
+          is.work,
+          last_output c began now answer text h
+              ∙ ap (λ (o : List ℕ). o ++ acks (acknowledged c answer)) (begun_output c (begun told s) began begins),
+        )
 
   module _ (old new : Counts) (after : Option State) (result : Outcome) where
     module _ (began : State) (begins : IsBegun c (begun told s) began) where
@@ -246,19 +266,34 @@ module _ (asking : Asking Request) (s : State) (w : Work) (c : Change) (told : L
 
       cut_leaves : IsCutInLast c began after old new result → Leaves asking s after old new result
       cut_leaves h =
-          let says = last_says began begins h.0 h.1 (h.2 ++ h.3) h.4 in
-          (h.0, h.2, h.7, subst (λ x. Prints asking s h.0 old new x h.2) (sym h.6) (inl (inl (counted began begins h.0 h.1 (h.2 ++ h.3) h.4), (h.1, h.3, h.5, says))))
+          let says = last_says began begins h.0 h.1 (h.2 ++ h.3) h.4 in (
+            h.0,
+            h.2,
+            h.7,
+            subst (λ x. Prints asking s h.0 old new x h.2) (sym h.6)
+                (inl (inl (counted began begins h.0 h.1 (h.2 ++ h.3) h.4), (h.1, h.3, h.5, says))),
+          )
 
       step_leaves : IsCutInStep c began after result → Leaves asking s after old new result
       step_leaves h =
           let all : Some h.0 ≡ Some (printed [] h.0) = ap (λ (o : List ℕ). Some (record h.0 { output = o }))
-          (sym (append-nil h.0.output)) in
-          (h.0, [], h.4 ∙ all, subst (λ x. Prints asking s h.0 old new x []) (sym h.3) (inr (inl (w, given, inr ((c, told, is, began, begins, h.2), refl)))))
+          (sym (append-nil h.0.output)) in (
+            h.0,
+            [],
+            h.4 ∙ all,
+            subst (λ x. Prints asking s h.0 old new x []) (sym h.3)
+                (inr (inl (w, given, inr ((c, told, is, began, begins, h.2), refl)))),
+          )
 
     work_front : result ≡ PrintFault 0 → PrintsPart told (Some (with_pending settled s)) after
         → Leaves asking s after old new result
-    work_front fault h =
-        (with_pending settled s, h.0, h.3, subst (λ x. Prints asking s (with_pending settled s) old new x h.0) (sym fault) (inr (inl (w, given, inl (refl, (c, told, h.1, is, h.2, refl))))))
+    work_front fault h = (
+      with_pending settled s,
+      h.0,
+      h.3,
+      subst (λ x. Prints asking s (with_pending settled s) old new x h.0)
+          (sym fault) (inr (inl (w, given, inl (refl, (c, told, h.1, is, h.2, refl))))),
+    )
 
     work_leaves : EndsFrom c (Some (begun told s)) after old new result → Leaves asking s after old new result
     work_leaves (began, begins, inl h) = told_leaves began begins h
@@ -305,7 +340,8 @@ untold told c after old new result (inl h) = h.1.3
 untold told c after old new result (inr h) = h
 
 -- what is done of a change that is ready is answered
-pub change_answers : (task : Task) (budget : ℕ) (o told after : Option State) (ready : ReadyChange) (old mid new : Counts) (result : Outcome)
+pub change_answers : (task : Task) (budget : ℕ) (o told after : Option State) (ready : ReadyChange)
+    (old mid new : Counts) (result : Outcome)
     → IfSome o (λ s. IsReadyIn (work_asked task budget s) s ready) → told ≡ option_map (with_pending settled) o
     → EndsChange ready.text.items ready.ready told after mid new result → NoneFell old mid
     → AnswersTo (settled_asked task budget) o after old new result
@@ -332,7 +368,8 @@ part_left s part left may = record {
 -- what changes no other file changes no checkpoint
 abbrev pub KeepsPoints : Type 0
 KeepsPoints =
-    (before after : Files) → ((name : List ℕ) → IsOther name → name ≢ intent_file → get after name ≡ get before name) → points after ≡ points before
+    (before after : Files) → ((name : List ℕ) → IsOther name → name ≢ intent_file → get after name ≡ get before name)
+    → points after ≡ points before
 
 kept_points : (told : List ℕ) (c : Change) (s : State) (left : Left) → KeepsPoints → LeftChanged c (begun told s) left
     → points left.files ≡ points s.files
@@ -357,7 +394,16 @@ doing_left task budget law (Some s) told ready in_it is left h =
     by (inl h) =
         inl (h.0, inr (in_it.0, ready.ready, ready.text.items, h.1, given, in_it.2, h.2), part_left s h.0 left h.3)
     by (inr h) =
-        inr (in_it.0, ready.ready, ready.text.items, given, in_it.2, h, kept_points ready.text.items ready.ready s left law h)
+        inr (
+          in_it.0,
+          ready.ready,
+          ready.text.items,
+          given,
+          in_it.2,
+          h,
+          kept_points ready.text.items ready.ready s left
+              law h,
+        )
 
 -- nothing is printed yet
 pub early_left : (asking : State → Asking Request) (o : Option State) (left : Left) → MayLeaveNow o left

@@ -7,7 +7,7 @@ use Rattle.host_core.specs.State.{CanMove, Files, State, printed, settled, with_
 use Rattle.host_core.proofs.Runs as runs
 use Rattle.conf_doc.specs.declared.configuration.Config.{Config}
 use Rattle.conf_store.specs.Changes.{AreLeft, Changes, IsSettled, Leads, Settles}
-use Rattle.conf_store.specs.Files.{intent_file, scratch}
+use Rattle.conf_store.specs.Files.{config_file, intent_file, scratch}
 use Rattle.conf_store.specs.Folds.{StandsFor}
 use Rattle.conf_store.specs.Stored.{stored}
 use Rattle.conf_store.proofs.FileMaps.{get_there}
@@ -107,6 +107,7 @@ module _ (c : Change) where
     others = λ q other apart. ap (λ (m : Files). get m q) files;
     intent = kept_first s stands left.files files;
     small = λ one less. absurd (omega (arith, one));
+    kept = λ less nothing. ap (λ (m : Files). get m config_file) files;
   }
 
   stopped_first : (s t : State) → StandsFor c.stored s.files → t.files ≡ s.files → t.inputs ≡ s.inputs
@@ -120,6 +121,7 @@ module _ (c : Change) where
     stands = inl (ap stored files ∙ stands_first s stands);
     intent = kept_first s stands t.files files;
     others = λ q other apart. ap (λ (m : Files). get m q) files;
+    kept = λ less nothing. ap (λ (m : Files). get m config_file) files;
   }
 
   -- ---- while it is closed

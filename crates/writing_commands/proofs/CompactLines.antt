@@ -20,10 +20,16 @@ plain_byte x plain e =
     let own : nat_lt 0 (escape_letter 10) ≡ false = subst (λ n. nat_lt 0 (escape_letter n) ≡ false) e plain in cc
 
 escaped_by : (x : ℕ) (b c : Bool) → (b ≡ false → x ≢ 10)
-    → IsOneLine (cond b (92 ∷ escape_letter x ∷ []) (cond c (92 ∷ 117 ∷ 48 ∷ 48 ∷ digit_char (x / 16) ∷ digit_char (x % 16) ∷ []) (x ∷ [])))
+    → IsOneLine (cond b (92 ∷ escape_letter x ∷ [])
+    (cond c (92 ∷ 117 ∷ 48 ∷ 48 ∷ digit_char (x / 16) ∷ digit_char (x % 16) ∷ []) (x ∷ [])))
 escaped_by x true c h = (omega arith, (letter_is_no_end x, tt))
-escaped_by x false true h =
-    (omega arith, (omega arith, (omega arith, (omega arith, (glyph_is_no_end (x / 16), (glyph_is_no_end (x % 16), tt))))))
+escaped_by x false true h = (
+  omega arith,
+  (
+    omega arith,
+    (omega arith, (omega arith, (glyph_is_no_end (x / 16), (glyph_is_no_end (x % 16), tt)))),
+  ),
+)
 escaped_by x false false h = (h refl, tt)
 
 escaped_byte : (x : ℕ) → IsOneLine (escape_byte x)
@@ -52,12 +58,16 @@ mutual
   items_are_one_line later no_items = (omega arith, tt)
   items_are_one_line later (item d ds) =
       one_line-append (comma_if later) (compact d ++ items_text true (item_values ds)) (comma later)
-      (one_line-append (compact d) (items_text true (item_values ds)) (compact_is_one_line d) (items_are_one_line true ds))
+      (one_line-append (compact d) (items_text true (item_values ds)) (compact_is_one_line d)
+      (items_are_one_line true ds))
 
   members_are_one_line : (later : Bool) (ms : Members) → IsOneLine (members_text later (member_values ms))
   members_are_one_line later no_members = (omega arith, tt)
   members_are_one_line later (member k d ms) =
       one_line-append (comma_if later) (quoted k ++ 58 ∷ (compact d ++ members_text true (member_values ms)))
       (comma later)
-      (one_line-append (quoted k) (58 ∷ (compact d ++ members_text true (member_values ms))) (quoted_is_one_line k)
-      (omega arith, one_line-append (compact d) (members_text true (member_values ms)) (compact_is_one_line d) (members_are_one_line true ms)))
+      (one_line-append (quoted k) (58 ∷ (compact d ++ members_text true (member_values ms))) (quoted_is_one_line k) (
+        omega arith,
+        one_line-append (compact d) (members_text true (member_values ms)) (compact_is_one_line d)
+            (members_are_one_line true ms),
+      ))

@@ -51,8 +51,10 @@ behind_found : (name : List ℕ) (s : State) (r : Result (Unit {0}) Outcome) →
     → Found (λ (u : Unit {0}). of_name name) r (delete_asked name s)
 behind_found name s r good h =
     rw good
-    (then_found (λ n. n) (λ (u : Unit {0}). of_name name) name r (follows (Ok name)) (λ n. settles_first >>> λ _. behind n s) (record { gives = refl; stands = tt })
-    (then_found (λ u. u) (λ (u : Unit {0}). of_name name) tt r settles_first (λ _. behind name s) (record { gives = refl; stands = tt }) h))
+    (then_found (λ n. n) (λ (u : Unit {0}). of_name name) name r (follows (Ok name))
+    (λ n. settles_first >>> λ _. behind n s) (record { gives = refl; stands = tt })
+    (then_found (λ u. u) (λ (u : Unit {0}). of_name name) tt r settles_first (λ _. behind name s)
+    (record { gives = refl; stands = tt }) h))
 
 -- a change was stopped
 pub interrupted_found : (o mid : Option State) (name : List ℕ) (e : Outcome) → is_good_name name ≡ true
@@ -63,7 +65,8 @@ interrupted_found (Some s) mid name e good is h =
     let gate : Found {X = Unit {0}} (λ u. u) (Err e) (uninterrupted s) = subst
     (λ m. Finds {X = Unit {0}} m (λ u. u) (Err e) uninterrupted) is h in
     behind_found name s (Err e) good
-    (first_refused {X = Unit {0}} (λ u. u) (λ (u : Unit {0}). of_name name) e (uninterrupted s) (λ _. there_asked name s) gate)
+    (first_refused {X = Unit {0}} (λ u. u) (λ (u : Unit {0}). of_name name) e (uninterrupted s)
+    (λ _. there_asked name s) gate)
 
 -- none was
 pub settled_found : (o mid : Option State) (name : List ℕ) (r : Result (Unit {0}) Outcome) → is_good_name name ≡ true
@@ -76,7 +79,8 @@ settled_found (Some s) mid name r good is gate h =
     let there : Found (λ (u : Unit {0}). of_name name) r (there_asked name s) = subst
     (λ m. FindsUnit m (of_name name) r (there_asked name)) is h in
     behind_found name s r good
-    (then_found {X = Unit {0}} (λ u. u) (λ (u : Unit {0}). of_name name) tt r (uninterrupted s) (λ _. there_asked name s) passes there)
+    (then_found {X = Unit {0}} (λ u. u) (λ (u : Unit {0}). of_name name) tt r (uninterrupted s)
+    (λ _. there_asked name s) passes there)
 
 -- what is pending is settled where the name is good
 settling_read : (name : List ℕ) (s : State) → is_good_name name ≡ true → (delete_asked name s).Reads a_settling
@@ -95,7 +99,20 @@ deletion_given : (name : List ℕ) (s : State) (held : Held) → is_good_name na
     → (delete_asked name s).Gives (Ok (of_name name))
 deletion_given name s held good gate there =
     rw good
-    (inr (name, refl, inr (tt, refl, inr (tt, gate, ap (λ o. map_ok request.delete_checkpoint (there_answer name o)) there))))
+    (inr (
+      name,
+      refl,
+      inr (
+        tt,
+        refl,
+        inr (
+          tt,
+          gate,
+          ap (λ o. map_ok request.delete_checkpoint (there_answer name o))
+              there,
+        ),
+      ),
+    ))
 
 -- it is right to delete it, or what holds where none is there
 pub may_delete : (o mid : Option State) (name : List ℕ) (Nothing : Type 0) → is_good_name name ≡ true

@@ -76,7 +76,8 @@ later_named settings x rs h = λ started r due e. h (x ∷ started) r due (ap (�
 found_or_later : (settings : Settings) (k : ℕ) (x r : Restart) (ls : List ServiceLine)
     → x.name ≡ name_at settings x.service → r.name ≡ name_at settings r.service
     → found r.service ls ≡ Some (service_line k r.service r.name) → (b : Bool) → eqb x.service r.service ≡ b
-    → cond (eqb x.service r.service) (Some (service_line k x.service x.name)) (found r.service ls) ≡ Some (service_line k r.service r.name)
+    → cond (eqb x.service r.service) (Some (service_line k x.service x.name)) (found r.service ls)
+    ≡ Some (service_line k r.service r.name)
 found_or_later settings k x r ls one two later true is =
     let same : x.service ≡ r.service = eqb-true x.service r.service is in
     let name : x.name ≡ r.name = one ∙ ap (λ (i : ℕ). name_at settings i) same ∙ sym two in
@@ -117,13 +118,15 @@ at_slice (x ∷ all) zero ls e = let same : x ≡ ls = cc in same
 at_slice (x ∷ all) (suc k) ls e = at_slice all k ls e
 
 -- the line of a service of a step is found among those of all steps
-pub service_there : (settings : Settings) (restarts : List (List Restart)) (lines : List (List ServiceLine)) (k : ℕ) (started : List Restart) (r : Restart) (due : List Restart)
+pub service_there : (settings : Settings) (restarts : List (List Restart)) (lines : List (List ServiceLine)) (k : ℕ)
+    (started : List Restart) (r : Restart) (due : List Restart)
     → AreServiceLines restarts lines → AreNamed settings (get_or restarts k [])
     → get_or restarts k [] ≡ started ++ r ∷ due
     → unwrap_or (found r.service (service_lines_at lines k)) [] ≡ service_line k r.service r.name
 service_there settings restarts lines k started r due are all is =
     ap (λ (ls : List ServiceLine). unwrap_or (found r.service ls) [])
-    (at_slice lines k (lines_for k (started ++ r ∷ due)) (are k (started ++ r ∷ due) (there restarts k started r due is)))
+    (at_slice lines k (lines_for k (started ++ r ∷ due))
+    (are k (started ++ r ∷ due) (there restarts k started r due is)))
     ∙ ap (λ (o : Option (List ℕ)). unwrap_or o [])
     (found_there settings k started r due (subst (AreNamed settings) is all))
 
@@ -162,15 +165,21 @@ name_there settings j tie e = at settings.services j e
     at (t ∷ ties) (suc j) e = at ties j e
 
 -- the line of one service more
-pub lines_next : (settings : Settings) (step : ℕ) (services : List ℕ) (i service : ℕ) (tie : ServiceTie) (line name : List ℕ) (ls : List ServiceLine)
+pub lines_next : (settings : Settings) (step : ℕ) (services : List ℕ) (i service : ℕ) (tie : ServiceTie)
+    (line name : List ℕ) (ls : List ServiceLine)
     → slice_get services i ≡ Some service → slice_get settings.services service ≡ Some tie → name ≡ tie.name
     → line ≡ service_line step service name
     → ls ≡ lines_for step (restarts_of settings (take i services))
-    → ls ++ record { service = service; line = line } ∷ [] ≡ lines_for step (restarts_of settings (take (i + 1) services))
+    → ls ++ record { service = service; line = line } ∷ []
+    ≡ lines_for step (restarts_of settings (take (i + 1) services))
 lines_next settings step services i service tie line name ls at there is text so_far =
     map_next (λ (r : ℕ). line_for step (restart_of settings r)) services i service
     (record { service = service; line = line }) ls at
-    (λ j. record { service = service; line = (text ∙ ap (λ (n : List ℕ). service_line step service n) (is ∙ sym (name_there settings service tie there))) j })
+    (λ j. record {
+      service = service;
+      line = (text ∙ ap (λ (n : List ℕ). service_line step service n)
+          (is ∙ sym (name_there settings service tie there))) j;
+    })
     (so_far ∙ twice (take i services)) ∙ sym (twice (take (i + 1) services))
   where
     twice : (xs : List ℕ)

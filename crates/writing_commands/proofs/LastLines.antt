@@ -151,7 +151,8 @@ said_is_one_line (BadConfig path place) =
     (spaced (quoted path) (quoted place) (quoted_is_one_line path) (quoted_is_one_line place))
 said_is_one_line (BadModels file line why) =
     behind (codes "bad models ") refl (quoted file ++ space ++ decimal line ++ space ++ model_why why)
-    (spaced (quoted file ++ space ++ decimal line) (model_why why) (spaced (quoted file) (decimal line) (quoted_is_one_line file) (decimal_is_one_line line)) (model_why_is why))
+    (spaced (quoted file ++ space ++ decimal line) (model_why why)
+    (spaced (quoted file) (decimal line) (quoted_is_one_line file) (decimal_is_one_line line)) (model_why_is why))
 said_is_one_line (BadRules why) = behind (codes "bad rules ") refl (rules_why why) (rules_why_is why)
 said_is_one_line (BadPatch index why) =
     behind (codes "bad patch ") refl (decimal index ++ space ++ patch_why why)
@@ -237,4 +238,5 @@ pub service_last_line : (step service : ℕ) (name line : List ℕ) → line ≡
 service_last_line step service name line is =
     inr (subst IsRefusalLine (sym is)
     (numbered (number (ServiceFault step service)) (said (ServiceFault step service) ++ space ++ quoted name)
-    (spaced (said (ServiceFault step service)) (quoted name) (said_is_one_line (ServiceFault step service)) (quoted_is_one_line name))))
+    (spaced (said (ServiceFault step service)) (quoted name) (said_is_one_line (ServiceFault step service))
+    (quoted_is_one_line name))))

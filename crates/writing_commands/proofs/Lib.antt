@@ -15,5 +15,6 @@ pub mod Naming
 pub mod Readiness
 pub mod ReadyChanges
 pub mod Savings
+pub mod SettledWrites
 pub mod Unwritten
 pub mod Writing

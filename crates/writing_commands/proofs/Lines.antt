@@ -37,7 +37,8 @@ onto_is_one_line zero n acc h = h
 onto_is_one_line (suc k) n acc h =
     let more : IsOneLine (digit_glyph false (n % 10) ∷ acc) = (glyph_is_no_end (n % 10), h) in
     elim (n / 10 == 0)
-    as (λ b. IsOneLine (cond b (digit_glyph false (n % 10) ∷ acc) (digits_onto k 10 false (n / 10) (digit_glyph false (n % 10) ∷ acc))))
+    as (λ b. IsOneLine (cond b (digit_glyph false (n % 10) ∷ acc)
+    (digits_onto k 10 false (n / 10) (digit_glyph false (n % 10) ∷ acc))))
     [ true ↦ more | false ↦ onto_is_one_line k (n / 10) (digit_glyph false (n % 10) ∷ acc) more ]
 
 pub decimal_is_one_line : (n : ℕ) → IsOneLine (decimal n)

@@ -40,13 +40,21 @@ pub stopped_last : (ready : ReadyMigration) → HasLines ready → (o told : Opt
     → IsLastIn ready.migration o told (DiskFault k) (line_at ready.faults k)
 stopped_last ready lines None told k h = h
 stopped_last ready lines (Some began) told k h =
-    let within : k < length ready.migration = slice_get_within ready.migration k h.2.next h.2.is in
-    (h.0, h.1, (h.2, ap (λ (ls : List (List ℕ)). line_at ls k) lines.faults ∙ disk_there (suc (length ready.migration)) k (omega (arith, within))))
+    let within : k < length ready.migration = slice_get_within ready.migration k h.2.next h.2.is in (
+      h.0,
+      h.1,
+      (
+        h.2,
+        ap (λ (ls : List (List ℕ)). line_at ls k) lines.faults ∙ disk_there (suc (length ready.migration))
+            k (omega (arith, within)),
+      ),
+    )
 
 -- ---- its end
 
 -- the last line is printed, or a front of it
-pub ends_migration : (news : List NewFile) (o told after : Option State) (old mid new : Counts) (answer result : Outcome) (text : List ℕ) (step : ℕ) → step ≡ told_before news answer
+pub ends_migration : (news : List NewFile) (o told after : Option State) (old mid new : Counts)
+    (answer result : Outcome) (text : List ℕ) (step : ℕ) → step ≡ told_before news answer
     → IsLastIn news o told answer text → HasCause old new answer → IsEnded answer text step told after mid new result
     → EndsMigration news o after old new result
 ends_migration news None told after old mid new answer result text step are last cause (inl whole) =
@@ -54,7 +62,13 @@ ends_migration news None told after old mid new answer result text step are last
 ends_migration news None told after old mid new answer result text step are last cause (inr part) =
     part.1.3 ∙ ap (option_map (printed part.1.0)) last
 ends_migration news (Some began) told after old mid new answer result text step are last cause (inl whole) =
-    inl (last.0, text, subst (λ (a : Outcome). IsLastOf news began last.0 a text) (sym whole.0) last.2, whole.1 ∙ ap (option_map (printed text)) last.1)
+    inl (
+      last.0,
+      text,
+      subst (λ (a : Outcome). IsLastOf news began last.0 a text) (sym whole.0) last.2,
+      whole.1 ∙
+          ap (option_map (printed text)) last.1,
+    )
 ends_migration news (Some began) told after old mid new answer result text step are last cause (inr part) =
     inr (inl (
       last.0,

@@ -1,5 +1,5 @@
 -- A migration that is ready, and what is left of the command that does it.
-use Rattle.std.proofs.Common.{◌≡◌, inl, inr, ℕ, List, [], ◌++◌, All, length, ◌<◌, ◌≤◌, arith, append-nil, refl, sym, ap, ◌∙◌, subst, Option, Some, None, Result, Ok, Err, IfErr, IfOk, IfSome, option_map}
+use Rattle.std.proofs.Common.{◌≡◌, ◌⊎◌, ⊎_elim, inl, inr, ℕ, List, [], ◌++◌, All, length, ◌<◌, ◌≤◌, arith, append-nil, refl, sym, ap, ◌∙◌, subst, Option, Some, None, Result, Ok, Err, IfErr, IfOk, IfSome, option_map}
 use Rattle.std.proofs.lemmas.List.{take_all}
 use Rattle.std.proofs.lemmas.Option.{slice_get_within}
 use Rattle.host_core.specs.Counts.{Counts, NoneFell}
@@ -18,6 +18,7 @@ use Rattle.gcu_inputs.proofs.Finding.{then_found}
 use Rattle.command_answers.specs.Answers.{Leaves, Prints, Says}
 use Rattle.command_answers.specs.Commands.{AnswersTo, IsReady, LeftTo, LeftToMigration}
 use Rattle.command_answers.specs.Migrating.{AreTold, LeftMigrating}
+use Rattle.writing_commands.specs.Doing.{LeavesSettled, SettlesWriting}
 use Rattle.writing_commands.specs.MigrationEnds.{EndsMigration, IsCutLast, IsCutLine, IsLastOf, IsSaidLast, told_before}
 use Rattle.writing_commands.specs.declared.migrating.ReadyMigration.{ReadyMigration}
 use Rattle.command_answers.proofs.Answering.{says_prints}
@@ -200,3 +201,29 @@ module _ {H : Type 0} (moment : H → ℕ) (left_since : H → ℕ → Left → 
       (runs.weaker moment left_since mid new (LeftMigrating news (with_pending settled s)) (LeftToMigration migrate_asked (Some s))
       (λ left h. inr (news, given, h))
       (subst (λ t. IfSome t (λ s. LeavesOnly moment left_since mid new (LeftMigrating news s))) is does))
+
+  -- and of the same host with nothing pending
+  pub early_settles : (o : Option State) (old new : H)
+      → SettlesWriting moment left_since old new o (LeftTo migrate_asked)
+      → SettlesWriting moment left_since old new o (LeftToMigration migrate_asked)
+  early_settles o old new (inl run) = inl run
+  early_settles o old new (inr h) = inr (λ t left so_soon since.
+      ⊎_elim (λ before. inl before) (λ l. inr (early (option_map (with_pending settled) o) left l)) (h t left so_soon since))
+
+  pub migration_settles : (o told : Option State) (news : List NewFile) (old mid new : H)
+      → IfSome o (λ s. (migrate_asked s).Gives (Ok (migrate_checkpoints news)))
+      → told ≡ option_map (with_pending settled) o → LeavesSettled moment left_since old mid o (LeftTo migrate_asked)
+      → IfSome told (λ s. LeavesOnly moment left_since mid new (LeftMigrating news s)) → moment old ≤ moment mid
+      → LeavesSettled moment left_since old new o (LeftToMigration migrate_asked)
+  migration_settles None told news old mid new given is so_far does later t left so_soon since = inr tt
+  migration_settles (Some s) told news old mid new given is so_far does later t left so_soon since =
+      by (run.before t left (omega (arith, so_soon, later)) since)
+    where
+      run : LeavesOnly moment left_since mid new (LeftMigrating news (with_pending settled s))
+      run = subst (λ t. IfSome t (λ s. LeavesOnly moment left_since mid new (LeftMigrating news s))) is does
+
+      by : left_since mid t left ⊎ LeftMigrating news (with_pending settled s) left
+          → left_since old t left ⊎ LeftToMigration migrate_asked (Some (with_pending settled s)) left
+      by (inl before) =
+          ⊎_elim (λ was. inl was) (λ l. inr (early (Some (with_pending settled s)) left l)) (so_far t left so_soon before)
+      by (inr h) = inr (inr (news, given, h))

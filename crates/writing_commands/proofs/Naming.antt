@@ -49,7 +49,8 @@ named_is (run_script path) x e = let same : run_script path ≡ x = cc in sym sa
 -- ---- a name that is refused
 
 -- it is said
-pub misnamed_says : (o : Option State) (task : Task) (budget : ℕ) (e : Outcome) (old new : Counts) → Gives {X = Unit {0}} (λ u. task) refusal (Err e) (task_answer task)
+pub misnamed_says : (o : Option State) (task : Task) (budget : ℕ) (e : Outcome) (old new : Counts)
+    → Gives {X = Unit {0}} (λ u. task) refusal (Err e) (task_answer task)
     → RefusesAlways e → Refuses old new e → IfSome o (λ s. Says (change_asked task budget s) s s e (last_line e))
 misnamed_says None task budget e old new gives always h = tt
 misnamed_says (Some s) task budget e old new gives always h =
@@ -109,8 +110,13 @@ pub answers_wider : (word : Task) (budget : ℕ) (before after : Option State) (
     → AnswersTo (settled_asked word budget) before after old new result
     → AnswersTo (change_asked word budget) before after old new result
 answers_wider word budget None after old new result named h = h
-answers_wider word budget (Some s) after old new result named (now, output, is, prints) =
-    (now, output, is, prints_wider (settled_asked word budget s) (change_asked word budget s) (widened word budget s named) s now old new result output prints)
+answers_wider word budget (Some s) after old new result named (now, output, is, prints) = (
+  now,
+  output,
+  is,
+  prints_wider (settled_asked word budget s) (change_asked word budget s)
+      (widened word budget s named) s now old new result output prints,
+)
 
 -- ---- what a crash leaves
 
@@ -131,7 +137,8 @@ left_wider word budget (Some s) left named (inl h) = inl (early_left_wider word 
 left_wider word budget (Some s) left named (inr (w, c, text, given, fits, left_is, points_are)) =
     inr (w, c, text, (widened word budget s named).gives _ given, fits, left_is, points_are)
 
-pub early_wider : {H : Type 0} (moment : H → ℕ) (left_since : H → ℕ → Left → Type 0) (word : Task) (budget : ℕ) (o : Option State) (old new : H) → task_answer word ≡ Ok word
+pub early_wider : {H : Type 0} (moment : H → ℕ) (left_since : H → ℕ → Left → Type 0) (word : Task) (budget : ℕ)
+    (o : Option State) (old new : H) → task_answer word ≡ Ok word
     → LeavesOnly moment left_since old new (LeftToEarly (settled_asked word budget) o)
     → LeavesOnly moment left_since old new (LeftToEarly (change_asked word budget) o)
 early_wider moment left_since word budget o old new named run =
@@ -139,7 +146,8 @@ early_wider moment left_since word budget o old new named run =
     (LeftToEarly (change_asked word budget) o)
     (λ left h. early_left_wider word budget o left named h) run
 
-pub leaves_wider : {H : Type 0} (moment : H → ℕ) (left_since : H → ℕ → Left → Type 0) (word : Task) (budget : ℕ) (o : Option State) (old new : H) → task_answer word ≡ Ok word
+pub leaves_wider : {H : Type 0} (moment : H → ℕ) (left_since : H → ℕ → Left → Type 0) (word : Task) (budget : ℕ)
+    (o : Option State) (old new : H) → task_answer word ≡ Ok word
     → LeavesOnly moment left_since old new (LeftToChange (settled_asked word budget) o)
     → LeavesOnly moment left_since old new (LeftToChange (change_asked word budget) o)
 leaves_wider moment left_since word budget o old new named run =
@@ -147,7 +155,8 @@ leaves_wider moment left_since word budget o old new named run =
     (LeftToChange (change_asked word budget) o)
     (λ left h. left_wider word budget o left named h) run
 
-pub settles_wider : {H : Type 0} (moment : H → ℕ) (left_since : H → ℕ → Left → Type 0) (word : Task) (budget : ℕ) (o : Option State) (old new : H) → task_answer word ≡ Ok word
+pub settles_wider : {H : Type 0} (moment : H → ℕ) (left_since : H → ℕ → Left → Type 0) (word : Task) (budget : ℕ)
+    (o : Option State) (old new : H) → task_answer word ≡ Ok word
     → LeavesOnly moment left_since old new (LeftToEarly (settled_asked word budget) o)
     ⊎ LeavesSettled moment left_since old new o (LeftToChange (settled_asked word budget))
     → LeavesOnly moment left_since old new (LeftToEarly (change_asked word budget) o)

@@ -61,7 +61,8 @@ module _ (p : Operating) (text : List ℕ) (after : WorldState) (told : IsOperat
       subst (λ (x : Ctx). Leads (rulebook x) after.opening after.commits after.config) (operated_ctx p text after told)
       kept.leads in
       commits_defined p.ctx law p.start after.commits after.config
-      (subst (λ (x : Config). Leads (rulebook p.ctx) x after.commits after.config) (operated_opening p text after told) from)
+      (subst (λ (x : Config). Leads (rulebook p.ctx) x after.commits after.config) (operated_opening p text after told)
+      from)
 
 pub few_commits : (p : Operating) (text : List ℕ) (after : WorldState) → IsOperated p text after
     → length p.lines ≤ most_lines → length (moves_of after.commits) ≤ last_step
@@ -97,7 +98,8 @@ are_positions settings [] = All-nil (ArePositions settings)
 are_positions settings (m ∷ ms) =
     let same : 0 + length settings.services ≡ length settings.services = omega arith in
     All-cons (ArePositions settings) (services_of settings m) (map (services_of settings) ms)
-    (subst (λ (n : ℕ). All (λ j. j < n) (services_of settings m)) same (tied_within 0 (table_of (place m)) settings.services))
+    (subst (λ (n : ℕ). All (λ j. j < n) (services_of settings m)) same
+    (tied_within 0 (table_of (place m)) settings.services))
     (are_positions settings ms)
 
 -- ---- bytes
@@ -114,13 +116,15 @@ has_bytes ready settings what ms is many lines = record {
   lines_are = subst (λ (c : Change). AreFaultLines c.restarts ready.lines) (sym is) lines;
   settings = settings;
   named =
-      λ k. subst (λ (c : Change). AreNamed settings (restarts_at c k)) (sym is) (all_named settings (map (services_of settings) ms) k);
+      λ k. subst (λ (c : Change). AreNamed settings (restarts_at c k)) (sym is)
+      (all_named settings (map (services_of settings) ms) k);
 }
 
 -- ---- commits
 
 -- a change of the commits that a script made, behind what its operators are told, is ready
-pub run_is_ready : (p : code.Operating) (ready : ReadyChange) (text : List ℕ) (after : WorldState) (settings : Settings) (what : Stored) (ms : List Move)
+pub run_is_ready : (p : code.Operating) (ready : ReadyChange) (text : List ℕ) (after : WorldState)
+    (settings : Settings) (what : Stored) (ms : List Move)
     → IsOperated (operating_of p) text after → settings ≡ after.ctx.settings → what ≡ p.stored
     → ms ≡ moves_of after.commits
     → ready.ready ≡ change_by settings what ms → ready.text.items ≡ text → ready.closes ≡ false → IsReadyRun p ready
@@ -142,7 +146,8 @@ pub run_moves : (p : code.Operating) (text : List ℕ) (after : WorldState) (wha
     → AreListedDefined p.ctx → what ≡ p.stored → ms ≡ moves_of after.commits → AreDefined what.config ms
 run_moves p text after what ms told valid law loaded moves =
     subst (λ (x : Stored). AreDefined x.config ms) (sym loaded)
-    (subst (λ (x : List Move). AreDefined p.stored.config x) (sym moves) (run_defined (operating_of p) text after told valid law))
+    (subst (λ (x : List Move). AreDefined p.stored.config x) (sym moves)
+    (run_defined (operating_of p) text after told valid law))
 
 pub run_few : (p : code.Operating) (text : List ℕ) (after : WorldState) (ms : List Move)
     → IsOperated (operating_of p) text after → length p.script ≤ most_lines

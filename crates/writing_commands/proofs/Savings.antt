@@ -68,7 +68,8 @@ module _ (s : State) (name : List ℕ) (r : Request) (result : Result (Unit {0})
   behind_found : Found of_it result (behind name s) → Found of_it result (save_asked name s)
   behind_found h =
       rw good
-      (then_found (λ n. n) of_it name result (follows (Ok name)) (λ n. settles_first >>> λ _. behind n s) (record { gives = refl; stands = tt })
+      (then_found (λ n. n) of_it name result (follows (Ok name)) (λ n. settles_first >>> λ _. behind n s)
+      (record { gives = refl; stands = tt })
       (then_found (λ u. u) of_it tt result settles_first (λ _. behind name s) (record { gives = refl; stands = tt }) h))
 
 -- ---- what is found
@@ -94,7 +95,8 @@ not_valid_found (Some s) mid name r e good is h =
     subst (λ a. Found {X = Config} (λ c. request.check) (Err e) a) (check_settled s)
     (subst (λ m. Finds {X = Config} m (λ c. request.check) (Err e) check_asked) is h) in
     behind_found s name r (Err e) good
-    (first_refused (λ (c : Config). request.check) (λ (u : Unit {0}). r) e (check_asked s) (λ _. stored_asked s >>> λ start. absent_asked name start s) checked)
+    (first_refused (λ (c : Config). request.check) (λ (u : Unit {0}). r) e (check_asked s)
+    (λ _. stored_asked s >>> λ start. absent_asked name start s) checked)
 
 -- it is valid
 pub saving_found : (o mid : Option State) (name : List ℕ) (config : Config) (result : Result (Unit {0}) Outcome)
@@ -111,7 +113,8 @@ saving_found (Some s) mid name config result good is valid there absent =
     subst (λ a. Found {X = Config} (λ c. request.check) (Ok config) a) (check_settled s)
     (subst (λ m. Finds {X = Config} m (λ c. request.check) (Ok config) check_asked) is valid) in
     behind_found s name (request.save_checkpoint name config) result good
-    (then_found (λ (c : Config). request.check) of_it config result (check_asked s) (λ _. stored_asked s >>> λ start. absent_asked name start s) checked
+    (then_found (λ (c : Config). request.check) of_it config result (check_asked s)
+    (λ _. stored_asked s >>> λ start. absent_asked name start s) checked
     (then_found (λ (c : Config). config) of_it config result (stored_asked s) (λ start. absent_asked name start s)
     (subst (λ m. Finds {X = Config} m (λ c. config) (Ok config) stored_asked) is there)
     (subst (λ m. FindsUnit m (request.save_checkpoint name config) result (absent_asked name config)) is absent)))
@@ -131,7 +134,24 @@ saving_given : (name : List ℕ) (config : Config) (s : State) → is_good_name 
     → (save_asked name s).Gives (Ok (request.save_checkpoint name config))
 saving_given name config s good valid there room absent =
     rw good
-    (inr (name, refl, inr (tt, refl, inr (request.check, valid, inr (config, there, λ i. absent_answer name config (room i) (absent i))))))
+    (inr (
+      name,
+      refl,
+      inr (
+        tt,
+        refl,
+        inr (
+          request.check,
+          valid,
+          inr (
+            config,
+            there,
+            λ i. absent_answer name config (room i)
+                (absent i),
+          ),
+        ),
+      ),
+    ))
 
 -- it is right to save it, or what holds where something is in the way
 pub may_save : (o mid : Option State) (name : List ℕ) (config : Config) (Nothing : Type 0) → is_good_name name ≡ true

@@ -35,7 +35,7 @@ text_unwritten (Some s) n (inr is) text left (part, rest, e, may) =
     subst (Image s.pending s.files) (sym files) (as_is s.pending s.files)
 
 -- while the last line is
-told_unwritten : (o n : Option State) → IsKept o n → (written : Bool) (e : Outcome) (left : Left)
+pub told_unwritten : (o n : Option State) → IsKept o n → (written : Bool) (e : Outcome) (left : Left)
     → LeftInTold written e n left → LeftUnwritten o left
 told_unwritten o n kept true e left h = text_unwritten o n kept (last_line e) left h
 told_unwritten o n kept false e left (inl h) = text_unwritten o n kept (last_line e) left h

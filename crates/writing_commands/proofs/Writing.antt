@@ -30,7 +30,8 @@ use Rattle.command_answers.proofs.Elapsing.{asking_begins, left_here, no_front}
 
 -- what a request that writes does to the files: all of it, or as much as was done
 pub record IsWriting (r : Request) (P Q : Files → Files → Type 0) : Type 0 where
-  pub done : (before : State) (files : Files) → P before.files files → LeavesDone r before (record before { files = files; pending = settled })
+  pub done : (before : State) (files : Files) → P before.files files
+      → LeavesDone r before (record before { files = files; pending = settled })
   pub stopped : (before now : State) → Leads Q (with_pending settled before) now → LeavesStopped r 0 before now
   pub doing : (before : State) (left : Left) → AreLeft Q before left → LeftWriting r before left
   pub says : IsDoneOutput r (last_line Done)
@@ -65,8 +66,21 @@ module _ (asking : Asking Request) (s : State) (reads : asking.Reads a_settling)
     stopped_says step first changes reads_file = by may
       where
         by : asking.Gives (Ok r) ⊎ (new ≡ Some start) → IsLeft asking s new (DiskFault step)
-        by (inl given) =
-            (changes.0, changes.1, (reads_file, inr (r, given, subst (λ k. LeavesStopped r k s changes.0) (sym first) (w.stopped s changes.0 changes.2)), refl), changes.2.output)
+        by (inl given) = (
+          changes.0,
+          changes.1,
+          (
+            reads_file,
+            inr (
+              r,
+              given,
+              subst (λ k. LeavesStopped r k s changes.0) (sym first)
+                  (w.stopped s changes.0 changes.2),
+            ),
+            refl,
+          ),
+          changes.2.output,
+        )
         by (inr same) = (start, same, (reads_file, inl (first, inr (reads, refl)), refl), refl)
 
     refused_writing : (e : Outcome) (c d : Counts) → LeavesRefused Q (Some start) new e → Refuses c d e
@@ -214,11 +228,17 @@ module _ {H : Type 0} (moment : H → ℕ) (left_since : H → ℕ → Left → 
       (λ left h. (
         [],
         no_front asking s,
-        inr (r, given, w.doing (printed [] s) left (record { files = h.files; output = h.output ∙ sym (append-nil s.output); restarts = h.restarts })),
+        inr (
+          r,
+          given,
+          w.doing (printed [] s) left
+              (record { files = h.files; output = h.output ∙ sym (append-nil s.output); restarts = h.restarts }),
+        ),
       )) writes)
 
   -- all is settled, and then written
-  pub writes_within : (asking : State → Asking Request) (o told : Option State) (r : Request) (P Q : Files → Files → Type 0) → IsWriting r P Q
+  pub writes_within : (asking : State → Asking Request) (o told : Option State) (r : Request)
+      (P Q : Files → Files → Type 0) → IsWriting r P Q
       → told ≡ option_map (with_pending settled) o → (old mid new : H)
       → ((left : Left) → left_since old (moment old) left → MayLeaveNow o left)
       → Elapses moment left_since old mid (MayLeaveNow told)

@@ -2,7 +2,7 @@
 use Rattle.std.specs.Prelude.{◌≡◌, ◌<◌, ◌≤◌, ◌⊎◌, ℕ, List, [], ◌∷◌, ◌++◌, Bool, true, false, IsSome, length, map, Option, Some, None, Result, Ok, Err, option_map, ⊤}
 use Rattle.std.specs.FinMap.{get}
 use Rattle.host_core.specs.Counts.{Counts, Rose}
-use Rattle.host_core.specs.Crashes.{Left, MayLeaveInPrint}
+use Rattle.host_core.specs.Crashes.{Left, LeavesOnly, MayLeaveInPrint, MayLeaveNow}
 use Rattle.host_core.specs.State.{Files, State, printed, settled, with_pending, PrintsPart}
 use Rattle.conf_store.specs.Files.{intent_file}
 use Rattle.conf_store.specs.declared.loaded.Stored.{Stored}
@@ -23,6 +23,7 @@ use Rattle.gcu_requests.specs.declared.session_preparing.Operating.{Operating}
 use Rattle.writing_commands.specs.FaultLines.{AreFaultLines, AreNamed}
 use Rattle.command_answers.specs.Answers.{HasCause}
 use Rattle.command_answers.specs.Changing.{IsBegun, IsChangeFor, IsLast, acknowledged}
+use Rattle.command_answers.specs.Commands.{IsReady, LeftTo, LeftUnwritten}
 use Rattle.command_answers.specs.Crashes.{LeftChanged}
 use Rattle.command_answers.specs.Plannings.{HasNoWork}
 use Rattle.command_answers.specs.Works.{IsWorkOf}
@@ -142,3 +143,26 @@ abbrev pub LeavesSettled : {H : Type 0} → (H → ℕ) → (H → ℕ → Left 
 LeavesSettled moment left_since old new o P =
     (t : ℕ) (left : Left) → t ≤ moment old → left_since new t left
     → left_since old t left ⊎ P (option_map (with_pending settled) o) left
+
+-- nothing is written, or what was pending is settled first
+abbrev pub SettlesWriting : {H : Type 0} → (H → ℕ) → (H → ℕ → Left → Type 0) → H → H
+    → Option State → (Option State → Left → Type 0) → Type 0
+SettlesWriting moment left_since old new o P =
+    LeavesOnly moment left_since old new (LeftUnwritten o)
+    ⊎ LeavesSettled moment left_since old new o P
+
+-- it is settled, and what is left and ready to be told is so of the host with nothing pending
+pub record IsOfSettled
+    {H : Type 0} (moment : H → ℕ) (left_since : H → ℕ → Left → Type 0) (old new : H)
+    (before after : Option State) (asking : State → Asking Request) (out : Outcome) : Type 0 where
+  pub settles : LeavesSettled moment left_since old new before (LeftTo asking)
+  pub left : (left : Left) → MayLeaveNow after left
+      → LeftTo asking (option_map (with_pending settled) before) left
+  pub ready : IsReady asking (option_map (with_pending settled) before) after out
+
+-- all is as before, or that
+abbrev pub IsKeptOrSettled : {H : Type 0} → (H → ℕ) → (H → ℕ → Left → Type 0) → H → H
+    → Option State → Option State → (State → Asking Request) → Outcome → Type 0
+IsKeptOrSettled moment left_since old new before after asking out =
+    (LeavesOnly moment left_since old new (LeftUnwritten before) × (after ≡ before))
+    ⊎ IsOfSettled moment left_since old new before after asking out

@@ -16,6 +16,7 @@ ghost use Rattle.gcu_requests.specs.Asked.{delete_asked, there_asked};
 ghost use Rattle.gcu_requests.specs.Request.{delete_checkpoint as deletion_of};
 ghost use Rattle.command_answers.specs.Answers.{HasCause, IsRefusal};
 ghost use Rattle.command_answers.specs.Commands.{AnswersTo, CompleteTo, IsReady, LeavesRefused, LeftTo, LeftUnwritten, UnlessDiskFault};
+ghost use Rattle.writing_commands.specs.Doing.{IsKeptOrSettled, SettlesWriting};
 
 use checkpoints::{PointError, delete, is_good_name};
 use gcu_inputs::test_uninterrupted;
@@ -35,6 +36,9 @@ pub fn delete_checkpoint<H: Host>(alloc: Global, name: &Txt, host: &mut H) -> Ou
     // After a refusal, want of memory too, nothing was written before.
     ensures early { IsRefusal result → LeavesOnly H.moment H.left_since host.old host.new
         (LeftUnwritten (H.told host.old)) }
+    // What is pending is settled before anything is written.
+    ensures settles { SettlesWriting H.moment H.left_since host.old host.new (H.told host.old)
+        (LeftTo (delete_asked name.now)) }
     ensures goes { H.goes_on host.old host.new }
     ensures form { result ≡ usage → ⊥ }
     ensures complete { CompleteTo (delete_asked name.now)
@@ -55,6 +59,8 @@ fn remove_checkpoint<H: Host>(alloc: Global, name: &Txt, host: &mut H) -> Result
         (LeftTo (delete_asked name.now) (H.told host.old)) }
     ensures early { IfErr result (UnlessDiskFault (LeavesOnly
         H.moment H.left_since host.old host.new (LeftUnwritten (H.told host.old)))) }
+    ensures settles { IsKeptOrSettled H.moment H.left_since host.old host.new
+        (H.told host.old) (H.told host.new) (delete_asked name.now) (outcome_of result) }
     ensures goes { H.goes_on host.old host.new }
 {
     if !is_good_name(name.as_str()) {

@@ -13,6 +13,7 @@ ghost use Rattle.gcu_inputs.specs.Preparing.{Refuses};
 ghost use Rattle.gcu_requests.specs.InterruptionAsked.{abandon_asked};
 ghost use Rattle.command_answers.specs.Answers.{HasCause, IsRefusal};
 ghost use Rattle.command_answers.specs.Commands.{AnswersTo, CompleteTo, IsReady, LeavesRefused, LeftTo, LeftUnwritten, UnlessDiskFault};
+ghost use Rattle.writing_commands.specs.Doing.{IsKeptOrSettled, SettlesWriting};
 
 use change_apply::close;
 use gcu_inputs::test_interrupted;
@@ -32,6 +33,9 @@ pub fn abandon<H: Host>(alloc: Global, host: &mut H) -> Outcome
     // After a refusal, want of memory too, nothing was written before.
     ensures early { IsRefusal result → LeavesOnly H.moment H.left_since host.old host.new
         (LeftUnwritten (H.told host.old)) }
+    // What is pending is settled before anything is written.
+    ensures settles { SettlesWriting H.moment H.left_since host.old host.new (H.told host.old)
+        (LeftTo abandon_asked) }
     ensures goes { H.goes_on host.old host.new }
     ensures form { result ≡ usage → ⊥ }
     ensures complete { CompleteTo abandon_asked
@@ -52,6 +56,8 @@ fn give_up<H: Host>(alloc: Global, host: &mut H) -> Result<(), Outcome>
         (LeftTo abandon_asked (H.told host.old)) }
     ensures early { IfErr result (UnlessDiskFault (LeavesOnly
         H.moment H.left_since host.old host.new (LeftUnwritten (H.told host.old)))) }
+    ensures settles { IsKeptOrSettled H.moment H.left_since host.old host.new
+        (H.told host.old) (H.told host.new) abandon_asked (outcome_of result) }
     ensures goes { H.goes_on host.old host.new }
 {
     match host.settle() {

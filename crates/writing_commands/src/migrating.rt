@@ -15,6 +15,7 @@ ghost use Rattle.command_answers.specs.Answers.{HasCause, IsRefusal};
 ghost use Rattle.command_answers.specs.Commands.{AnswersTo, CompleteTo, IsReady, LeftTo, LeftToMigration, LeftUnwritten};
 ghost use Rattle.writing_commands.specs.FaultLines.{line_at};
 ghost use Rattle.command_answers.specs.Migrating.{LeftMigrating};
+ghost use Rattle.writing_commands.specs.Doing.{IsKeptOrSettled, LeavesSettled, SettlesWriting};
 ghost use Rattle.writing_commands.specs.MigrationEnds.{EndsMigration, HasLines};
 
 use crate::changing::end;
@@ -50,6 +51,9 @@ pub fn migrate_checkpoints<H: Host>(alloc: Global, host: &mut H) -> Outcome
     // After a refusal, want of memory too, nothing was written before.
     ensures early { IsRefusal result → LeavesOnly H.moment H.left_since host.old host.new
         (LeftUnwritten (H.told host.old)) }
+    // What is pending is settled before anything is written.
+    ensures settles { SettlesWriting H.moment H.left_since host.old host.new (H.told host.old)
+        (LeftToMigration migrate_asked) }
     ensures goes { H.goes_on host.old host.new }
     ensures form { result ≡ usage → ⊥ }
     ensures complete { CompleteTo migrate_asked
@@ -78,6 +82,10 @@ fn make_ready<H: Host>(alloc: Global, host: &mut H) -> Result<ReadyMigration, Ou
         (LeftTo migrate_asked (H.told host.old)) }
     ensures early { LeavesOnly H.moment H.left_since host.old host.new
         (LeftUnwritten (H.told host.old)) }
+    ensures settles { IfErr result (IsKeptOrSettled H.moment H.left_since host.old host.new
+        (H.told host.old) (H.told host.new) migrate_asked) }
+    ensures settled { IfOk result (λ _. LeavesSettled
+        H.moment H.left_since host.old host.new (H.told host.old) (LeftTo migrate_asked)) }
     ensures goes { H.goes_on host.old host.new }
 {
     match host.settle() {

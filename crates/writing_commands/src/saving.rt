@@ -15,6 +15,7 @@ ghost use Rattle.gcu_requests.specs.Asked.{absent_asked, save_asked};
 ghost use Rattle.gcu_requests.specs.Request.{save_checkpoint as saving_of};
 ghost use Rattle.command_answers.specs.Answers.{HasCause, IsRefusal};
 ghost use Rattle.command_answers.specs.Commands.{AnswersTo, CompleteTo, IsReady, LeavesRefused, LeftTo, LeftUnwritten, UnlessDiskFault};
+ghost use Rattle.writing_commands.specs.Doing.{IsKeptOrSettled, SettlesWriting};
 
 use checkpoints::{PointError, is_good_name, save};
 use conf_doc::Config;
@@ -36,6 +37,9 @@ pub fn save_checkpoint<H: Host>(alloc: Global, name: &Txt, host: &mut H) -> Outc
     // After a refusal, want of memory too, nothing was written before.
     ensures early { IsRefusal result → LeavesOnly H.moment H.left_since host.old host.new
         (LeftUnwritten (H.told host.old)) }
+    // What is pending is settled before anything is written.
+    ensures settles { SettlesWriting H.moment H.left_since host.old host.new (H.told host.old)
+        (LeftTo (save_asked name.now)) }
     ensures goes { H.goes_on host.old host.new }
     ensures form { result ≡ usage → ⊥ }
     ensures complete { CompleteTo (save_asked name.now)
@@ -56,6 +60,8 @@ fn add_checkpoint<H: Host>(alloc: Global, name: &Txt, host: &mut H) -> Result<()
         (LeftTo (save_asked name.now) (H.told host.old)) }
     ensures early { IfErr result (UnlessDiskFault (LeavesOnly
         H.moment H.left_since host.old host.new (LeftUnwritten (H.told host.old)))) }
+    ensures settles { IsKeptOrSettled H.moment H.left_since host.old host.new
+        (H.told host.old) (H.told host.new) (save_asked name.now) (outcome_of result) }
     ensures goes { H.goes_on host.old host.new }
 {
     if !is_good_name(name.as_str()) {

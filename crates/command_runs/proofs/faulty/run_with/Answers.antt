@@ -12,12 +12,16 @@ returns g c =
       kinds = ran.kinds;
       goes = goes_by c.args.faults c.args.host c.with_faults-host.result ended c.with_faults-host.ensures ran.goes;
       promised =
-          subst (λ (words : List (List ℕ)). IsPromised words c.args.host.state ended.state c.args.host.counts ended.counts c.run-outcome.result)
+          subst (λ (words : List (List ℕ)). IsPromised words
+          c.args.host.state ended.state c.args.host.counts ended.counts c.run-outcome.result)
           c.items.ensures
           (promised_by c.items.result.now c.args.faults c.args.host c.with_faults-host.result ended c.run-outcome.result
-          c.with_faults-host.ensures ran.answers ran.cause ran.crash ran.headline ran.usage ran.only_usage ran.complete);
+          c.with_faults-host.ensures ran.answers ran.cause ran.crash ran.headline ran.usage ran.only_usage
+          ran.complete);
       scoped =
-          subst (λ (words : List (List ℕ)). IsPromisedInScope words (faulty_by c.args.faults c.args.host) ended c.run-outcome.result)
+          subst (λ (words : List (List ℕ)). IsPromisedInScope words (faulty_by c.args.faults c.args.host) ended
+          c.run-outcome.result)
           c.items.ensures
-          (scoped_by c.items.result.now c.args.faults c.args.host c.with_faults-host.result ended c.run-outcome.result c.with_faults-host.ensures ran.scoped);
+          (scoped_by c.items.result.now c.args.faults c.args.host c.with_faults-host.result ended
+          c.run-outcome.result c.with_faults-host.ensures ran.scoped);
     }

@@ -13,5 +13,6 @@ invariant-loop-stop g l = record {
       × AreOfKinds (λ b. (g.dyn-2.0.entry b.vtable).1.ext_kind b.value) extender_kinds l.kit.exts.items
       × AreOfKinds (λ b. (g.dyn-3.0.entry b.vtable).1.rule_kind b.value) rule_kinds l.kit.rules.items;
   runs : AreRun l.yielded l.fn.host l.now l.rans.items;
-  lead : AreUnscoped l.yielded → (before : List Config) → AllStandFor before l.fn.host.state → AllLead before l.rans.items l.now.state;
+  lead : AreUnscoped l.yielded → (before : List Config)
+      → AllStandFor before l.fn.host.state → AllLead before l.rans.items l.now.state;
 }

@@ -18,5 +18,6 @@ returns-clause-runs g c =
 
 pub returns-clause-leads : goal.returns-clause-leads
 returns-clause-leads g c =
-    run_leads c.tokens_of_pointer.ensures.there c.scripts_keep_worlds.ensures.kept c.crash_may_leave_all.ensures.files c.args.stop c.args.host c.in_ok-hand_on.field-0 c.in_ok-ran.ran
+    run_leads c.tokens_of_pointer.ensures.there c.scripts_keep_worlds.ensures.kept c.crash_may_leave_all.ensures.files
+    c.args.stop c.args.host c.in_ok-hand_on.field-0 c.in_ok-ran.ran
     (returns-clause-runs g c)

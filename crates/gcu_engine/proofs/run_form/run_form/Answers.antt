@@ -10,12 +10,11 @@ use Rattle.gcu_words.specs.declared.form.Form.{Form}
 use Rattle.command_answers.specs.Answers.{TellsUsage}
 use Rattle.command_answers.proofs.Causes.{reads_fell}
 use Rattle.command_answers.proofs.Completing.{complete_by}
-use Rattle.gcu_engine.proofs.Headlines.{change_headline, early_headline, headline}
+use Rattle.gcu_engine.proofs.Headlines.{early_keeps_all, query_keeps_all}
 use Rattle.command_answers.proofs.Elapsing.{changes_by, command_leaves, command_leaves_behind, leaves_by, migrates_by}
 use Rattle.command_answers.proofs.Answering.{answers_by, said_answers, done_completes, said_completes, no_form_says, preview_says, preview_refuses, refused_cause}
-use Rattle.gcu_engine.proofs.Intending.{keeps_intent}
 use Rattle.gcu_engine.proofs.Resuming.{never_resumes, resumes}
-use Rattle.gcu_engine.proofs.Settling.{never_settles, settles}
+use Rattle.gcu_engine.proofs.Settling.{never_settles, never_writes, settles, settles_migration, settles_writes}
 use Rattle.gcu_engine.proofs.run_form.run_form.Goals as goal
 
 -- words of a command whose form is that
@@ -248,135 +247,69 @@ returns-in-CheckPlan-clause-complete g c words is =
     complete_by words _ (g.H.Host.told c.args.host.now) (g.H.Host.counts c.args.host.now) (g.H.Host.counts c.check_plan.new.host) c.check_plan.result
     (of words c.args.command _ is c.in-CheckPlan.is) c.check_plan.ensures.complete
 
--- ---- the promise of the whole
+-- ---- a refusal leaves the files
 
-pub returns-in-Unknown-clause-headline : goal.returns-in-Unknown-clause-headline
-returns-in-Unknown-clause-headline g c words is =
-    headline g.H.Host.moment g.H.Host.left_since words _ (g.H.Host.told c.args.host.now) (g.H.Host.told c.refuse_words.new.host) c.args.host.now c.refuse_words.new.host
-    (g.H.Host.counts c.args.host.now) (g.H.Host.counts c.refuse_words.new.host) c.refuse_words.result (of words c.args.command _ is c.in-Unknown.is) tt (returns-in-Unknown-clause-answers g c words is) (returns-in-Unknown-clause-crash g c words is)
+pub returns-in-Unknown-clause-early : goal.returns-in-Unknown-clause-early
+returns-in-Unknown-clause-early g c words is any =
+    query_keeps_all g.H.Host.moment g.H.Host.left_since words _ (g.H.Host.told c.args.host.now) c.args.host.now
+    c.refuse_words.new.host (of words c.args.command _ is c.in-Unknown.is) tt (returns-in-Unknown-clause-crash g c words is)
 
-pub returns-in-Ok-clause-headline : goal.returns-in-Ok-clause-headline
-returns-in-Ok-clause-headline g c words is =
-    headline g.H.Host.moment g.H.Host.left_since words _ (g.H.Host.told c.args.host.now) (g.H.Host.told c.show.new.host) c.args.host.now c.show.new.host
-    (g.H.Host.counts c.args.host.now) (g.H.Host.counts c.show.new.host) c.show.result (of words c.args.command _ is c.in-Preview.is) tt (returns-in-Ok-clause-answers g c words is) (returns-in-Ok-clause-crash g c words is)
+pub returns-in-Ok-clause-early : goal.returns-in-Ok-clause-early
+returns-in-Ok-clause-early g c words is any =
+    query_keeps_all g.H.Host.moment g.H.Host.left_since words _ (g.H.Host.told c.args.host.now) c.args.host.now
+    c.show.new.host (of words c.args.command _ is c.in-Preview.is) tt (returns-in-Ok-clause-crash g c words is)
 
-pub returns-in-Err-clause-headline : goal.returns-in-Err-clause-headline
-returns-in-Err-clause-headline g c words is =
-    headline g.H.Host.moment g.H.Host.left_since words _ (g.H.Host.told c.args.host.now) (g.H.Host.told c.say.new.host) c.args.host.now c.say.new.host
-    (g.H.Host.counts c.args.host.now) (g.H.Host.counts c.say.new.host) c.say.result (of words c.args.command _ is c.in-Preview.is) tt (returns-in-Err-clause-answers g c words is) (returns-in-Err-clause-crash g c words is)
+pub returns-in-Err-clause-early : goal.returns-in-Err-clause-early
+returns-in-Err-clause-early g c words is any =
+    query_keeps_all g.H.Host.moment g.H.Host.left_since words _ (g.H.Host.told c.args.host.now) c.args.host.now
+    c.say.new.host (of words c.args.command _ is c.in-Preview.is) tt (returns-in-Err-clause-crash g c words is)
 
-pub returns-in-Check-clause-headline : goal.returns-in-Check-clause-headline
-returns-in-Check-clause-headline g c words is =
-    headline g.H.Host.moment g.H.Host.left_since words _ (g.H.Host.told c.args.host.now) (g.H.Host.told c.check.new.host) c.args.host.now c.check.new.host
-    (g.H.Host.counts c.args.host.now) (g.H.Host.counts c.check.new.host) c.check.result (of words c.args.command _ is c.in-Check.is) tt (returns-in-Check-clause-answers g c words is) (returns-in-Check-clause-crash g c words is)
+pub returns-in-Check-clause-early : goal.returns-in-Check-clause-early
+returns-in-Check-clause-early g c words is any =
+    query_keeps_all g.H.Host.moment g.H.Host.left_since words _ (g.H.Host.told c.args.host.now) c.args.host.now
+    c.check.new.host (of words c.args.command _ is c.in-Check.is) tt (returns-in-Check-clause-crash g c words is)
 
-pub returns-in-ListCheckpoints-clause-headline : goal.returns-in-ListCheckpoints-clause-headline
-returns-in-ListCheckpoints-clause-headline g c words is =
-    headline g.H.Host.moment g.H.Host.left_since words _ (g.H.Host.told c.args.host.now) (g.H.Host.told c.list_checkpoints.new.host) c.args.host.now c.list_checkpoints.new.host
-    (g.H.Host.counts c.args.host.now) (g.H.Host.counts c.list_checkpoints.new.host) c.list_checkpoints.result (of words c.args.command _ is c.in-ListCheckpoints.is) tt (returns-in-ListCheckpoints-clause-answers g c words is) (returns-in-ListCheckpoints-clause-crash g c words is)
+pub returns-in-ListCheckpoints-clause-early : goal.returns-in-ListCheckpoints-clause-early
+returns-in-ListCheckpoints-clause-early g c words is any =
+    query_keeps_all g.H.Host.moment g.H.Host.left_since words _ (g.H.Host.told c.args.host.now) c.args.host.now
+    c.list_checkpoints.new.host (of words c.args.command _ is c.in-ListCheckpoints.is) tt (returns-in-ListCheckpoints-clause-crash g c words is)
 
-pub returns-in-MigrateCheckpoints-clause-headline : goal.returns-in-MigrateCheckpoints-clause-headline
-returns-in-MigrateCheckpoints-clause-headline g c words is =
-    early_headline g.H.Host.moment g.H.Host.left_since words (g.H.Host.told c.args.host.now) (g.H.Host.told c.migrate_checkpoints.new.host) c.args.host.now c.migrate_checkpoints.new.host
-    (g.H.Host.counts c.args.host.now) (g.H.Host.counts c.migrate_checkpoints.new.host) c.migrate_checkpoints.result (returns-in-MigrateCheckpoints-clause-answers g c words is) (returns-in-MigrateCheckpoints-clause-crash g c words is) c.migrate_checkpoints.ensures.early
+pub returns-in-MigrateCheckpoints-clause-early : goal.returns-in-MigrateCheckpoints-clause-early
+returns-in-MigrateCheckpoints-clause-early g c words is any = c.migrate_checkpoints.ensures.early any
 
-pub returns-in-SaveCheckpoint-clause-headline : goal.returns-in-SaveCheckpoint-clause-headline
-returns-in-SaveCheckpoint-clause-headline g c words is =
-    early_headline g.H.Host.moment g.H.Host.left_since words (g.H.Host.told c.args.host.now) (g.H.Host.told c.save_checkpoint.new.host) c.args.host.now c.save_checkpoint.new.host
-    (g.H.Host.counts c.args.host.now) (g.H.Host.counts c.save_checkpoint.new.host) c.save_checkpoint.result (returns-in-SaveCheckpoint-clause-answers g c words is) (returns-in-SaveCheckpoint-clause-crash g c words is) c.save_checkpoint.ensures.early
+pub returns-in-SaveCheckpoint-clause-early : goal.returns-in-SaveCheckpoint-clause-early
+returns-in-SaveCheckpoint-clause-early g c words is any = c.save_checkpoint.ensures.early any
 
-pub returns-in-DeleteCheckpoint-clause-headline : goal.returns-in-DeleteCheckpoint-clause-headline
-returns-in-DeleteCheckpoint-clause-headline g c words is =
-    early_headline g.H.Host.moment g.H.Host.left_since words (g.H.Host.told c.args.host.now) (g.H.Host.told c.delete_checkpoint.new.host) c.args.host.now c.delete_checkpoint.new.host
-    (g.H.Host.counts c.args.host.now) (g.H.Host.counts c.delete_checkpoint.new.host) c.delete_checkpoint.result (returns-in-DeleteCheckpoint-clause-answers g c words is) (returns-in-DeleteCheckpoint-clause-crash g c words is) c.delete_checkpoint.ensures.early
+pub returns-in-DeleteCheckpoint-clause-early : goal.returns-in-DeleteCheckpoint-clause-early
+returns-in-DeleteCheckpoint-clause-early g c words is any = c.delete_checkpoint.ensures.early any
 
-pub returns-in-Plan-clause-headline : goal.returns-in-Plan-clause-headline
-returns-in-Plan-clause-headline g c words is =
-    headline g.H.Host.moment g.H.Host.left_since words _ (g.H.Host.told c.args.host.now) (g.H.Host.told c.dry_run.new.host) c.args.host.now c.dry_run.new.host
-    (g.H.Host.counts c.args.host.now) (g.H.Host.counts c.dry_run.new.host) c.dry_run.result (of words c.args.command _ is c.in-Plan.is) tt (returns-in-Plan-clause-answers g c words is) (returns-in-Plan-clause-crash g c words is)
+pub returns-in-Plan-clause-early : goal.returns-in-Plan-clause-early
+returns-in-Plan-clause-early g c words is any =
+    query_keeps_all g.H.Host.moment g.H.Host.left_since words _ (g.H.Host.told c.args.host.now) c.args.host.now
+    c.dry_run.new.host (of words c.args.command _ is c.in-Plan.is) tt (returns-in-Plan-clause-crash g c words is)
 
-pub returns-in-Change-clause-headline : goal.returns-in-Change-clause-headline
-returns-in-Change-clause-headline g c words is =
-    change_headline g.H.Host.moment g.H.Host.left_since words (task_view c.in-Change.task) c.in-Change.options.budget (g.H.Host.told c.args.host.now) (g.H.Host.told c.change.new.host) c.args.host.now c.change.new.host
-    (g.H.Host.counts c.args.host.now) (g.H.Host.counts c.change.new.host) c.change.result (returns-in-Change-clause-answers g c words is) (returns-in-Change-clause-crash g c words is) c.change.ensures.early
+pub returns-in-Change-clause-early : goal.returns-in-Change-clause-early
+returns-in-Change-clause-early g c words is any =
+    early_keeps_all g.H.Host.moment g.H.Host.left_since (task_view c.in-Change.task) c.in-Change.options.budget
+    (g.H.Host.told c.args.host.now) c.args.host.now c.change.new.host (c.change.ensures.early any)
 
-pub returns-in-Status-clause-headline : goal.returns-in-Status-clause-headline
-returns-in-Status-clause-headline g c words is =
-    headline g.H.Host.moment g.H.Host.left_since words _ (g.H.Host.told c.args.host.now) (g.H.Host.told c.status.new.host) c.args.host.now c.status.new.host
-    (g.H.Host.counts c.args.host.now) (g.H.Host.counts c.status.new.host) c.status.result (of words c.args.command _ is c.in-Status.is) tt (returns-in-Status-clause-answers g c words is) (returns-in-Status-clause-crash g c words is)
+pub returns-in-Status-clause-early : goal.returns-in-Status-clause-early
+returns-in-Status-clause-early g c words is any =
+    query_keeps_all g.H.Host.moment g.H.Host.left_since words _ (g.H.Host.told c.args.host.now) c.args.host.now
+    c.status.new.host (of words c.args.command _ is c.in-Status.is) tt (returns-in-Status-clause-crash g c words is)
 
-pub returns-in-Abandon-clause-headline : goal.returns-in-Abandon-clause-headline
-returns-in-Abandon-clause-headline g c words is =
-    early_headline g.H.Host.moment g.H.Host.left_since words (g.H.Host.told c.args.host.now) (g.H.Host.told c.abandon.new.host) c.args.host.now c.abandon.new.host
-    (g.H.Host.counts c.args.host.now) (g.H.Host.counts c.abandon.new.host) c.abandon.result (returns-in-Abandon-clause-answers g c words is) (returns-in-Abandon-clause-crash g c words is) c.abandon.ensures.early
+pub returns-in-Abandon-clause-early : goal.returns-in-Abandon-clause-early
+returns-in-Abandon-clause-early g c words is any = c.abandon.ensures.early any
 
-pub returns-in-Demo-clause-headline : goal.returns-in-Demo-clause-headline
-returns-in-Demo-clause-headline g c words is =
-    headline g.H.Host.moment g.H.Host.left_since words _ (g.H.Host.told c.args.host.now) (g.H.Host.told c.demo.new.host) c.args.host.now c.demo.new.host
-    (g.H.Host.counts c.args.host.now) (g.H.Host.counts c.demo.new.host) c.demo.result (of words c.args.command _ is c.in-Demo.is) tt (returns-in-Demo-clause-answers g c words is) (returns-in-Demo-clause-crash g c words is)
+pub returns-in-Demo-clause-early : goal.returns-in-Demo-clause-early
+returns-in-Demo-clause-early g c words is any =
+    query_keeps_all g.H.Host.moment g.H.Host.left_since words _ (g.H.Host.told c.args.host.now) c.args.host.now
+    c.demo.new.host (of words c.args.command _ is c.in-Demo.is) tt (returns-in-Demo-clause-crash g c words is)
 
-pub returns-in-CheckPlan-clause-headline : goal.returns-in-CheckPlan-clause-headline
-returns-in-CheckPlan-clause-headline g c words is =
-    headline g.H.Host.moment g.H.Host.left_since words _ (g.H.Host.told c.args.host.now) (g.H.Host.told c.check_plan.new.host) c.args.host.now c.check_plan.new.host
-    (g.H.Host.counts c.args.host.now) (g.H.Host.counts c.check_plan.new.host) c.check_plan.result (of words c.args.command _ is c.in-CheckPlan.is) tt (returns-in-CheckPlan-clause-answers g c words is) (returns-in-CheckPlan-clause-crash g c words is)
-
--- ---- the file intent
-
-pub returns-in-Unknown-clause-intent : goal.returns-in-Unknown-clause-intent
-returns-in-Unknown-clause-intent g c words is =
-    keeps_intent g.H.Host.moment g.H.Host.left_since words (g.H.Host.told c.args.host.now) c.args.host.now c.refuse_words.new.host (returns-in-Unknown-clause-crash g c words is)
-
-pub returns-in-Ok-clause-intent : goal.returns-in-Ok-clause-intent
-returns-in-Ok-clause-intent g c words is =
-    keeps_intent g.H.Host.moment g.H.Host.left_since words (g.H.Host.told c.args.host.now) c.args.host.now c.show.new.host (returns-in-Ok-clause-crash g c words is)
-
-pub returns-in-Err-clause-intent : goal.returns-in-Err-clause-intent
-returns-in-Err-clause-intent g c words is =
-    keeps_intent g.H.Host.moment g.H.Host.left_since words (g.H.Host.told c.args.host.now) c.args.host.now c.say.new.host (returns-in-Err-clause-crash g c words is)
-
-pub returns-in-Check-clause-intent : goal.returns-in-Check-clause-intent
-returns-in-Check-clause-intent g c words is =
-    keeps_intent g.H.Host.moment g.H.Host.left_since words (g.H.Host.told c.args.host.now) c.args.host.now c.check.new.host (returns-in-Check-clause-crash g c words is)
-
-pub returns-in-ListCheckpoints-clause-intent : goal.returns-in-ListCheckpoints-clause-intent
-returns-in-ListCheckpoints-clause-intent g c words is =
-    keeps_intent g.H.Host.moment g.H.Host.left_since words (g.H.Host.told c.args.host.now) c.args.host.now c.list_checkpoints.new.host (returns-in-ListCheckpoints-clause-crash g c words is)
-
-pub returns-in-MigrateCheckpoints-clause-intent : goal.returns-in-MigrateCheckpoints-clause-intent
-returns-in-MigrateCheckpoints-clause-intent g c words is =
-    keeps_intent g.H.Host.moment g.H.Host.left_since words (g.H.Host.told c.args.host.now) c.args.host.now c.migrate_checkpoints.new.host (returns-in-MigrateCheckpoints-clause-crash g c words is)
-
-pub returns-in-SaveCheckpoint-clause-intent : goal.returns-in-SaveCheckpoint-clause-intent
-returns-in-SaveCheckpoint-clause-intent g c words is =
-    keeps_intent g.H.Host.moment g.H.Host.left_since words (g.H.Host.told c.args.host.now) c.args.host.now c.save_checkpoint.new.host (returns-in-SaveCheckpoint-clause-crash g c words is)
-
-pub returns-in-DeleteCheckpoint-clause-intent : goal.returns-in-DeleteCheckpoint-clause-intent
-returns-in-DeleteCheckpoint-clause-intent g c words is =
-    keeps_intent g.H.Host.moment g.H.Host.left_since words (g.H.Host.told c.args.host.now) c.args.host.now c.delete_checkpoint.new.host (returns-in-DeleteCheckpoint-clause-crash g c words is)
-
-pub returns-in-Plan-clause-intent : goal.returns-in-Plan-clause-intent
-returns-in-Plan-clause-intent g c words is =
-    keeps_intent g.H.Host.moment g.H.Host.left_since words (g.H.Host.told c.args.host.now) c.args.host.now c.dry_run.new.host (returns-in-Plan-clause-crash g c words is)
-
-pub returns-in-Change-clause-intent : goal.returns-in-Change-clause-intent
-returns-in-Change-clause-intent g c words is =
-    keeps_intent g.H.Host.moment g.H.Host.left_since words (g.H.Host.told c.args.host.now) c.args.host.now c.change.new.host (returns-in-Change-clause-crash g c words is)
-
-pub returns-in-Status-clause-intent : goal.returns-in-Status-clause-intent
-returns-in-Status-clause-intent g c words is =
-    keeps_intent g.H.Host.moment g.H.Host.left_since words (g.H.Host.told c.args.host.now) c.args.host.now c.status.new.host (returns-in-Status-clause-crash g c words is)
-
-pub returns-in-Abandon-clause-intent : goal.returns-in-Abandon-clause-intent
-returns-in-Abandon-clause-intent g c words is =
-    keeps_intent g.H.Host.moment g.H.Host.left_since words (g.H.Host.told c.args.host.now) c.args.host.now c.abandon.new.host (returns-in-Abandon-clause-crash g c words is)
-
-pub returns-in-Demo-clause-intent : goal.returns-in-Demo-clause-intent
-returns-in-Demo-clause-intent g c words is =
-    keeps_intent g.H.Host.moment g.H.Host.left_since words (g.H.Host.told c.args.host.now) c.args.host.now c.demo.new.host (returns-in-Demo-clause-crash g c words is)
-
-pub returns-in-CheckPlan-clause-intent : goal.returns-in-CheckPlan-clause-intent
-returns-in-CheckPlan-clause-intent g c words is =
-    keeps_intent g.H.Host.moment g.H.Host.left_since words (g.H.Host.told c.args.host.now) c.args.host.now c.check_plan.new.host (returns-in-CheckPlan-clause-crash g c words is)
+pub returns-in-CheckPlan-clause-early : goal.returns-in-CheckPlan-clause-early
+returns-in-CheckPlan-clause-early g c words is any =
+    query_keeps_all g.H.Host.moment g.H.Host.left_since words _ (g.H.Host.told c.args.host.now) c.args.host.now
+    c.check_plan.new.host (of words c.args.command _ is c.in-CheckPlan.is) tt (returns-in-CheckPlan-clause-crash g c words is)
 
 -- ---- what is pending
 
@@ -450,6 +383,78 @@ returns-in-Change-clause-settles g c words is =
     settles g.H.Host.moment g.H.Host.left_since words c.args.host.now c.change.new.host (task_view c.in-Change.task)
     c.in-Change.options.budget (g.H.Host.told c.args.host.now)
     (of words c.args.command _ is c.in-Change.is) c.change.ensures.settles
+
+-- ---- what is pending is settled by another command that writes
+
+pub returns-in-Unknown-clause-settles_writes : goal.returns-in-Unknown-clause-settles_writes
+returns-in-Unknown-clause-settles_writes g c words is =
+    never_writes g.H.Host.moment g.H.Host.left_since words c.args.host.now c.refuse_words.new.host _
+    (g.H.Host.told c.args.host.now) (of words c.args.command _ is c.in-Unknown.is) tt
+
+pub returns-in-Ok-clause-settles_writes : goal.returns-in-Ok-clause-settles_writes
+returns-in-Ok-clause-settles_writes g c words is =
+    never_writes g.H.Host.moment g.H.Host.left_since words c.args.host.now c.show.new.host _
+    (g.H.Host.told c.args.host.now) (of words c.args.command _ is c.in-Preview.is) (λ writes. writes)
+
+pub returns-in-Err-clause-settles_writes : goal.returns-in-Err-clause-settles_writes
+returns-in-Err-clause-settles_writes g c words is =
+    never_writes g.H.Host.moment g.H.Host.left_since words c.args.host.now c.say.new.host _
+    (g.H.Host.told c.args.host.now) (of words c.args.command _ is c.in-Preview.is) (λ writes. writes)
+
+pub returns-in-Check-clause-settles_writes : goal.returns-in-Check-clause-settles_writes
+returns-in-Check-clause-settles_writes g c words is =
+    never_writes g.H.Host.moment g.H.Host.left_since words c.args.host.now c.check.new.host _
+    (g.H.Host.told c.args.host.now) (of words c.args.command _ is c.in-Check.is) (λ writes. writes)
+
+pub returns-in-ListCheckpoints-clause-settles_writes : goal.returns-in-ListCheckpoints-clause-settles_writes
+returns-in-ListCheckpoints-clause-settles_writes g c words is =
+    never_writes g.H.Host.moment g.H.Host.left_since words c.args.host.now c.list_checkpoints.new.host _
+    (g.H.Host.told c.args.host.now) (of words c.args.command _ is c.in-ListCheckpoints.is) (λ writes. writes)
+
+pub returns-in-MigrateCheckpoints-clause-settles_writes : goal.returns-in-MigrateCheckpoints-clause-settles_writes
+returns-in-MigrateCheckpoints-clause-settles_writes g c words is =
+    settles_migration g.H.Host.moment g.H.Host.left_since words c.args.host.now c.migrate_checkpoints.new.host
+    (g.H.Host.told c.args.host.now) (of words c.args.command _ is c.in-MigrateCheckpoints.is) c.migrate_checkpoints.ensures.settles
+
+pub returns-in-SaveCheckpoint-clause-settles_writes : goal.returns-in-SaveCheckpoint-clause-settles_writes
+returns-in-SaveCheckpoint-clause-settles_writes g c words is =
+    settles_writes g.H.Host.moment g.H.Host.left_since words c.args.host.now c.save_checkpoint.new.host _
+    (g.H.Host.told c.args.host.now) (of words c.args.command _ is c.in-SaveCheckpoint.is) (λ s left h. h) c.save_checkpoint.ensures.settles
+
+pub returns-in-DeleteCheckpoint-clause-settles_writes : goal.returns-in-DeleteCheckpoint-clause-settles_writes
+returns-in-DeleteCheckpoint-clause-settles_writes g c words is =
+    settles_writes g.H.Host.moment g.H.Host.left_since words c.args.host.now c.delete_checkpoint.new.host _
+    (g.H.Host.told c.args.host.now) (of words c.args.command _ is c.in-DeleteCheckpoint.is) (λ s left h. h) c.delete_checkpoint.ensures.settles
+
+pub returns-in-Plan-clause-settles_writes : goal.returns-in-Plan-clause-settles_writes
+returns-in-Plan-clause-settles_writes g c words is =
+    never_writes g.H.Host.moment g.H.Host.left_since words c.args.host.now c.dry_run.new.host _
+    (g.H.Host.told c.args.host.now) (of words c.args.command _ is c.in-Plan.is) (λ writes. writes)
+
+pub returns-in-Status-clause-settles_writes : goal.returns-in-Status-clause-settles_writes
+returns-in-Status-clause-settles_writes g c words is =
+    never_writes g.H.Host.moment g.H.Host.left_since words c.args.host.now c.status.new.host _
+    (g.H.Host.told c.args.host.now) (of words c.args.command _ is c.in-Status.is) (λ writes. writes)
+
+pub returns-in-Abandon-clause-settles_writes : goal.returns-in-Abandon-clause-settles_writes
+returns-in-Abandon-clause-settles_writes g c words is =
+    settles_writes g.H.Host.moment g.H.Host.left_since words c.args.host.now c.abandon.new.host _
+    (g.H.Host.told c.args.host.now) (of words c.args.command _ is c.in-Abandon.is) (λ s left h. h) c.abandon.ensures.settles
+
+pub returns-in-Demo-clause-settles_writes : goal.returns-in-Demo-clause-settles_writes
+returns-in-Demo-clause-settles_writes g c words is =
+    never_writes g.H.Host.moment g.H.Host.left_since words c.args.host.now c.demo.new.host _
+    (g.H.Host.told c.args.host.now) (of words c.args.command _ is c.in-Demo.is) (λ writes. writes)
+
+pub returns-in-CheckPlan-clause-settles_writes : goal.returns-in-CheckPlan-clause-settles_writes
+returns-in-CheckPlan-clause-settles_writes g c words is =
+    never_writes g.H.Host.moment g.H.Host.left_since words c.args.host.now c.check_plan.new.host _
+    (g.H.Host.told c.args.host.now) (of words c.args.command _ is c.in-CheckPlan.is) (λ writes. writes)
+
+pub returns-in-Change-clause-settles_writes : goal.returns-in-Change-clause-settles_writes
+returns-in-Change-clause-settles_writes g c words is =
+    never_writes g.H.Host.moment g.H.Host.left_since words c.args.host.now c.change.new.host _
+    (g.H.Host.told c.args.host.now) (of words c.args.command _ is c.in-Change.is) (λ writes. writes)
 
 -- ---- a change that was stopped
 

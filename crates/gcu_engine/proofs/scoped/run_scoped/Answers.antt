@@ -1,4 +1,4 @@
-use Rattle.std.proofs.Common.{inl, inr, ℕ, refl, sym, ap, subst}
+use Rattle.std.proofs.Common.{inl, inr, ℕ, refl, sym, ap, subst, arith}
 use Rattle.host_core.specs.Counts.{Counts, Rose}
 use Rattle.host_core.specs.Crashes.{Elapses, MayLeaveNow}
 use Rattle.gcu_output.specs.Lines.{last_line}
@@ -8,7 +8,7 @@ use Rattle.command_answers.proofs.Answering.{said_to}
 use Rattle.command_answers.proofs.Causes.{disk_fell, said_cause}
 use Rattle.writing_commands.proofs.Changes.{cause_from}
 use Rattle.command_answers.proofs.Elapsing.{asking_leaves_behind}
-use Rattle.scope_commands.proofs.Settling.{settled_now, settling_says}
+use Rattle.scope_commands.proofs.Settling.{settled_now, settling_says, still_before}
 use Rattle.gcu_engine.proofs.scoped.run_scoped.Goals as goal
 
 -- ---- nothing is pending
@@ -23,6 +23,9 @@ returns-in-Ok-clause-runs g c words is =
       settles = c.in-Ok.ensures.ok;
       time = c.settle.ensures.time;
       counted = c.settle.ensures.counts;
+      starts = (omega arith, λ left since. g.met.H.Host.only_now c.settle.new.self left since);
+      begins = still_before g.H.Host.told g.H.Host.moment g.H.Host.left_since c.args.host.now c.settle.new.self
+          (λ left since. g.met.H.Host.only_now c.args.host.now left since) c.in-Ok.ensures.ok c.settle.ensures.time;
       runs = c.run_settled.ensures.runs words is;
     })
 

@@ -7,7 +7,8 @@ pub returns-in_err-goal-clause-answer : goal.returns-in_err-goal-clause-answer
 returns-in_err-goal-clause-answer c =
     let p = err_from_is_err_and c.from_residual.result c.from_residual.ensures.1 in
     rw (p.1, p.2)
-    (no_aim c.args.ctx.now (operations c.args.patch.now) c.args.now.now c.in_err-goal.field-0.0 c.in_err-goal.ensures.answer c.in_err-goal.ensures.cause)
+    (no_aim c.args.ctx.now (operations c.args.patch.now)
+    c.args.now.now c.in_err-goal.field-0.0 c.in_err-goal.ensures.answer c.in_err-goal.ensures.cause)
 
 pub returns-clause-answer : goal.returns-clause-answer
 returns-clause-answer c =

@@ -14,7 +14,8 @@ pub returns-in_err-config-clause-answer : goal.returns-in_err-config-clause-answ
 returns-in_err-config-clause-answer g c =
     let p = err_from_is_err_and c.from_residual-in_err-config.result c.from_residual-in_err-config.ensures.1 in
     rw (p.1, p.2)
-    (no_config (g.H.Host.told c.args.host.now) c.in_ok-models.models c.in_err-config.field-0.0 c.in_ok-models.ensures.answer
+    (no_config (g.H.Host.told c.args.host.now)
+    c.in_ok-models.models c.in_err-config.field-0.0 c.in_ok-models.ensures.answer
     (rw c.in_ok-models.ensures.reads.state at c.in_err-config.ensures.answer))
 
 -- the configuration isn't valid
@@ -22,7 +23,8 @@ pub returns-in_err-judge-clause-answer : goal.returns-in_err-judge-clause-answer
 returns-in_err-judge-clause-answer g c =
     let p = err_from_is_err_and c.from_residual-in_err-judge.result c.from_residual-in_err-judge.ensures.1 in
     rw (p.1, p.2)
-    (judged (g.H.Host.told c.args.host.now) c.in_ok-models.models c.in_ok-config.config (Err c.in_err-judge.field-0.0) c.in_ok-models.ensures.answer
+    (judged (g.H.Host.told c.args.host.now) c.in_ok-models.models c.in_ok-config.config (Err c.in_err-judge.field-0.0)
+    c.in_ok-models.ensures.answer
     (rw c.in_ok-models.ensures.reads.state at c.in_ok-config.ensures.answer) c.in_err-judge.ensures.answer
     c.in_err-judge.ensures.cause)
 

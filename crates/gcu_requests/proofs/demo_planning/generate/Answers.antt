@@ -8,7 +8,8 @@ pub returns-in_err-goal-clause-answer : goal.returns-in_err-goal-clause-answer
 returns-in_err-goal-clause-answer c =
     let p = err_from_is_err_and c.from_residual-in_err-goal.result c.from_residual-in_err-goal.ensures.1 in
     rw (p.1, p.2)
-    (no_generated_goal c.args.size.seed c.args.size.ports c.args.ctx (c.in_ok-start.start, c.in_ok-start.goal) c.in_ok-start.ensures.pair
+    (no_generated_goal c.args.size.seed c.args.size.ports c.args.ctx (c.in_ok-start.start, c.in_ok-start.goal)
+    c.in_ok-start.ensures.pair
     c.in_ok-start.start c.in_err-goal.field-0.0 c.in_ok-judge.ensures.answer c.in_err-goal.ensures.answer)
 
 -- a plan may go from the one to the other

@@ -8,7 +8,8 @@ pub returns-in_err-ctx-clause-answer : goal.returns-in_err-ctx-clause-answer
 returns-in_err-ctx-clause-answer g c =
     let p = err_from_is_err_and c.from_residual.result c.from_residual.ensures.1 in
     rw (p.1, p.2)
-    (no_demo_ctx (g.H.Host.told c.args.host.now) c.args.size.seed c.args.size.ports c.in_err-ctx.field-0.0 c.in_err-ctx.ensures.answer)
+    (no_demo_ctx (g.H.Host.told c.args.host.now)
+    c.args.size.seed c.args.size.ports c.in_err-ctx.field-0.0 c.in_err-ctx.ensures.answer)
 
 -- there is what is generated
 pub returns-clause-answer : goal.returns-clause-answer

@@ -15,7 +15,8 @@ returns-then-not-has_keys c = (
   c.if-not-has_keys.ensures,
   λ u less.
       at_each (HasKeysAt c.args.ctx.now c.args.config.now) c.args.config.now u
-      (passed_below (HasKeysAt c.args.ctx.now c.args.config.now) c.args.config.now c.loop-i.i c.loop-i.invariant c.name_at-name.result.now
+      (passed_below (HasKeysAt c.args.ctx.now c.args.config.now)
+      c.args.config.now c.loop-i.i c.loop-i.invariant c.name_at-name.result.now
       c.len-i-end.ensures.formed.shaped.rising c.name_at-name.ensures u less)
       (absent c.args.ctx.now c.args.config.now u),
 )

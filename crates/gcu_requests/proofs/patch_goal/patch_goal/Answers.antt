@@ -8,7 +8,8 @@ pub returns-in_err-patch-clause-answer : goal.returns-in_err-patch-clause-answer
 returns-in_err-patch-clause-answer g c =
     let p = err_from_is_err_and c.from_residual.result c.from_residual.ensures.1 in
     rw (p.1, p.2)
-    (no_made (g.H.Host.told c.args.host.now) c.args.path.now c.args.start.now c.in_err-patch.field-0.0 c.in_err-patch.ensures.answer)
+    (no_made (g.H.Host.told c.args.host.now)
+    c.args.path.now c.args.start.now c.in_err-patch.field-0.0 c.in_err-patch.ensures.answer)
 
 -- there is a patch
 pub returns-clause-answer : goal.returns-clause-answer

@@ -9,7 +9,8 @@ pub returns-in_err-goal-clause-answer : goal.returns-in_err-goal-clause-answer
 returns-in_err-goal-clause-answer g c =
     let p = err_from_is_err_and c.from_residual.result c.from_residual.ensures.1 in
     rw (p.1, p.2)
-    (no_goal (g.H.Host.told c.args.host.now) (target_view c.args.target) c.args.ctx.now c.args.start.now c.in_err-goal.field-0.0 c.in_err-goal.ensures.answer)
+    (no_goal (g.H.Host.told c.args.host.now) (target_view c.args.target)
+    c.args.ctx.now c.args.start.now c.in_err-goal.field-0.0 c.in_err-goal.ensures.answer)
 
 -- it is judged
 pub returns-clause-answer : goal.returns-clause-answer

@@ -9,7 +9,8 @@ pub returns-in_err-held-clause-answer : goal.returns-in_err-held-clause-answer
 returns-in_err-held-clause-answer g c =
     let p = err_from_is_err_and c.from_residual.result c.from_residual.ensures.1 in
     rw (p.1, p.2)
-    (gate_closed (g.H.Host.told c.args.host.now) (target_view c.args.target) c.args.budget c.in_err-held.field-0.0 c.in_err-held.ensures.answer)
+    (gate_closed (g.H.Host.told c.args.host.now) (target_view c.args.target)
+    c.args.budget c.in_err-held.field-0.0 c.in_err-held.ensures.answer)
 
 -- none was, or it is resumed
 pub read_needs-requires-clause-held : goal.read_needs-requires-clause-held

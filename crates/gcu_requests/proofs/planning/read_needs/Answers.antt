@@ -9,14 +9,16 @@ pub returns-in_err-ctx-clause-answer : goal.returns-in_err-ctx-clause-answer
 returns-in_err-ctx-clause-answer g c =
     let p = err_from_is_err_and c.from_residual.result c.from_residual.ensures.1 in
     rw (p.1, p.2)
-    (no_plan_ctx (g.H.Host.told c.args.host.now) (target_view c.args.target) c.args.budget c.in_err-ctx.field-0.0 c.in_err-ctx.ensures.answer)
+    (no_plan_ctx (g.H.Host.told c.args.host.now) (target_view c.args.target)
+    c.args.budget c.in_err-ctx.field-0.0 c.in_err-ctx.ensures.answer)
 
 -- there is no start
 pub returns-in_err-stored-clause-answer : goal.returns-in_err-stored-clause-answer
 returns-in_err-stored-clause-answer g c =
     let p = err_from_is_err_and c.from_residual-in_err-stored.result c.from_residual-in_err-stored.ensures.1 in
     rw (p.1, p.2)
-    (no_plan_start (g.H.Host.told c.args.host.now) (target_view c.args.target) c.args.budget c.in_ok-ctx.ctx c.in_err-stored.field-0.0 c.in_ok-ctx.ensures.answer
+    (no_plan_start (g.H.Host.told c.args.host.now) (target_view c.args.target)
+    c.args.budget c.in_ok-ctx.ctx c.in_err-stored.field-0.0 c.in_ok-ctx.ensures.answer
     (rw c.in_ok-ctx.ensures.reads.state at c.in_err-stored.ensures.answer))
 
 -- there is no goal
@@ -28,7 +30,8 @@ pub returns-in_err-goal-clause-answer : goal.returns-in_err-goal-clause-answer
 returns-in_err-goal-clause-answer g c =
     let p = err_from_is_err_and c.from_residual-in_err-goal.result c.from_residual-in_err-goal.ensures.1 in
     rw (p.1, p.2)
-    (no_plan_goal (g.H.Host.told c.args.host.now) (target_view c.args.target) c.args.budget c.in_ok-ctx.ctx c.in_ok-stored.stored c.in_err-goal.field-0.0 c.in_ok-ctx.ensures.answer
+    (no_plan_goal (g.H.Host.told c.args.host.now) (target_view c.args.target)
+    c.args.budget c.in_ok-ctx.ctx c.in_ok-stored.stored c.in_err-goal.field-0.0 c.in_ok-ctx.ensures.answer
     (rw c.in_ok-ctx.ensures.reads.state at c.in_ok-stored.ensures.answer)
     (rw (c.in_ok-stored.ensures.reads.state, c.in_ok-ctx.ensures.reads.state) at c.in_err-goal.ensures.answer))
 

@@ -15,14 +15,16 @@ pub returns-in_err-judge-clause-answer : goal.returns-in_err-judge-clause-answer
 returns-in_err-judge-clause-answer g c =
     let p = err_from_is_err_and c.from_residual-in_err-judge.result c.from_residual-in_err-judge.ensures.1 in
     rw (p.1, p.2)
-    (start_found (g.H.Host.told c.args.host.now) c.args.ctx.now c.in_ok-what.what (Err c.in_err-judge.field-0.0) c.in_ok-what.ensures.answer
+    (start_found (g.H.Host.told c.args.host.now) c.args.ctx.now c.in_ok-what.what (Err c.in_err-judge.field-0.0)
+    c.in_ok-what.ensures.answer
     c.in_err-judge.ensures.answer c.in_err-judge.ensures.cause)
 
 pub returns-in_err-judge-clause-cause : goal.returns-in_err-judge-clause-cause
 returns-in_err-judge-clause-cause g c =
     let p = err_from_is_err_and c.from_residual-in_err-judge.result c.from_residual-in_err-judge.ensures.1 in
     rw (p.1, p.2)
-    (always_refuses {X = Unit {0}} (Err c.in_err-judge.field-0.0) (g.H.Host.counts c.args.host.now) (g.H.Host.counts c.read_folder.new.host) c.in_err-judge.ensures.cause)
+    (always_refuses {X = Unit {0}} (Err c.in_err-judge.field-0.0) (g.H.Host.counts c.args.host.now)
+    (g.H.Host.counts c.read_folder.new.host) c.in_err-judge.ensures.cause)
 
 pub returns-clause-answer : goal.returns-clause-answer
 returns-clause-answer g c =

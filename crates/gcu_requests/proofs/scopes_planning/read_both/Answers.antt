@@ -9,7 +9,8 @@ pub returns-in_err-stored-clause-answer : goal.returns-in_err-stored-clause-answ
 returns-in_err-stored-clause-answer g c = λ budget.
     let p = err_from_is_err_and c.from_residual.result c.from_residual.ensures.1 in
     rw (p.1, p.2)
-    (no_start c.args.ctx.now budget (operations c.args.patch.now) (g.H.Host.told c.args.host.now) c.in_err-stored.field-0.0 c.in_err-stored.ensures.answer)
+    (no_start c.args.ctx.now budget (operations c.args.patch.now) (g.H.Host.told c.args.host.now)
+    c.in_err-stored.field-0.0 c.in_err-stored.ensures.answer)
 
 pub returns-clause-answer : goal.returns-clause-answer
 returns-clause-answer g c = λ budget.

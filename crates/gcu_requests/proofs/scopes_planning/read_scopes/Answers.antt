@@ -16,7 +16,8 @@ use Rattle.gcu_requests.proofs.scopes_planning.read_scopes.Goals as goal
 pub loop-part-init : goal.loop-part-init
 loop-part-init g c = record {
   found =
-      λ budget. none_found part_of (scope_planning c.args.ctx.now budget) (part_asked c.args.ctx.now budget) c.args.parts.now (g.H.Host.told c.args.host.now) c.new-all.result c.new-all.ensures;
+      λ budget. none_found part_of (scope_planning c.args.ctx.now budget) (part_asked c.args.ctx.now budget)
+      c.args.parts.now (g.H.Host.told c.args.host.now) c.new-all.result c.new-all.ensures;
   ready = subst (AreReady c.args.ctx.now) (sym c.new-all.ensures) tt;
   scopes = ap (map (λ (e : ScopeEnds). e.scope)) c.new-all.ensures;
   stands = none_stands (g.H.Host.told c.args.host.now) c.new-all.result c.new-all.ensures;
@@ -64,7 +65,9 @@ pub returns-in_err-found-clause-answer : goal.returns-in_err-found-clause-answer
 returns-in_err-found-clause-answer g c = λ budget.
     let p = err_from_is_err_and c.from_residual.result c.from_residual.ensures.1 in
     rw (p.1, p.2)
-    (refused_among part_of (scope_planning c.args.ctx.now budget) (part_asked c.args.ctx.now budget) c.args.parts.now c.loop-part.part-index c.part-item.result (g.H.Host.told c.args.host.now) (g.H.Host.told c.loop-part.host) c.loop-part.all c.in_err-found.field-0.0
+    (refused_among part_of (scope_planning c.args.ctx.now budget) (part_asked c.args.ctx.now budget)
+    c.args.parts.now c.loop-part.part-index c.part-item.result (g.H.Host.told c.args.host.now)
+    (g.H.Host.told c.loop-part.host) c.loop-part.all c.in_err-found.field-0.0
     c.loop-part-test.true c.part-item.is c.loop-part.invariant.still.tells (c.loop-part.invariant.found budget)
     (c.in_err-found.ensures.answer budget))
 

@@ -12,7 +12,8 @@ use Rattle.gcu_requests.proofs.scopes_planning.read_scopes.Given as goal
 abbrev pub invariant-loop-part : goal.invariant-loop-part
 invariant-loop-part g l = record {
   found : (budget : ℕ)
-      → IfSome (g.H.Host.told l.fn.host) (λ s. AreFound (scope_planning l.ctx budget) (part_asked l.ctx budget s) (map part_of (take l.part-index l.parts)) l.all);
+      → IfSome (g.H.Host.told l.fn.host) (λ s. AreFound (scope_planning l.ctx budget) (part_asked l.ctx budget s)
+      (map part_of (take l.part-index l.parts)) l.all);
   ready : AreReady l.ctx l.all;
   scopes : map (λ (e : ScopeEnds). e.scope) l.all ≡ map (λ (p : Scoped). p.scope) (take l.part-index l.parts);
   stands : IfSome (g.H.Host.told l.fn.host) (StandsInEach l.all);

@@ -18,8 +18,10 @@ pub returns-in_ok-more-in-len1-up-clause-answer : goal.returns-in_ok-more-in-len
 returns-in_ok-more-in-len1-up-clause-answer g t c =
     let told = g.H.Host.told c.args.host.now in
     let rest = take (length c.args.lines.now - 1) (drop 1 c.args.lines.now) in
-    subst (λ (ls : List ScriptLine). Finds told patched_all c.input_patches.result (patches_asked (patched_all c.args.found) ls))
-    (ap (λ (l : ScriptLine). l ∷ rest) c.line-item.is ∙ first_and_others c.line-item.result c.args.lines.now c.in-len1-up.len_at_least)
+    subst (λ (ls : List ScriptLine). Finds told patched_all
+    c.input_patches.result (patches_asked (patched_all c.args.found) ls))
+    (ap (λ (l : ScriptLine). l ∷ rest) c.line-item.is ∙
+    first_and_others c.line-item.result c.args.lines.now c.in-len1-up.len_at_least)
     (line_found told c.args.found c.in_ok-more-in-len1-up.more c.line-item.result rest c.input_patches.result
     c.in_ok-more-in-len1-up.ensures.answer
     (rw c.in_ok-more-in-len1-up.ensures.reads.state at c.input_patches.ensures.answer))

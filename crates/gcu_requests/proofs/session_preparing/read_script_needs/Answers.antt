@@ -10,14 +10,16 @@ pub returns-in_err-ctx-clause-answer : goal.returns-in_err-ctx-clause-answer
 returns-in_err-ctx-clause-answer g c =
     let p = err_from_is_err_and c.from_residual.result c.from_residual.ensures.1 in
     rw (p.1, p.2)
-    (no_script_ctx c.args.path.now c.args.budget (g.H.Host.told c.args.host.now) c.in_err-ctx.field-0.0 c.in_err-ctx.ensures.answer)
+    (no_script_ctx c.args.path.now c.args.budget (g.H.Host.told c.args.host.now)
+    c.in_err-ctx.field-0.0 c.in_err-ctx.ensures.answer)
 
 -- there is no start
 pub returns-in_err-stored-clause-answer : goal.returns-in_err-stored-clause-answer
 returns-in_err-stored-clause-answer g c =
     let p = err_from_is_err_and c.from_residual-in_err-stored.result c.from_residual-in_err-stored.ensures.1 in
     rw (p.1, p.2)
-    (no_script_start c.args.path.now c.args.budget (g.H.Host.told c.args.host.now) c.in_ok-ctx.ctx c.in_err-stored.field-0.0 c.in_ok-ctx.ensures.answer
+    (no_script_start c.args.path.now c.args.budget (g.H.Host.told c.args.host.now)
+    c.in_ok-ctx.ctx c.in_err-stored.field-0.0 c.in_ok-ctx.ensures.answer
     (rw c.in_ok-ctx.ensures.reads.state at c.in_err-stored.ensures.answer))
 
 -- there are no lines
@@ -25,7 +27,8 @@ pub returns-in_err-script-clause-answer : goal.returns-in_err-script-clause-answ
 returns-in_err-script-clause-answer g c =
     let p = err_from_is_err_and c.from_residual-in_err-script.result c.from_residual-in_err-script.ensures.1 in
     rw (p.1, p.2)
-    (no_script_lines c.args.path.now c.args.budget (g.H.Host.told c.args.host.now) c.in_ok-ctx.ctx c.in_ok-stored.stored c.in_err-script.field-0.0 c.in_ok-ctx.ensures.answer
+    (no_script_lines c.args.path.now c.args.budget (g.H.Host.told c.args.host.now)
+    c.in_ok-ctx.ctx c.in_ok-stored.stored c.in_err-script.field-0.0 c.in_ok-ctx.ensures.answer
     (rw c.in_ok-ctx.ensures.reads.state at c.in_ok-stored.ensures.answer)
     (rw (c.in_ok-stored.ensures.reads.state, c.in_ok-ctx.ensures.reads.state) at c.in_err-script.ensures.answer))
 
@@ -34,10 +37,17 @@ pub returns-in_err-patches-clause-answer : goal.returns-in_err-patches-clause-an
 returns-in_err-patches-clause-answer g c =
     let p = err_from_is_err_and c.from_residual-in_err-patches.result c.from_residual-in_err-patches.ensures.1 in
     rw (p.1, p.2)
-    (no_script_patches c.args.path.now c.args.budget (g.H.Host.told c.args.host.now) c.in_ok-ctx.ctx c.in_ok-stored.stored c.in_ok-script.script c.in_err-patches.field-0.0 c.in_ok-ctx.ensures.answer
+    (no_script_patches c.args.path.now c.args.budget (g.H.Host.told c.args.host.now)
+    c.in_ok-ctx.ctx c.in_ok-stored.stored c.in_ok-script.script c.in_err-patches.field-0.0 c.in_ok-ctx.ensures.answer
     (rw c.in_ok-ctx.ensures.reads.state at c.in_ok-stored.ensures.answer)
     (rw (c.in_ok-stored.ensures.reads.state, c.in_ok-ctx.ensures.reads.state) at c.in_ok-script.ensures.answer)
-    (rw (c.in_ok-script.ensures.reads.state, c.in_ok-stored.ensures.reads.state, c.in_ok-ctx.ensures.reads.state, c.items.ensures, c.new.ensures) at c.in_err-patches.ensures.answer))
+    (rw (
+      c.in_ok-script.ensures.reads.state,
+      c.in_ok-stored.ensures.reads.state,
+      c.in_ok-ctx.ensures.reads.state,
+      c.items.ensures,
+      c.new.ensures,
+    ) at c.in_err-patches.ensures.answer))
 
 -- there is all that a script needs
 pub returns-clause-answer : goal.returns-clause-answer
@@ -45,7 +55,13 @@ returns-clause-answer g c =
     script_ready c.args.path.now c.args.budget (g.H.Host.told c.args.host.now) _ refl c.in_ok-ctx.ensures.answer
     (rw c.in_ok-ctx.ensures.reads.state at c.in_ok-stored.ensures.answer)
     (rw (c.in_ok-stored.ensures.reads.state, c.in_ok-ctx.ensures.reads.state) at c.in_ok-script.ensures.answer)
-    (rw (c.in_ok-script.ensures.reads.state, c.in_ok-stored.ensures.reads.state, c.in_ok-ctx.ensures.reads.state, c.items.ensures, c.new.ensures) at c.in_ok-patches.ensures.answer)
+    (rw (
+      c.in_ok-script.ensures.reads.state,
+      c.in_ok-stored.ensures.reads.state,
+      c.in_ok-ctx.ensures.reads.state,
+      c.items.ensures,
+      c.new.ensures,
+    ) at c.in_ok-patches.ensures.answer)
 
 -- ---- what is left as it was
 

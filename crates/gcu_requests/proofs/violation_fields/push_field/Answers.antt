@@ -8,7 +8,12 @@ pub returns-in-UnknownField : goal.returns-in-UnknownField
 returns-in-UnknownField c =
     let row = row_of c.args.table.now c.args.key.now c.args.fields.now in
     on_ok_weaker c.push_field_name.result
-    (λ h. (field_name row c.args.field, h, is_field c.args.models.now row c.args.rule c.args.field c.in-UnknownField.is))
+    (λ h. (
+      field_name row c.args.field,
+      h,
+      is_field c.args.models.now row
+          c.args.rule c.args.field c.in-UnknownField.is,
+    ))
     (c.push_field_name.ensures c.args.table.now c.args.key.now)
 
 pub returns-in-Some : goal.returns-in-Some

@@ -18,7 +18,8 @@ returns-in-Some c = λ b is breach.
     subst (λ i. slice_get entries i ≡ Some (key, fields)) (ap (λ w. w.key) is)
     (pair_at entries v.key key fields c.name_at-key.ensures c.part_at-fields.ensures.part) in
     on_ok_weaker c.push_field.result
-    (names_added c.args.models.now config b breach.row table key fields c.in-Some.rule v.field c.args.names.now c.push.new.self c.push-2.new.self c.push_field.new.names
+    (names_added c.args.models.now config b breach.row table key fields
+    c.in-Some.rule v.field c.args.names.now c.push.new.self c.push-2.new.self c.push_field.new.names
     breach.at (entry_at c.args.models.now config b.table b.key table key entries fields breach.row at at_key breach.at)
     (rule_is b v c.rule_numbered.result c.in-Some.rule is c.rule_numbered.ensures c.in-Some.is) (ap (λ w. w.field) is)
     (c.in_ok-push.ensures.ok ∙ ap (λ n. c.args.names.now ++ n ∷ []) c.in_ok-new.ensures)

@@ -19,8 +19,10 @@ returns-in_err-planning-clause-finds g c =
     let old = c.args.host.now in
     let new = c.prepare_demo.new.host in
     rw (p.1, p.2)
-    (text_ended host (demo_asked c.args.size.seed c.args.size.ports) old new c.prepare_demo.ensures.reads c.in_err-planning.field-0.0
-    (steps_refused (host.told old) c.args.size.seed c.args.size.ports c.in_err-planning.field-0.0 (host.counts old) (host.counts new)
+    (text_ended host (demo_asked c.args.size.seed c.args.size.ports) old new
+    c.prepare_demo.ensures.reads c.in_err-planning.field-0.0
+    (steps_refused (host.told old) c.args.size.seed c.args.size.ports c.in_err-planning.field-0.0 (host.counts old)
+    (host.counts new)
     c.in_err-planning.ensures.cause c.in_err-planning.ensures.answer)
     (refuses_ends (host.counts old) (host.counts new) c.in_err-planning.field-0.0 c.in_err-planning.ensures.cause))
 
@@ -32,17 +34,21 @@ returns-in_err-plan-clause-finds g c =
     let old = c.args.host.now in
     let new = c.prepare_demo.new.host in
     rw (p.1, p.2)
-    (text_ended host (demo_asked c.args.size.seed c.args.size.ports) old new c.prepare_demo.ensures.reads c.in_err-plan.field-0.0
-    (steps_say (host.told old) c.args.size.seed c.args.size.ports c.in_ok-planning.planning (Err c.in_err-plan.field-0.0)
+    (text_ended host (demo_asked c.args.size.seed c.args.size.ports) old new
+    c.prepare_demo.ensures.reads c.in_err-plan.field-0.0
+    (steps_say (host.told old)
+    c.args.size.seed c.args.size.ports c.in_ok-planning.planning (Err c.in_err-plan.field-0.0)
     c.in_ok-planning.ensures.answer c.in_err-plan.ensures.answer)
-    (solved_ends c.in_ok-planning.planning (Err c.in_err-plan.field-0.0) (host.counts old) (host.counts new) c.in_err-plan.ensures.answer))
+    (solved_ends c.in_ok-planning.planning (Err c.in_err-plan.field-0.0) (host.counts old) (host.counts new)
+    c.in_err-plan.ensures.answer))
 
 -- memory is wanting for the text
 pub returns-in_err-text-clause-finds : goal.returns-in_err-text-clause-finds
 returns-in_err-text-clause-finds g c =
     let p = err_from_is_err_and c.from_residual-in_err-text.result c.from_residual-in_err-text.ensures.1 in
     rw (p.1, p.2)
-    (text_wanting g.H.Host (demo_asked c.args.size.seed c.args.size.ports) c.args.host.now c.prepare_demo.new.host c.prepare_demo.ensures.reads)
+    (text_wanting g.H.Host (demo_asked c.args.size.seed c.args.size.ports)
+    c.args.host.now c.prepare_demo.new.host c.prepare_demo.ensures.reads)
 
 -- its steps are counted
 pub returns-clause-finds : goal.returns-clause-finds

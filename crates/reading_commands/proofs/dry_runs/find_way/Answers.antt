@@ -14,7 +14,8 @@ pub returns-in_err-plan-clause-finds : goal.returns-in_err-plan-clause-finds
 returns-in_err-plan-clause-finds g c =
     let p = err_from_is_err_and c.from_residual.result c.from_residual.ensures.1 in
     rw (p.1, p.2)
-    (text_ended g.H.Host (dry_run_asked (reach (target_view c.args.target)) c.args.budget) c.args.host.now c.solve.new.host
+    (text_ended g.H.Host (dry_run_asked (reach (target_view c.args.target)) c.args.budget)
+    c.args.host.now c.solve.new.host
     c.solve.ensures.reads c.in_err-plan.field-0.0 c.in_err-plan.ensures.says c.in_err-plan.ensures.cause)
 
 -- memory is wanting for the text
@@ -22,7 +23,8 @@ pub returns-in_err-text-clause-finds : goal.returns-in_err-text-clause-finds
 returns-in_err-text-clause-finds g c =
     let p = err_from_is_err_and c.from_residual-in_err-text.result c.from_residual-in_err-text.ensures.1 in
     rw (p.1, p.2)
-    (text_wanting g.H.Host (dry_run_asked (reach (target_view c.args.target)) c.args.budget) c.args.host.now c.solve.new.host c.solve.ensures.reads)
+    (text_wanting g.H.Host (dry_run_asked (reach (target_view c.args.target)) c.args.budget)
+    c.args.host.now c.solve.new.host c.solve.ensures.reads)
 
 -- it is written
 pub returns-clause-finds : goal.returns-clause-finds

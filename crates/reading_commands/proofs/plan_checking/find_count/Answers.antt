@@ -11,14 +11,16 @@ pub returns-in_err-count : goal.returns-in_err-count
 returns-in_err-count g c =
     let p = err_from_is_err_and c.from_residual.result c.from_residual.ensures.1 in
     rw (p.1, p.2)
-    (text_refused g.H.Host (check_plan_asked c.args.patch.now c.args.plan.now) c.args.host.now c.judge_plan.new.host c.judge_plan.ensures.reads accept_plan
+    (text_refused g.H.Host (check_plan_asked c.args.patch.now c.args.plan.now)
+    c.args.host.now c.judge_plan.new.host c.judge_plan.ensures.reads accept_plan
     c.in_err-count.field-0.0 c.in_err-count.ensures.answer c.in_err-count.ensures.cause)
 
 pub returns-in_err-text : goal.returns-in_err-text
 returns-in_err-text g c =
     let p = err_from_is_err_and c.from_residual-in_err-text.result c.from_residual-in_err-text.ensures.1 in
     rw (p.1, p.2)
-    (text_wanting g.H.Host (check_plan_asked c.args.patch.now c.args.plan.now) c.args.host.now c.judge_plan.new.host c.judge_plan.ensures.reads)
+    (text_wanting g.H.Host (check_plan_asked c.args.patch.now c.args.plan.now)
+    c.args.host.now c.judge_plan.new.host c.judge_plan.ensures.reads)
 
 pub returns : goal.returns
 returns g c =

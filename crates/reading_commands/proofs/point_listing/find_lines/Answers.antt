@@ -13,7 +13,8 @@ pub returns-in_err-all : goal.returns-in_err-all
 returns-in_err-all g c =
     let p = err_from_is_err_and c.from_residual.result c.from_residual.ensures.1 in
     rw (p.1, p.2)
-    (text_refused g.H.Host list_asked c.args.host.now c.find_numbers.new.host (of_files c.find_numbers.ensures.reads) (λ all. list_checkpoints (map numbered_view all))
+    (text_refused g.H.Host list_asked c.args.host.now c.find_numbers.new.host (of_files c.find_numbers.ensures.reads)
+    (λ all. list_checkpoints (map numbered_view all))
     c.in_err-all.field-0.0 c.in_err-all.ensures.answer c.in_err-all.ensures.cause)
 
 pub returns-in_err-text : goal.returns-in_err-text

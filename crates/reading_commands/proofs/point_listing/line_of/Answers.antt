@@ -7,9 +7,13 @@ pub returns-in-Some : goal.returns-in-Some
 returns-in-Some c =
     subst (λ (o : Option ℕ). IfOk c.format.result (λ t. string_bytes t ≡ named_number (c.args.numbered.now.name, o)))
     (sym c.in-Some.is)
-    (IfOk-weaker c.format.result _ _ (λ s h. let g = rw c.as_str-name.ensures.text at h in simp append_assoc g) c.format.ensures.ok)
+    (IfOk-weaker c.format.result _ _ (λ s h. let g = rw c.as_str-name.ensures.text at h in
+    simp append_assoc g) c.format.ensures.ok)
 
 pub returns-in-None : goal.returns-in-None
 returns-in-None c =
-    subst (λ (o : Option ℕ). IfOk c.format-in-None.result (λ t. string_bytes t ≡ named_number (c.args.numbered.now.name, o))) (sym c.in-None.is)
-    (IfOk-weaker c.format-in-None.result _ _ (λ s h. let g = rw c.as_str-name.ensures.text at h in simp append_assoc g) c.format-in-None.ensures.ok)
+    subst (λ (o : Option ℕ). IfOk c.format-in-None.result (λ t. string_bytes t
+    ≡ named_number (c.args.numbered.now.name, o)))
+    (sym c.in-None.is)
+    (IfOk-weaker c.format-in-None.result _ _ (λ s h. let g = rw c.as_str-name.ensures.text at h in
+    simp append_assoc g) c.format-in-None.ensures.ok)

@@ -18,7 +18,8 @@ loop-numbered-preserved c =
     c.loop-numbered.invariant
     ∙ ap (λ ns. text ++ point_lines (map numbered_view ns)) next
     ∙ sym
-    (append_assoc text (named_number (numbered_view x) ++ line_feed) (point_lines (map numbered_view (drop (i + 1) all))))
+    (append_assoc text (named_number (numbered_view x) ++ line_feed)
+    (point_lines (map numbered_view (drop (i + 1) all))))
     ∙ ap (λ b. b ++ point_lines (map numbered_view (drop (i + 1) all))) (sym (c.in_ok-push_point.ensures ∙ line))
 
 pub returns : goal.returns
@@ -26,4 +27,5 @@ returns c =
     let all = c.args.all.now in
     let text = c.loop-numbered.text.items in
     let i = c.loop-numbered.numbered-index in
-    sym (c.loop-numbered.invariant ∙ ap (λ b. text ++ b) (at_drop_all (λ ns. point_lines (map numbered_view ns)) all i c.loop-numbered-test.false) ∙ append-nil text)
+    sym (c.loop-numbered.invariant ∙ ap (λ b. text ++ b) (at_drop_all (λ ns. point_lines (map numbered_view ns)) all i
+    c.loop-numbered-test.false) ∙ append-nil text)

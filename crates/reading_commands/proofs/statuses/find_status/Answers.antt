@@ -12,7 +12,8 @@ pub returns-in_err-status : goal.returns-in_err-status
 returns-in_err-status g c =
     let p = err_from_is_err_and c.from_residual.result c.from_residual.ensures.1 in
     rw (p.1, p.2)
-    (text_refused g.H.Host status_asked c.args.host.now c.read_status.new.host (of_files c.read_status.ensures.reads) status_request
+    (text_refused g.H.Host status_asked c.args.host.now c.read_status.new.host (of_files c.read_status.ensures.reads)
+    status_request
     c.in_err-status.field-0.0 c.in_err-status.ensures.answer c.in_err-status.ensures.cause)
 
 pub returns-in_err-text : goal.returns-in_err-text

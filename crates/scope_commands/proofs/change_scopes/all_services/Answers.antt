@@ -8,7 +8,8 @@ use Rattle.scope_commands.proofs.change_scopes.all_services.Goals as goal
 
 pub loop-plan-preserved : goal.loop-plan-preserved
 loop-plan-preserved c =
-    services_on c.args.settings.now c.items-plan-items.result.now c.loop-plan.plan-index c.plan-item.result c.loop-plan.all _ c.loop-plan-test.true c.plan-item.is
+    services_on c.args.settings.now c.items-plan-items.result.now c.loop-plan.plan-index c.plan-item.result
+    c.loop-plan.all _ c.loop-plan-test.true c.plan-item.is
     c.loop-plan.invariant c.in_ok-push_services.ensures
 
 pub returns : goal.returns

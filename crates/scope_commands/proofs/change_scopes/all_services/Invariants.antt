@@ -6,4 +6,5 @@ use Rattle.scope_commands.proofs.change_scopes.all_services.Given as goal
 
 -- the services of the first plans
 abbrev pub invariant-loop-plan : goal.invariant-loop-plan
-invariant-loop-plan l = l.all ≡ flat_map (λ (p : code.ScopePlan). map (services_of l.settings) p.plan) (take l.plan-index l.plan-items)
+invariant-loop-plan l =
+    l.all ≡ flat_map (λ (p : code.ScopePlan). map (services_of l.settings) p.plan) (take l.plan-index l.plan-items)

@@ -12,11 +12,16 @@ pub loop-k-preserved : goal.loop-k-preserved
 loop-k-preserved c =
     c.in_ok-push.ensures.ok
     ∙ ap (λ (l : List (List ℕ)). l ++ c.in_ok-services_of.field-0 ∷ []) c.loop-k.invariant
-    ∙ append_assoc c.args.all.now (map (services_of c.args.settings.now) (take c.loop-k.k c.args.plan.now)) (c.in_ok-services_of.field-0 ∷ [])
+    ∙ append_assoc c.args.all.now (map (services_of c.args.settings.now) (take c.loop-k.k c.args.plan.now))
+    (c.in_ok-services_of.field-0 ∷ [])
     ∙ ap (λ (l : List (List ℕ)). c.args.all.now ++ l)
-    (map_next (services_of c.args.settings.now) c.args.plan.now c.loop-k.k c.at.result.now c.in_ok-services_of.field-0 (map (services_of c.args.settings.now) (take c.loop-k.k c.args.plan.now)) c.at.ensures c.in_ok-services_of.ensures refl)
+    (map_next (services_of c.args.settings.now)
+    c.args.plan.now c.loop-k.k c.at.result.now c.in_ok-services_of.field-0 (map (services_of c.args.settings.now)
+    (take c.loop-k.k c.args.plan.now))
+    c.at.ensures c.in_ok-services_of.ensures refl)
 
 pub returns : goal.returns
 returns c =
     c.loop-k.invariant
-    ∙ ap (λ (ms : List Move). c.args.all.now ++ map (services_of c.args.settings.now) ms) (take_all c.loop-k.k c.args.plan.now (omega (arith, c.len-k-end.ensures, c.loop-k-test.false)))
+    ∙ ap (λ (ms : List Move). c.args.all.now ++ map (services_of c.args.settings.now) ms)
+    (take_all c.loop-k.k c.args.plan.now (omega (arith, c.len-k-end.ensures, c.loop-k-test.false)))

@@ -13,5 +13,6 @@ invariant-loop-scope g l = record {
       AreOfKinds (λ b. (g.dyn-1.0.entry b.vtable).1.gen_kind b.value) generator_kinds l.kit.gens.items
       × AreOfKinds (λ b. (g.dyn-2.0.entry b.vtable).1.ext_kind b.value) extender_kinds l.kit.exts.items
       × AreOfKinds (λ b. (g.dyn-3.0.entry b.vtable).1.rule_kind b.value) rule_kinds l.kit.rules.items;
-  found : AreFound scope_plan solved_asked (map (scope_planning l.all.ctx l.all.budget) (take l.scope-index l.scope-items)) l.plans;
+  found : AreFound scope_plan solved_asked
+      (map (scope_planning l.all.ctx l.all.budget) (take l.scope-index l.scope-items)) l.plans;
 }

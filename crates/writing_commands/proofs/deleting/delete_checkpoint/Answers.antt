@@ -4,6 +4,7 @@ use Rattle.gcu_requests.specs.Asked.{delete_asked}
 use Rattle.command_answers.proofs.Causes.{disk_fell, ended_cause}
 use Rattle.command_answers.proofs.Completing.{completes}
 use Rattle.command_answers.proofs.Elapsing.{asking_prints}
+use Rattle.writing_commands.proofs.SettledWrites.{told_settles}
 use Rattle.writing_commands.proofs.Unwritten.{unwritten_tells}
 use Rattle.writing_commands.proofs.Writing.{comes_first, outcome_cause, told_answers}
 use Rattle.writing_commands.proofs.deleting.delete_checkpoint.Goals as goal
@@ -48,6 +49,15 @@ returns-clause-early g c = λ refusal.
     c.args.host.now c.remove_checkpoint-done.new.host c.tell.new.host c.remove_checkpoint-done.ensures.left
     c.remove_checkpoint-done.ensures.cause c.remove_checkpoint-done.ensures.early c.tell.ensures.told
     c.tell.ensures.time refusal
+
+pub returns-clause-settles : goal.returns-clause-settles
+returns-clause-settles g c =
+    told_settles g.H.Host.moment g.H.Host.left_since (delete_asked c.args.name.now) (g.H.Host.told c.args.host.now)
+    (g.H.Host.told c.remove_checkpoint-done.new.host) (outcome_of c.remove_checkpoint-done.result) c.args.host.now c.remove_checkpoint-done.new.host
+    c.tell.new.host c.remove_checkpoint-done.ensures.crash.later
+    (λ left since. g.met.H.Host.only_now c.remove_checkpoint-done.new.host left since)
+    (λ left later may. g.met.H.Host.counts_now c.remove_checkpoint-done.new.host (g.H.Host.moment c.remove_checkpoint-done.new.host) left later may)
+    c.remove_checkpoint-done.ensures.settles c.tell.ensures.time
 
 pub returns-clause-complete : goal.returns-clause-complete
 returns-clause-complete g c =

@@ -4,6 +4,7 @@ use Rattle.gcu_requests.specs.InterruptionAsked.{abandon_asked}
 use Rattle.command_answers.proofs.Causes.{disk_fell, ended_cause}
 use Rattle.command_answers.proofs.Completing.{completes}
 use Rattle.command_answers.proofs.Elapsing.{asking_prints}
+use Rattle.writing_commands.proofs.SettledWrites.{told_settles}
 use Rattle.writing_commands.proofs.Unwritten.{unwritten_tells}
 use Rattle.writing_commands.proofs.Writing.{comes_first, outcome_cause, told_answers}
 use Rattle.writing_commands.proofs.giving_up.abandon.Goals as goal
@@ -47,6 +48,15 @@ returns-clause-early g c = λ refusal.
     (g.H.Host.counts c.give_up-done.new.host) (g.H.Host.counts c.tell.new.host) c.tell.result
     c.args.host.now c.give_up-done.new.host c.tell.new.host c.give_up-done.ensures.left c.give_up-done.ensures.cause
     c.give_up-done.ensures.early c.tell.ensures.told c.tell.ensures.time refusal
+
+pub returns-clause-settles : goal.returns-clause-settles
+returns-clause-settles g c =
+    told_settles g.H.Host.moment g.H.Host.left_since abandon_asked (g.H.Host.told c.args.host.now)
+    (g.H.Host.told c.give_up-done.new.host) (outcome_of c.give_up-done.result) c.args.host.now c.give_up-done.new.host
+    c.tell.new.host c.give_up-done.ensures.crash.later
+    (λ left since. g.met.H.Host.only_now c.give_up-done.new.host left since)
+    (λ left later may. g.met.H.Host.counts_now c.give_up-done.new.host (g.H.Host.moment c.give_up-done.new.host) left later may)
+    c.give_up-done.ensures.settles c.tell.ensures.time
 
 pub returns-clause-complete : goal.returns-clause-complete
 returns-clause-complete g c =

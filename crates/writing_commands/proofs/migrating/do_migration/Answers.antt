@@ -14,15 +14,18 @@ returns-in-Ok-clause-answers g c =
     (g.H.Host.told c.end.new.host)
     (g.H.Host.counts c.args.host.now) (g.H.Host.counts c.migrate.new.host) (g.H.Host.counts c.end.new.host) Done
     c.end.result (last_line Done) c.len.result
-    c.len.ensures (all_last c.args.ready.now.migration (g.H.Host.told c.args.host.now) (g.H.Host.told c.migrate.new.host) c.in-Ok.ensures.ok) tt c.end.ensures.ended
+    c.len.ensures (all_last c.args.ready.now.migration (g.H.Host.told c.args.host.now)
+    (g.H.Host.told c.migrate.new.host) c.in-Ok.ensures.ok) tt c.end.ensures.ended
 
 pub returns-in-Ok-clause-any_moment : goal.returns-in-Ok-clause-any_moment
 returns-in-Ok-clause-any_moment g c =
     ends_left g.H.Host.moment g.H.Host.left_since c.args.ready.now.migration (g.H.Host.told c.args.host.now)
     (g.H.Host.told c.migrate.new.host) Done (last_line Done)
     c.args.host.now c.migrate.new.host c.end.new.host
-    (all_last c.args.ready.now.migration (g.H.Host.told c.args.host.now) (g.H.Host.told c.migrate.new.host) c.in-Ok.ensures.ok)
-    (λ left later may. g.met.H.Host.counts_now c.migrate.new.host (g.H.Host.moment c.args.host.now) left later may) c.migrate.ensures.any_moment c.end.ensures.time
+    (all_last c.args.ready.now.migration (g.H.Host.told c.args.host.now) (g.H.Host.told c.migrate.new.host)
+    c.in-Ok.ensures.ok)
+    (λ left later may. g.met.H.Host.counts_now c.migrate.new.host (g.H.Host.moment c.args.host.now) left later may)
+    c.migrate.ensures.any_moment c.end.ensures.time
 
 -- ---- a fault of the disk
 
@@ -36,9 +39,12 @@ returns-in-Err-Disk-clause-answers g c =
     (g.H.Host.counts c.args.host.now) (g.H.Host.counts c.migrate.new.host) (g.H.Host.counts c.end-in-Err-Disk.new.host)
     (DiskFault k) c.end-in-Err-Disk.result c.fault_line-line.result.now k
     refl
-    (subst (λ (t : List ℕ). IsLastIn c.args.ready.now.migration (g.H.Host.told c.args.host.now) (g.H.Host.told c.migrate.new.host) (DiskFault k) t) (sym c.fault_line-line.ensures)
-    (stopped_last c.args.ready.now c.requires.lines (g.H.Host.told c.args.host.now) (g.H.Host.told c.migrate.new.host) k stops))
-    (disk_printed (g.H.Host.counts c.args.host.now) (g.H.Host.counts c.migrate.new.host) (g.H.Host.counts c.end-in-Err-Disk.new.host) c.end-in-Err-Disk.ensures.counts cause)
+    (subst (λ (t : List ℕ). IsLastIn c.args.ready.now.migration (g.H.Host.told c.args.host.now)
+    (g.H.Host.told c.migrate.new.host) (DiskFault k) t) (sym c.fault_line-line.ensures)
+    (stopped_last c.args.ready.now c.requires.lines (g.H.Host.told c.args.host.now) (g.H.Host.told c.migrate.new.host)
+    k stops))
+    (disk_printed (g.H.Host.counts c.args.host.now) (g.H.Host.counts c.migrate.new.host)
+    (g.H.Host.counts c.end-in-Err-Disk.new.host) c.end-in-Err-Disk.ensures.counts cause)
     c.end-in-Err-Disk.ensures.ended
 
 pub returns-in-Err-Disk-clause-any_moment : goal.returns-in-Err-Disk-clause-any_moment
@@ -48,9 +54,12 @@ returns-in-Err-Disk-clause-any_moment g c =
     ends_left g.H.Host.moment g.H.Host.left_since c.args.ready.now.migration (g.H.Host.told c.args.host.now)
     (g.H.Host.told c.migrate.new.host) (DiskFault k) c.fault_line-line.result.now
     c.args.host.now c.migrate.new.host c.end-in-Err-Disk.new.host
-    (subst (λ (t : List ℕ). IsLastIn c.args.ready.now.migration (g.H.Host.told c.args.host.now) (g.H.Host.told c.migrate.new.host) (DiskFault k) t) (sym c.fault_line-line.ensures)
-    (stopped_last c.args.ready.now c.requires.lines (g.H.Host.told c.args.host.now) (g.H.Host.told c.migrate.new.host) k stops))
-    (λ left later may. g.met.H.Host.counts_now c.migrate.new.host (g.H.Host.moment c.args.host.now) left later may) c.migrate.ensures.any_moment c.end-in-Err-Disk.ensures.time
+    (subst (λ (t : List ℕ). IsLastIn c.args.ready.now.migration (g.H.Host.told c.args.host.now)
+    (g.H.Host.told c.migrate.new.host) (DiskFault k) t) (sym c.fault_line-line.ensures)
+    (stopped_last c.args.ready.now c.requires.lines (g.H.Host.told c.args.host.now) (g.H.Host.told c.migrate.new.host)
+    k stops))
+    (λ left later may. g.met.H.Host.counts_now c.migrate.new.host (g.H.Host.moment c.args.host.now) left later may)
+    c.migrate.ensures.any_moment c.end-in-Err-Disk.ensures.time
 
 -- ---- a print fault
 

@@ -7,6 +7,9 @@ use Rattle.gcu_requests.specs.Asked.{migrate_asked}
 use Rattle.command_answers.proofs.Causes.{disk_fell}
 use Rattle.writing_commands.proofs.MigrationReadiness.{due_ready, gives_ready, left_ready, refused_since, unsettled_ready}
 use Rattle.writing_commands.proofs.Readiness.{of_ok}
+use Rattle.command_answers.specs.Commands.{IsReady, LeftTo}
+use Rattle.writing_commands.specs.Doing.{IsKeptOrSettled, LeavesSettled}
+use Rattle.writing_commands.proofs.SettledWrites.{err_gives, leaves_on, reads_on, settled_again, settled_on}
 use Rattle.writing_commands.proofs.Unwritten.{unwritten_reads}
 use Rattle.writing_commands.proofs.Writing.{asking_goes_on, asking_settles}
 use Rattle.writing_commands.proofs.migrating.make_ready.Goals as goal
@@ -83,3 +86,39 @@ returns-in-Err-clause-early g c =
     unwritten_reads g.H.Host.moment g.H.Host.left_since (g.H.Host.told c.args.host.now)
     (g.H.Host.told c.settle.new.self) c.args.host.now c.settle.new.self (inl c.in-Err.ensures.err)
     (λ left since. g.met.H.Host.only_now c.args.host.now left since) c.settle.ensures.time
+
+-- ---- what is pending is settled first
+
+pub returns-in-Ok-clause-settles : goal.returns-in-Ok-clause-settles
+returns-in-Ok-clause-settles g c =
+    let mid = g.H.Host.told c.settle.new.self in
+    let new = g.H.Host.told c.ready_settled.new.host in
+    err_gives (IsReady migrate_asked mid new)
+    (IsKeptOrSettled g.H.Host.moment g.H.Host.left_since c.args.host.now c.ready_settled.new.host (g.H.Host.told c.args.host.now) new migrate_asked)
+    (λ e ready.
+    settled_on g.H.Host.moment g.H.Host.left_since migrate_asked (g.H.Host.told c.args.host.now) mid new e
+    c.args.host.now c.settle.new.self c.ready_settled.new.host c.in-Ok.ensures.ok c.settle.ensures.time
+    (reads_on g.H.Host.moment g.H.Host.left_since migrate_asked mid c.settle.new.self c.ready_settled.new.host
+    (λ left since. g.met.H.Host.only_now c.settle.new.self left since) c.ready_settled.ensures.reads.time)
+    (λ left later may. g.met.H.Host.counts_now c.ready_settled.new.host (g.H.Host.moment c.settle.new.self) left later may) ready)
+    c.ready_settled.result
+    (left_ready mid mid new c.ready_settled.result (g.H.Host.counts c.settle.new.self) (g.H.Host.counts c.ready_settled.new.host)
+    (settled_again (g.H.Host.told c.args.host.now) mid c.in-Ok.ensures.ok) c.ready_settled.ensures.reads.state
+    c.ready_settled.ensures.answer c.ready_settled.ensures.cause)
+
+pub returns-in-Ok-clause-settled : goal.returns-in-Ok-clause-settled
+returns-in-Ok-clause-settled g c =
+    of_ok c.ready_settled.result
+    (LeavesSettled g.H.Host.moment g.H.Host.left_since c.args.host.now c.ready_settled.new.host (g.H.Host.told c.args.host.now) (LeftTo migrate_asked))
+    (leaves_on g.H.Host.moment g.H.Host.left_since migrate_asked (g.H.Host.told c.args.host.now) (g.H.Host.told c.settle.new.self)
+    c.args.host.now c.settle.new.self c.ready_settled.new.host c.in-Ok.ensures.ok c.settle.ensures.time
+    (reads_on g.H.Host.moment g.H.Host.left_since migrate_asked (g.H.Host.told c.settle.new.self) c.settle.new.self c.ready_settled.new.host
+    (λ left since. g.met.H.Host.only_now c.settle.new.self left since) c.ready_settled.ensures.reads.time))
+
+pub returns-in-Err-clause-settles : goal.returns-in-Err-clause-settles
+returns-in-Err-clause-settles g c = inl (
+  unwritten_reads g.H.Host.moment g.H.Host.left_since (g.H.Host.told c.args.host.now) (g.H.Host.told c.settle.new.self)
+      c.args.host.now c.settle.new.self (inl c.in-Err.ensures.err)
+      (λ left since. g.met.H.Host.only_now c.args.host.now left since) c.settle.ensures.time,
+  c.in-Err.ensures.err,
+)

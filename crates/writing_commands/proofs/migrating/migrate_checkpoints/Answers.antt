@@ -1,5 +1,5 @@
 -- A migration that is made ready and done, or refused.
-use Rattle.std.proofs.Common.{Err}
+use Rattle.std.proofs.Common.{inr, Err}
 use Rattle.host_core.specs.Crashes.{LeavesOnly}
 use Rattle.gcu_requests.specs.Asked.{migrate_asked}
 use Rattle.command_answers.specs.Commands.{LeftUnwritten}
@@ -7,8 +7,9 @@ use Rattle.command_answers.proofs.Causes.{ended_cause}
 use Rattle.writing_commands.proofs.Changes.{cause_from}
 use Rattle.command_answers.proofs.Completing.{completes}
 use Rattle.command_answers.proofs.Elapsing.{asking_prints}
-use Rattle.writing_commands.proofs.MigrationReadiness.{early_leaves, migration_answers, migration_leaves}
+use Rattle.writing_commands.proofs.MigrationReadiness.{early_leaves, early_settles, migration_answers, migration_leaves, migration_settles}
 use Rattle.writing_commands.proofs.Readiness.{settled_now}
+use Rattle.writing_commands.proofs.SettledWrites.{told_settles}
 use Rattle.writing_commands.proofs.Unwritten.{unless_fault, unwritten_tells}
 use Rattle.writing_commands.proofs.Writing.{comes_first, outcome_cause, told_answers}
 use Rattle.writing_commands.proofs.migrating.migrate_checkpoints.Goals as goal
@@ -105,3 +106,22 @@ returns-in-Err-clause-complete g c =
     completes migrate_asked (g.H.Host.told c.args.host.now) (g.H.Host.told c.tell.new.host)
     (g.H.Host.counts c.args.host.now) (g.H.Host.counts c.tell.new.host) c.tell.result
     (returns-in-Err-clause-cause g c) (returns-in-Err-clause-answers g c)
+
+-- ---- what is pending is settled first
+
+pub returns-in-Ok-clause-settles : goal.returns-in-Ok-clause-settles
+returns-in-Ok-clause-settles g c =
+    inr (migration_settles g.H.Host.moment g.H.Host.left_since (g.H.Host.told c.args.host.now)
+    (g.H.Host.told c.make_ready.new.host) c.in-Ok.ready.migration
+    c.args.host.now c.make_ready.new.host c.do_migration.new.host c.in-Ok.ensures.ready c.in-Ok.ensures.told
+    c.in-Ok.ensures.settled c.do_migration.ensures.any_moment c.make_ready.ensures.crash.later)
+
+pub returns-in-Err-clause-settles : goal.returns-in-Err-clause-settles
+returns-in-Err-clause-settles g c =
+    early_settles g.H.Host.moment g.H.Host.left_since (g.H.Host.told c.args.host.now) c.args.host.now c.tell.new.host
+    (told_settles g.H.Host.moment g.H.Host.left_since migrate_asked (g.H.Host.told c.args.host.now)
+    (g.H.Host.told c.make_ready.new.host) c.in-Err.refusal c.args.host.now c.make_ready.new.host
+    c.tell.new.host c.make_ready.ensures.crash.later
+    (λ left since. g.met.H.Host.only_now c.make_ready.new.host left since)
+    (λ left later may. g.met.H.Host.counts_now c.make_ready.new.host (g.H.Host.moment c.make_ready.new.host) left later may)
+    c.in-Err.ensures.settles c.tell.ensures.time)

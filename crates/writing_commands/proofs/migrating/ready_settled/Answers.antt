@@ -10,7 +10,8 @@ pub returns-in_err-test_uninterrupted-clause-answer : goal.returns-in_err-test_u
 returns-in_err-test_uninterrupted-clause-answer g c =
     let p = err_from_is_err_and c.from_residual.result c.from_residual.ensures.1 in
     rw (p.1, p.2)
-    (gate_closed of_ready (g.H.Host.told c.args.host.now) uninterrupted old_asked c.in_err-test_uninterrupted.field-0.0 c.in_err-test_uninterrupted.ensures.answer)
+    (gate_closed of_ready (g.H.Host.told c.args.host.now) uninterrupted old_asked
+    c.in_err-test_uninterrupted.field-0.0 c.in_err-test_uninterrupted.ensures.answer)
 
 -- none was
 pub returns-clause-answer : goal.returns-clause-answer

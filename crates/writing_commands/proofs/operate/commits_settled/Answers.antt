@@ -16,7 +16,8 @@ pub returns-in_err-operating-clause-cause : goal.returns-in_err-operating-clause
 returns-in_err-operating-clause-cause g c =
     let p = err_from_is_err_and c.from_residual.result c.from_residual.ensures.1 in
     rw (p.1, p.2)
-    (refuses_ends (g.H.Host.counts c.args.host.now) (g.H.Host.counts c.prepare_script.new.host) c.in_err-operating.field-0.0 c.in_err-operating.ensures.cause)
+    (refuses_ends (g.H.Host.counts c.args.host.now) (g.H.Host.counts c.prepare_script.new.host)
+    c.in_err-operating.field-0.0 c.in_err-operating.ensures.cause)
 
 -- the commits are made ready
 pub returns-clause-prepared : goal.returns-clause-prepared
