@@ -3,9 +3,8 @@ ghost use Rattle.std.specs.Prelude.{◌≡◌, IfOk};
 ghost use Rattle.host_core.specs.State.{settled};
 
 use crate::calls::{has_come_out, is_call_as_said};
-use crate::crashes::{faults_behind_load, is_left_whole, is_write_as_said};
 use crate::hosts::pick_of;
-use example_rows::{Fail, faults_at, has, host_with};
+use example_rows::{Fail, faults_at, host_with};
 use host_core::MemHost;
 use serde_json::Value;
 use std::alloc::Global;
@@ -13,8 +12,7 @@ use std::alloc::Global;
 /// What a crash may be asked to leave.
 const PICKS: [&str; 4] = ["Gone", "Bytes", "Before", "After"];
 
-/// A row tells a host, what is done on it, which is one of its calls or a write of a configuration, and what a crash
-/// leaves with each pick: whether that is so.
+/// A row tells a host, what is done on it, and what a crash leaves with each pick: whether that is so.
 pub fn does_as_said(alloc: Global, row: &Value) -> Result<bool, Fail> {
     let mut as_said = does_alone(alloc, row)?;
     for pick in PICKS {
@@ -23,37 +21,17 @@ pub fn does_as_said(alloc: Global, row: &Value) -> Result<bool, Fail> {
     Ok(as_said)
 }
 
-/// Whether a row writes a configuration, and so tells which one is stored.
-fn is_write(row: &Value) -> bool {
-    has(row, "before")
-}
-
 /// The host of a row, before its call.
 fn host_before(alloc: Global, row: &Value) -> Result<MemHost, Fail>
     ensures { IfOk result (λ m. m.state.pending ≡ settled) }
 {
-    let faults = if is_write(row) {
-        faults_behind_load(alloc, row)?
-    } else {
-        faults_at(alloc, row)?
-    };
+    let faults = faults_at(alloc, row)?;
     host_with(alloc, row, faults)
-}
-
-/// Makes the call, and tells whether its answer, and what it has done, are those of the row.
-fn does(alloc: Global, row: &Value, host: &mut MemHost) -> Result<bool, Fail>
-    requires { host.old.state.pending ≡ settled }
-{
-    if is_write(row) {
-        is_write_as_said(alloc, row, host)
-    } else {
-        is_call_as_said(alloc, row, host)
-    }
 }
 
 fn does_alone(alloc: Global, row: &Value) -> Result<bool, Fail> {
     let mut host = host_before(alloc, row)?;
-    let does = does(alloc, row, &mut host);
+    let does = is_call_as_said(alloc, row, &mut host);
     drop(host);
     does
 }
@@ -61,11 +39,7 @@ fn does_alone(alloc: Global, row: &Value) -> Result<bool, Fail> {
 /// Whether a crash with that pick after the call leaves what the row says.
 fn leaves(alloc: Global, row: &Value, pick: &str) -> Result<bool, Fail> {
     let mut after = host_after(alloc, row, pick)?;
-    let left = if is_write(row) {
-        is_left_whole(alloc, row, pick, &mut after)
-    } else {
-        has_come_out(alloc, row, pick, &mut after)
-    };
+    let left = has_come_out(alloc, row, pick, &mut after);
     drop(after);
     left
 }
@@ -80,7 +54,7 @@ fn host_after(alloc: Global, row: &Value, pick: &str) -> Result<MemHost, Fail> {
 /// The host of a row after its call.
 fn host_done(alloc: Global, row: &Value) -> Result<MemHost, Fail> {
     let mut host = host_before(alloc, row)?;
-    match does(alloc, row, &mut host) {
+    match is_call_as_said(alloc, row, &mut host) {
         Ok(_) => Ok(host),
         Err(fail) => {
             drop(host);

@@ -1,23 +1,13 @@
 //! Hosts in memory as rows tell them.
-ghost use Rattle.std.specs.Prelude.{◌≡◌, ◌≤◌, length, IfOk};
-ghost use Rattle.host_core.specs.State.{settled};
+ghost use Rattle.std.specs.Prelude.{◌≤◌, length, IfOk};
 
-use conf_store::LoadError;
-use example_rows::{Fail, faults_from, host_with, text_bytes, text_or};
+use example_rows::{Fail, text_bytes, text_or};
 use host_core::{Failed, Host, HostError, MemHost, Names, Pick, Sequence};
 use serde_json::Value;
 use std::alloc::Global;
 
 /// How many bytes a name may have.
 pub const LONGEST_NAME: usize = 96;
-
-/// The host of a row, of which no call fails.
-pub fn calm_host(alloc: Global, row: &Value) -> Result<MemHost, Fail>
-    ensures { IfOk result (λ m. m.state.pending ≡ settled) }
-{
-    let faults = faults_from(alloc, None);
-    host_with(alloc, row, faults)
-}
 
 /// A pick, whose bytes are the `torn` ones of the row.
 pub fn pick_of(alloc: Global, row: &Value, name: &str) -> Result<Pick, Fail> {
@@ -57,13 +47,5 @@ pub fn files_of(alloc: Global, host: &mut MemHost) -> Result<Names, Fail> {
         Ok(names) => Ok(names),
         Err(HostError::Memory) => Err(Fail::Memory),
         Err(HostError::Failed) => Err(Fail::Row),
-    }
-}
-
-/// Why a row doesn't load where it says that it does.
-pub fn fail_of(error: LoadError) -> Fail {
-    match error {
-        LoadError::Memory => Fail::Memory,
-        LoadError::Bad(_) | LoadError::Disk => Fail::Row,
     }
 }

@@ -1,28 +1,20 @@
-//! Examples of calls, asked row by row: documents, configurations and patches, YANG texts and expressions, hosts and
-//! folders with what a crash leaves of them, and the working folder and the command line, where the system may fail.
+//! Examples of calls that no command shows, asked row by row: YANG texts and expressions, the host in memory with what a
+//! crash leaves of it, and the working folder and the command line, where the system may fail.
 #![tactic(auto)]
 
 mod acts;
 mod answers;
 mod asking;
 mod calls;
-mod crashes;
-mod documents;
 mod expressions;
 mod faults;
 mod files;
-mod folders;
 mod hosts;
 mod pairs;
-mod parts;
-mod patches;
-mod pointers;
 mod preparing;
 mod reads;
 mod real_calls;
-mod shapes;
 mod small_trees;
-mod splits;
 mod system;
 mod texts;
 mod views;
@@ -32,20 +24,12 @@ use asking::Asked;
 use example_rows::{Fail, tell_all};
 
 /// The tables, each with what its rows ask.
-const TABLES: [(&str, Asked); 16] = [
-    ("documents.json", Asked::Document),
-    ("shapes.json", Asked::Shape),
-    ("pointers.json", Asked::Pointer),
-    ("patches.json", Asked::Patch),
-    ("parts.json", Asked::Part),
-    ("splits.json", Asked::Split),
+const TABLES: [(&str, Asked); 8] = [
     ("texts.json", Asked::Text),
     ("expressions.json", Asked::Expression),
     ("truths.json", Asked::Truth),
     ("calls.json", Asked::Act),
     ("views.json", Asked::Act),
-    ("crashes.json", Asked::Act),
-    ("folders.json", Asked::Folder),
     ("reads.json", Asked::Read),
     ("words.json", Asked::Words),
     ("real_calls.json", Asked::RealCalls),

@@ -1,28 +1,22 @@
-//! Values that rows have: documents, configurations and names.
+//! Values that rows have: configurations and names.
 use crate::{Fail, is_word, text_bytes, text_of};
 use conf_doc::{Config, ReadError, ShapeError, Tree, config_of_tree, read_tree};
 use host_core::{Names, Sequence, Txt};
 use serde_json::Value;
 use std::alloc::Global;
 
-/// The tree of the JSON text under a name.
-pub fn tree_at(alloc: Global, row: &Value, name: &str) -> Result<Tree, Fail> {
+/// The configuration of the JSON text under a name.
+pub fn config_at(alloc: Global, row: &Value, name: &str) -> Result<Config, Fail> {
     let bytes = text_bytes(alloc, row, name)?;
     match read_tree(alloc, &bytes) {
-        Ok(tree) => Ok(tree),
+        Ok(tree) => config_from(alloc, tree),
         Err(ReadError::Memory) => Err(Fail::Memory),
         Err(_) => Err(Fail::Row),
     }
 }
 
-/// The configuration of the JSON text under a name.
-pub fn config_at(alloc: Global, row: &Value, name: &str) -> Result<Config, Fail> {
-    let tree = tree_at(alloc, row, name)?;
-    config_from(alloc, tree)
-}
-
 /// The configuration of a tree.
-pub fn config_from(alloc: Global, tree: Tree) -> Result<Config, Fail> {
+fn config_from(alloc: Global, tree: Tree) -> Result<Config, Fail> {
     match config_of_tree(alloc, tree) {
         Ok(config) => Ok(config),
         Err(ShapeError::Memory) => Err(Fail::Memory),

@@ -11,8 +11,13 @@ use example_rows::{Fail, tell_all};
 use stories::Stories;
 
 /// The tables. All rows have one form, so that a table more is a line more.
-const TABLES: [(&str, Stories); 27] = [
+const TABLES: [(&str, Stories); 34] = [
     ("named.json", Stories),
+    ("documents.json", Stories),
+    ("pointers.json", Stories),
+    ("patches.json", Stories),
+    ("places.json", Stories),
+    ("stored.json", Stories),
     ("plans.json", Stories),
     ("plan_checks.json", Stories),
     ("plan_texts.json", Stories),
@@ -20,6 +25,7 @@ const TABLES: [(&str, Stories); 27] = [
     ("checkpoint_texts.json", Stories),
     ("checkpoints.json", Stories),
     ("scopes.json", Stories),
+    ("splits.json", Stories),
     ("sessions.json", Stories),
     ("operators.json", Stories),
     ("validity.json", Stories),
@@ -37,6 +43,7 @@ const TABLES: [(&str, Stories); 27] = [
     ("bad_inputs.json", Stories),
     ("cuts.json", Stories),
     ("histories.json", Stories),
+    ("folds.json", Stories),
     ("sweeps.json", Stories),
     ("stops.json", Stories),
 ];

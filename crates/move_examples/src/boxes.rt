@@ -1,14 +1,14 @@
-//! What the boxes of a kit give and answer.
+//! What the boxes of a kit give and answer, and the list of moves.
 ghost use Rattle.std.specs.Prelude.{◌<◌, All, IfOk};
 ghost use Rattle.move_core.specs.Contexts.{IsResult};
 ghost use Rattle.move_core.specs.Moves.{IsDefined};
 ghost use Rattle.move_examples.specs.Situations.{IsReady};
 
-use crate::move_texts::{Lines, are_lines, move_text, place_text};
-use crate::ranks::class_name;
+use crate::move_texts::{Lines, are_lines, line_with, move_text, place_text};
+use crate::ranks::{are_listed, class_name};
 use crate::situations::Situation;
 use conf_doc::Config;
-use example_rows::{Fail, has, is_text, items_at, line_of, push_word, value_at};
+use example_rows::{Fail, items_at, push_word};
 use host_core::Memory;
 use move_core::{Boxes as KitBoxes, Generated, Kit, Move, Moves, listed_moves_are_defined, step};
 use move_lists::listed;
@@ -18,10 +18,10 @@ use std::alloc::Global;
 /// The numbers of the kinds.
 const KINDS: [&str; 5] = ["1", "2", "3", "4", "5"];
 
-/// A row has a situation and what is `generated`, each the number of a generator, the class, the place and
-/// the move. Its `moves` are those of the list. Each has the numbers of the rules that it is `refused` by,
-/// and says where its result is the `same` as before. Where it is there `extensions` has what follows it,
-/// each the number of an extender and the move.
+/// A row has a situation and the `list` there: each move has its `tier`, its number of `extensions`, its `class` and
+/// the `move`. `boxes` has in any order what is `generated`, each the number of a generator, the class, the place and
+/// the move; what each listed move is `extended` by, with the number of an extender and the move that it gives; which
+/// rules it is `refused` by, each by its number; and whether its result is the `same` as before.
 pub fn are_boxes_as_said(
     alloc: Global,
     kit: &mut Kit,
@@ -31,50 +31,33 @@ pub fn are_boxes_as_said(
     requires kinds { ⟦<Kit as KitBoxes>⟧.HasKinds kit.old }
     requires ready { IsReady situation.now }
 {
-    let said = items_at(row, "moves")?;
-    let same = are_generated(alloc, situation, kit, items_at(row, "generated")?)?;
-    let moves = listed_moves(alloc, situation, kit)?;
-    let as_said = are_moves(alloc, situation, kit, moves.items(), said);
-    drop(moves);
-    Ok(as_said? && same)
-}
-
-/// Whether the generators give what is said.
-fn are_generated(
-    alloc: Global,
-    situation: &Situation,
-    kit: &mut Kit,
-    said: &[Value],
-) -> Result<bool, Fail>
-    requires kinds { ⟦<Kit as KitBoxes>⟧.HasKinds kit.old }
-    requires ready { IsReady situation.now }
-    ensures kinds { ⟦<Kit as KitBoxes>⟧.HasKinds kit.new }
-{
+    let list = items_at(row, "list")?;
+    let said = items_at(row, "boxes")?;
     let mut lines = Vec::new(alloc);
-    match generate_all(alloc, situation, kit, &mut lines) {
-        Ok(()) => are_lines(alloc, lines, said),
-        Err(fail) => {
-            drop(lines);
-            Err(fail)
-        }
-    }
+    let told = tell_all(alloc, situation, kit, list, &mut lines);
+    let same = are_lines(alloc, &mut lines, said);
+    drop(lines);
+    Ok(told? && same?)
 }
 
-/// Whether extenders give and rules answer of each move what is said.
-fn are_moves(
+/// Adds what all boxes give and answer, and tells whether the list is what is said.
+fn tell_all(
     alloc: Global,
     situation: &Situation,
     kit: &mut Kit,
-    moves: &[Move],
-    said: &[Value],
+    list: &[Value],
+    lines: &mut Lines,
 ) -> Result<bool, Fail>
     requires kinds { ⟦<Kit as KitBoxes>⟧.HasKinds kit.old }
     requires ready { IsReady situation.now }
-    requires defined { All (IsDefined situation.now.cur) moves.now }
 {
-    let followed = are_followed(alloc, situation, kit, moves, said)?;
-    kit.begin(&situation.ctx);
-    Ok(are_judged(alloc, situation, kit, moves, said)? && followed)
+    generate_all(alloc, situation, kit, lines)?;
+    let moves = listed_moves(alloc, situation, kit)?;
+    let told = tell_moves(alloc, situation, kit, moves.items(), lines);
+    let same = are_listed(alloc, moves.items(), list);
+    drop(moves);
+    told?;
+    same
 }
 
 /// Adds the moves of all generators, a line each.
@@ -134,7 +117,7 @@ fn push_generated(
 fn generated_line(alloc: Global, kind: &str, generated: &Generated) -> Result<Vec<u8>, Fail> {
     let place = place_text(alloc, &generated.place)?;
     let class = class_name(generated.class);
-    let mut line = kind.as_bytes().to_vec(alloc)?;
+    let mut line = line_with(alloc, "generated", kind.as_bytes())?;
     push_word(&mut line, class.as_bytes())?;
     push_word(&mut line, place.as_str().as_bytes())?;
     push_word(&mut line, &move_text(alloc, &generated.mv)?)?;
@@ -159,66 +142,29 @@ fn listed_moves(alloc: Global, situation: &Situation, kit: &mut Kit) -> Result<M
     Ok(listed(alloc, ctx, kit, start, cur, goal)?)
 }
 
-/// Whether moves are those of the rows, each with its extensions where they are said.
-fn are_followed(
+/// Adds what extenders give and rules answer of each move.
+fn tell_moves(
     alloc: Global,
     situation: &Situation,
     kit: &mut Kit,
     moves: &[Move],
-    said: &[Value],
-) -> Result<bool, Fail>
+    lines: &mut Lines,
+) -> Result<(), Fail>
     requires kinds { ⟦<Kit as KitBoxes>⟧.HasKinds kit.old }
     requires ready { IsReady situation.now }
     requires defined { All (IsDefined situation.now.cur) moves.now }
-    ensures kinds { ⟦<Kit as KitBoxes>⟧.HasKinds kit.new }
 {
-    match (moves, said) {
-        ([mv, rest @ ..], [row, others @ ..]) => {
-            let followed = is_followed(alloc, situation, kit, mv, row)?;
-            Ok(are_followed(alloc, situation, kit, rest, others)? && followed)
-        }
-        _ => Ok(moves.len() == said.len()),
-    }
-}
-
-/// Whether a move is that of its row, with its extensions where they are said.
-fn is_followed(
-    alloc: Global,
-    situation: &Situation,
-    kit: &mut Kit,
-    mv: &Move,
-    row: &Value,
-) -> Result<bool, Fail>
-    requires kinds { ⟦<Kit as KitBoxes>⟧.HasKinds kit.old }
-    requires ready { IsReady situation.now }
-    requires defined { IsDefined situation.now.cur mv.now }
-    ensures kinds { ⟦<Kit as KitBoxes>⟧.HasKinds kit.new }
-{
-    if !is_move(alloc, mv, row)? {
-        return Ok(false);
-    }
-    if !has(row, "extensions") {
-        return Ok(true);
-    }
-    let said = items_at(row, "extensions")?;
-    let mut lines = Vec::new(alloc);
-    match extend_all(alloc, situation, kit, mv, &mut lines) {
-        Ok(()) => are_lines(alloc, lines, said),
-        Err(fail) => {
-            drop(lines);
-            Err(fail)
+    match moves {
+        [] => Ok(()),
+        [mv, rest @ ..] => {
+            tell_move(alloc, situation, kit, mv, lines)?;
+            tell_moves(alloc, situation, kit, rest, lines)
         }
     }
 }
 
-/// Whether a move is that of a row.
-fn is_move(alloc: Global, mv: &Move, row: &Value) -> Result<bool, Fail> {
-    let text = move_text(alloc, mv)?;
-    is_text(alloc, row, "move", &text)
-}
-
-/// Adds what all extenders give, a line each.
-fn extend_all(
+/// Adds what extenders give and rules answer of a move.
+fn tell_move(
     alloc: Global,
     situation: &Situation,
     kit: &mut Kit,
@@ -233,7 +179,12 @@ fn extend_all(
     extend(alloc, situation, kit, 0, mv, lines)?;
     extend(alloc, situation, kit, 1, mv, lines)?;
     extend(alloc, situation, kit, 2, mv, lines)?;
-    extend(alloc, situation, kit, 3, mv, lines)
+    extend(alloc, situation, kit, 3, mv, lines)?;
+    kit.begin(&situation.ctx);
+    let next = step(alloc, &situation.cur, mv)?;
+    let told = tell_next(alloc, situation, kit, &next, mv, lines);
+    drop(next);
+    told
 }
 
 /// Adds what the extender at an index gives.
@@ -254,128 +205,95 @@ fn extend(
     let Situation { ctx, cur, goal, .. } = situation;
     let mut out = Vec::new(alloc);
     let pushed = match kit.extend_at(alloc, i, ctx, cur, goal, mv, &mut out) {
-        Ok(()) => push_extensions(alloc, KINDS[i], &out, lines),
+        Ok(()) => push_extensions(alloc, KINDS[i], mv, &out, lines),
         Err(Memory) => Err(Fail::Memory),
     };
     drop(out);
     pushed
 }
 
-/// Adds a line for each of the moves of an extender.
+/// Adds a line for each of the moves that an extender gives of a move.
 fn push_extensions(
     alloc: Global,
     kind: &str,
+    mv: &Move,
     moves: &[Move],
     lines: &mut Lines,
 ) -> Result<(), Fail> {
+    let text = move_text(alloc, mv)?;
     for extension in moves {
-        lines.push(extension_line(alloc, kind, extension)?)?;
+        lines.push(extension_line(alloc, kind, &text, extension)?)?;
     }
     Ok(())
 }
 
-fn extension_line(alloc: Global, kind: &str, extension: &Move) -> Result<Vec<u8>, Fail> {
-    let mut line = kind.as_bytes().to_vec(alloc)?;
+fn extension_line(
+    alloc: Global,
+    kind: &str,
+    text: &[u8],
+    extension: &Move,
+) -> Result<Vec<u8>, Fail> {
+    let mut line = line_with(alloc, "extended", text)?;
+    push_word(&mut line, kind.as_bytes())?;
     push_word(&mut line, &move_text(alloc, extension)?)?;
     Ok(line)
 }
 
-/// Whether the rules answer of each move what its row says.
-fn are_judged(
-    alloc: Global,
-    situation: &Situation,
-    kit: &mut Kit,
-    moves: &[Move],
-    said: &[Value],
-) -> Result<bool, Fail>
-    requires kinds { ⟦<Kit as KitBoxes>⟧.HasKinds kit.old }
-    requires fits { ⟦<Kit as KitBoxes>⟧.IsFit kit.old situation.now.ctx.models }
-    requires ready { IsReady situation.now }
-    requires defined { All (IsDefined situation.now.cur) moves.now }
-{
-    match (moves, said) {
-        ([mv, rest @ ..], [row, others @ ..]) => {
-            let judged = is_judged(alloc, situation, kit, mv, row)?;
-            Ok(are_judged(alloc, situation, kit, rest, others)? && judged)
-        }
-        _ => Ok(moves.len() == said.len()),
-    }
-}
-
-/// Whether the rules answer of a move what its row says.
-fn is_judged(
-    alloc: Global,
-    situation: &Situation,
-    kit: &mut Kit,
-    mv: &Move,
-    row: &Value,
-) -> Result<bool, Fail>
-    requires kinds { ⟦<Kit as KitBoxes>⟧.HasKinds kit.old }
-    requires fits { ⟦<Kit as KitBoxes>⟧.IsFit kit.old situation.now.ctx.models }
-    requires ready { IsReady situation.now }
-    requires defined { IsDefined situation.now.cur mv.now }
-    ensures kinds { ⟦<Kit as KitBoxes>⟧.HasKinds kit.new }
-    ensures fits { ⟦<Kit as KitBoxes>⟧.IsFit kit.new situation.now.ctx.models }
-{
-    let next = step(alloc, &situation.cur, mv)?;
-    let same = next.same(&situation.cur) == has(row, "same");
-    let refused = are_refusals(alloc, situation, kit, &next, mv, row);
-    drop(next);
-    Ok(refused? && same)
-}
-
-/// Whether the rules that refuse a move with that result are those of its row.
-fn are_refusals(
+/// Adds whether a move's result is the same as before, and which rules refuse it.
+fn tell_next(
     alloc: Global,
     situation: &Situation,
     kit: &mut Kit,
     next: &Config,
     mv: &Move,
-    row: &Value,
-) -> Result<bool, Fail>
-    requires kinds { ⟦<Kit as KitBoxes>⟧.HasKinds kit.old }
-    requires fits { ⟦<Kit as KitBoxes>⟧.IsFit kit.old situation.now.ctx.models }
-    requires ready { IsReady situation.now }
-    requires next { IsResult situation.now.cur mv.now next.now }
-    ensures kinds { ⟦<Kit as KitBoxes>⟧.HasKinds kit.new }
-    ensures fits { ⟦<Kit as KitBoxes>⟧.IsFit kit.new situation.now.ctx.models }
-{
-    let mut refused = Vec::new(alloc);
-    judge_all(situation, kit, next, mv, &mut refused)?;
-    let said = line_of(alloc, value_at(row, "refused")?)?;
-    Ok(refused == said)
-}
-
-/// Adds the numbers of the rules that say no.
-fn judge_all(
-    situation: &Situation,
-    kit: &mut Kit,
-    next: &Config,
-    mv: &Move,
-    refused: &mut Vec<u8>,
+    lines: &mut Lines,
 ) -> Result<(), Fail>
     requires kinds { ⟦<Kit as KitBoxes>⟧.HasKinds kit.old }
     requires fits { ⟦<Kit as KitBoxes>⟧.IsFit kit.old situation.now.ctx.models }
     requires ready { IsReady situation.now }
     requires next { IsResult situation.now.cur mv.now next.now }
     ensures kinds { ⟦<Kit as KitBoxes>⟧.HasKinds kit.new }
-    ensures fits { ⟦<Kit as KitBoxes>⟧.IsFit kit.new situation.now.ctx.models }
 {
-    judge(situation, kit, 0, next, mv, refused)?;
-    judge(situation, kit, 1, next, mv, refused)?;
-    judge(situation, kit, 2, next, mv, refused)?;
-    judge(situation, kit, 3, next, mv, refused)?;
-    judge(situation, kit, 4, next, mv, refused)
+    let text = move_text(alloc, mv)?;
+    if next.same(&situation.cur) {
+        lines.push(line_with(alloc, "same", &text)?)?;
+    }
+    judge_all(alloc, situation, kit, next, mv, &text, lines)
+}
+
+/// Adds which rules refuse a move with that text.
+fn judge_all(
+    alloc: Global,
+    situation: &Situation,
+    kit: &mut Kit,
+    next: &Config,
+    mv: &Move,
+    text: &[u8],
+    lines: &mut Lines,
+) -> Result<(), Fail>
+    requires kinds { ⟦<Kit as KitBoxes>⟧.HasKinds kit.old }
+    requires fits { ⟦<Kit as KitBoxes>⟧.IsFit kit.old situation.now.ctx.models }
+    requires ready { IsReady situation.now }
+    requires next { IsResult situation.now.cur mv.now next.now }
+    ensures kinds { ⟦<Kit as KitBoxes>⟧.HasKinds kit.new }
+{
+    judge(alloc, situation, kit, 0, next, mv, text, lines)?;
+    judge(alloc, situation, kit, 1, next, mv, text, lines)?;
+    judge(alloc, situation, kit, 2, next, mv, text, lines)?;
+    judge(alloc, situation, kit, 3, next, mv, text, lines)?;
+    judge(alloc, situation, kit, 4, next, mv, text, lines)
 }
 
 /// Adds the number of the rule at an index, where it says no.
 fn judge(
+    alloc: Global,
     situation: &Situation,
     kit: &mut Kit,
     i: usize,
     next: &Config,
     mv: &Move,
-    refused: &mut Vec<u8>,
+    text: &[u8],
+    lines: &mut Lines,
 ) -> Result<(), Fail>
     requires kinds { ⟦<Kit as KitBoxes>⟧.HasKinds kit.old }
     requires fits { ⟦<Kit as KitBoxes>⟧.IsFit kit.old situation.now.ctx.models }
@@ -387,7 +305,15 @@ fn judge(
 {
     let Situation { ctx, cur, goal, .. } = situation;
     if !kit.allows_at(i, ctx, cur, next, goal, mv) {
-        push_word(refused, KINDS[i].as_bytes())?;
+        push_refusal(alloc, KINDS[i], text, lines)?;
     }
+    Ok(())
+}
+
+/// Adds that a rule refuses a move with that text.
+fn push_refusal(alloc: Global, kind: &str, text: &[u8], lines: &mut Lines) -> Result<(), Fail> {
+    let mut line = line_with(alloc, "refused", text)?;
+    push_word(&mut line, kind.as_bytes())?;
+    lines.push(line)?;
     Ok(())
 }

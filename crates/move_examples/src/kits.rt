@@ -7,7 +7,6 @@ use crate::asking::Asked;
 use crate::boxes::are_boxes_as_said;
 use crate::counted::{Counters, Tally, counting_box};
 use crate::counts::is_search_as_said;
-use crate::lists::is_list_as_said;
 use crate::situations::{Situation, situation_at};
 use example_rows::Fail;
 use move_core::{Boxes, Kit, MoveGen, MoveRule, kit_extenders, kit_generators, kit_rules};
@@ -144,7 +143,6 @@ fn is_said_by(
 {
     match asked {
         Asked::Boxes => are_boxes_as_said(alloc, kit, situation, row),
-        Asked::List => is_list_as_said(alloc, kit, situation, row),
         Asked::Count => is_search_as_said(alloc, kit, situation, row),
         _ => Err(Fail::Row),
     }

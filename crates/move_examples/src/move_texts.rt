@@ -1,6 +1,6 @@
 //! Moves as the texts of their operations, and lines that rows say.
 use conf_doc::{Path, pointer_of};
-use example_rows::{Fail, line_of};
+use example_rows::{Fail, line_of, push_word};
 use host_core::{Memory, Names, Txt};
 use move_core::{Move, operation_of};
 use patch_core::operation_bytes;
@@ -18,25 +18,21 @@ pub fn move_text(alloc: Global, mv: &Move) -> Result<Vec<u8>, Memory> {
     text
 }
 
-/// The compact texts of moves' operations.
-pub fn move_texts(alloc: Global, moves: &[Move]) -> Result<Lines, Memory> {
-    let mut texts = Vec::new(alloc);
-    for mv in moves {
-        texts.push(move_text(alloc, mv)?)?;
-    }
-    Ok(texts)
+/// A line of two words.
+pub fn line_with(alloc: Global, word: &str, text: &[u8]) -> Result<Vec<u8>, Fail> {
+    let mut line = word.as_bytes().to_vec(alloc)?;
+    push_word(&mut line, text)?;
+    Ok(line)
 }
 
-/// Whether the lines are those that are said, in any order.
-pub fn are_lines(alloc: Global, found: Lines, said: &[Value]) -> Result<bool, Fail> {
-    let mut found = found;
+/// Whether the lines are those that are said, in any order. They are sorted then.
+pub fn are_lines(alloc: Global, found: &mut Lines, said: &[Value]) -> Result<bool, Fail> {
     let mut lines = Vec::new(alloc);
     let same = match push_lines(alloc, said, &mut lines) {
-        Ok(()) => are_same(&mut found, &mut lines),
+        Ok(()) => are_same(found, &mut lines),
         Err(fail) => Err(fail),
     };
     drop(lines);
-    drop(found);
     same
 }
 

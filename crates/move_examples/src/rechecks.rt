@@ -1,18 +1,19 @@
 //! How many entries the first rule checks, where it looks again only at what changed.
 ghost use Rattle.move_core.specs.Contexts.{IsNamed};
 
+use crate::ranks::moves_at;
 use crate::situations::ctx_at;
-use conf_doc::{Config, Path};
-use example_rows::{Fail, config_at, has, items_at, number_at, path_at, truth_at};
-use move_core::{Ctx, Move, MoveRule};
+use conf_doc::Config;
+use example_rows::{Fail, config_at, has, items_at, number_at, truth_at};
+use move_core::{Ctx, MoveRule};
 use recheck::RecheckRule;
 use serde_json::Value;
 use std::alloc::Global;
 
 /// A row names its `models`, has its `rules` where they aren't those of the inputs, and the configurations
 /// that a rule is `asked` for, one after another. Each is the `config`, whether the rule says yes, which is
-/// `valid`, and how many entries it has `checked` until then. The move that led there is `at` a place, or where
-/// none is named at the table of ports. Where it `begins` there, the rule begins anew before.
+/// `valid`, and how many entries it has `checked` until then. The one of the `moves`, the lines of a plan, is told to
+/// have led there. Where it `begins` there, the rule begins anew before.
 pub fn is_recheck_as_said(alloc: Global, inputs: &Value, row: &Value) -> Result<bool, Fail> {
     let asked = items_at(row, "asked")?;
     let ctx = ctx_at(alloc, inputs, row)?;
@@ -54,30 +55,29 @@ fn answers(alloc: Global, ctx: &Ctx, rule: &mut RecheckRule, asked: &Value) -> R
     if has(asked, "begins") {
         rule.begin(ctx);
     }
-    let place = moved_place(alloc, asked)?;
     let config = config_at(alloc, asked, "config")?;
-    let valid = allows(alloc, ctx, rule, &config, place);
+    let valid = allows(alloc, ctx, rule, &config, asked);
     drop(config);
-    Ok(said == valid && rule.checked() == count)
+    Ok(said == valid? && rule.checked() == count)
 }
 
-/// The place of the move that led to a configuration.
-fn moved_place(alloc: Global, asked: &Value) -> Result<Path, Fail> {
-    if has(asked, "at") {
-        path_at(alloc, asked, "at")
-    } else {
-        Ok(Path::new(alloc, &["PORT"])?)
-    }
-}
-
-/// What the rule answers of a configuration, where a move at a place led to it.
-fn allows(alloc: Global, ctx: &Ctx, rule: &mut RecheckRule, config: &Config, place: Path) -> bool
+/// What the rule answers of a configuration, where the one move led to it.
+fn allows(
+    alloc: Global,
+    ctx: &Ctx,
+    rule: &mut RecheckRule,
+    config: &Config,
+    asked: &Value,
+) -> Result<bool, Fail>
     requires named { IsNamed ctx.now }
     requires fits { ⟦<RecheckRule as MoveRule>⟧.fits rule.old ctx.now.models }
     ensures fits { ⟦<RecheckRule as MoveRule>⟧.fits rule.new ctx.now.models }
 {
-    let mv = Move::Remove(place);
-    let allowed = rule.allows(ctx, config, config, config, &mv);
-    drop(mv);
+    let moves = moves_at(alloc, asked)?;
+    let allowed = match moves.items() {
+        [mv] => Ok(rule.allows(ctx, config, config, config, mv)),
+        _ => Err(Fail::Row),
+    };
+    drop(moves);
     allowed
 }
